@@ -1,0 +1,136 @@
+// Energy and price, and sharing an amount: paper 01, "Units of measure and the book" and "Sharing an amount".
+ghost use mathlib.Core.Path.{_≡_};
+ghost use mathlib.Core.List.{_++_};
+ghost use Prim.Native.Nat.{ℕ, _+_, _*_, _/_, _≤_, _<_, min};
+ghost use lib.Dec.{leb};
+ghost use lib.ListN.{length, drop};
+ghost use Rattle.measures.specs.Ranges.{mostEnergy, mostPrice};
+ghost use Rattle.measures.specs.Sharing.{total, parts as partsOf, sharing, Is, Shareable};
+
+// Energy in whole kWh.
+pub struct Energy(pub u64);
+
+// Price in thousandths of a yuan per MWh.
+pub struct Price(pub u64);
+
+impl Energy {
+    // The largest quantity, total or asset energy.
+    pub const MOST: u64 = 4_000_000_000;
+
+    // Whether this is at most Energy::MOST.
+    pub fn in_range(self) -> bool
+        ensures { λ r. ⌜ r ≡ leb (self .0) mostEnergy ⌝ }
+    {
+        self.0 <= Energy::MOST
+    }
+
+    // The number of kWh, for those who call from another language.
+    pub fn kwh(self) -> u64
+        ensures { λ r. ⌜ r ≡ self .0 ⌝ }
+    {
+        self.0
+    }
+
+    // Six fifths of this, rounded down; of anything above Energy::MOST, six fifths of Energy::MOST.
+    pub fn six_fifths(self) -> Energy
+        ensures { λ r. ⌜ r .0 ≡ min (self .0) mostEnergy * 6 / 5 ⌝ }
+    {
+        if self.0 < Energy::MOST {
+            Energy(self.0 * 6 / 5)
+        } else {
+            Energy(Energy::MOST * 6 / 5)
+        }
+    }
+
+    // The smaller of two amounts.
+    pub fn least(self, other: Energy) -> Energy
+        ensures { λ r. ⌜ r .0 ≡ min (self .0) (other .0) ⌝ }
+    {
+        if self.0 < other.0 { self } else { other }
+    }
+}
+
+impl Price {
+    // The largest ceiling of a book.
+    pub const MOST: u64 = 10_000_000;
+
+    // Whether this is at most Price::MOST.
+    pub fn in_range(self) -> bool
+        ensures { λ r. ⌜ r ≡ leb (self .0) mostPrice ⌝ }
+    {
+        self.0 <= Price::MOST
+    }
+
+    // Whether a buy at this price meets a sale at `sale`.
+    pub fn meets(self, sale: Price) -> bool
+        ensures { λ r. ⌜ r ≡ leb (sale .0) (self .0) ⌝ }
+    {
+        sale.0 <= self.0
+    }
+}
+
+// The sum of the amounts, or one more than Energy::MOST where it is more than that.
+fn capped_total(amounts: &[u64]) -> u64
+    ensures { λ r. ⌜ r ≡ min (total (now (amounts .entry))) (mostEnergy + 1) ⌝ }
+{
+    let mut sum: u64 = 0;
+    let mut i = 0;
+    while i < amounts.len() {
+        let r = amounts[i];
+        if r > Energy::MOST - sum {
+            return Energy::MOST + 1;
+        }
+        sum += r;
+        i += 1;
+    }
+    sum
+}
+
+// Writes the parts of d over the amounts, whose sum is `whole`.
+fn write_parts(d: u64, whole: u64, amounts: &[u64], parts: &mut [u64])
+    requires { ⌜ Shareable d whole (now amounts) (now parts) ⌝ }
+    ensures { λ _. ⌜ now (parts .exit) ≡ partsOf d (now (amounts .entry)) ++ drop (length (now (amounts .entry))) (now (parts .entry)) ⌝ }
+{
+    let mut sum: u64 = 0;
+    let mut given: u64 = 0;
+    let mut i = 0;
+    while i < amounts.len() {
+        sum += amounts[i];
+        let due = d * sum / whole;
+        parts[i] = due - given;
+        given = due;
+        i += 1;
+    }
+}
+
+// Shares an amount over the remaining amounts, into the first parts: 7 where fewer parts than amounts are lent, 9 where
+// the amount is 0 or above the remaining amounts' sum, or that sum above Energy::MOST, and 0 where the parts are written.
+// A refusal changes nothing.
+pub fn share(amount: Energy, amounts: &[u64], parts: &mut [u64]) -> u64
+    ensures { λ r. ⌜ Is (sharing (amount .0) (now (amounts .entry)) (now (parts .entry))) r (now (parts .exit)) ⌝ }
+{
+    let d = amount.0;
+    if parts.len() < amounts.len() {
+        return 7;
+    }
+    if d == 0 {
+        return 9;
+    }
+    let whole = capped_total(amounts);
+    if Energy::MOST < whole {
+        return 9;
+    }
+    if whole < d {
+        return 9;
+    }
+    write_parts(d, whole, amounts, parts);
+    0
+}
+
+// `share` on plain numbers, for Rust and C.
+#[no_mangle]
+pub extern "C" fn cenduxari_share(amount: u64, amounts: &[u64], parts: &mut [u64]) -> u64
+    ensures { λ r. ⌜ Is (sharing amount (now (amounts .entry)) (now (parts .entry))) r (now (parts .exit)) ⌝ }
+{
+    share(Energy(amount), amounts, parts)
+}
