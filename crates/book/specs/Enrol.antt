@@ -1,0 +1,19 @@
+-- "Enrol adds a unit."
+use Prim.Native.Nat.{ℕ}
+use mathlib.Core.List.{List, [], _∷_, _++_}
+use lib.ListN.{length}
+use Rattle.book.specs.Book.{Unit, Book, withUnits, noTrades}
+use Rattle.book.specs.Refusals.{Outcome, firstOf, decided, accepted, unsound, badKind, badSize, unitsFull}
+
+unfoldable pub enrolRefusal : Book → ℕ → ℕ → ℕ → ℕ
+enrolRefusal b kind capacity asset = firstOf (unsound b ∷ badKind kind ∷ badSize capacity asset ∷ unitsFull b ∷ [])
+
+abbrev pub enrolled : Book → ℕ → ℕ → ℕ → Book
+enrolled b kind capacity asset =
+    withUnits b (b .units ++ (record { kind = kind; capacity = capacity; asset = asset; figures = noTrades (b .days) } ∷ []))
+
+-- "An accepted enrol, offer or order returns its number"
+unfoldable pub enrolment : Book → ℕ → ℕ → ℕ → Outcome
+enrolment b kind capacity asset =
+    let after = enrolled b kind capacity asset in
+    decided (enrolRefusal b kind capacity asset) b (accepted (length (after .units)) [] after)

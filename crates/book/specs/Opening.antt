@@ -1,0 +1,26 @@
+-- Opening a book (paper 01, "Units of measure and the book").
+use Prim.Native.Nat.{ℕ, _+_, _*_}
+use mathlib.Core.Bool.{Bool, _&&_}
+use mathlib.Core.List.{List, [], _∷_}
+use lib.Dec.{ltb}
+use Rattle.limits.specs.Units.{daysIn}
+use Rattle.book.specs.Book.{Book, callPhase}
+use Rattle.book.specs.Refusals.{Check, check, firstOf, badOpening}
+
+-- "its needed length depends on the days alone, is published by the library": in words of 64 bits. Before the figures
+-- stand 8 words of the book's own, 64 units of 3, 8 offers of 5 and 256 orders of 6; each of a day's 24 periods has 64
+-- units' figures of 5 words and 8 offers' amounts.
+abbrev pub bookWords : ℕ → ℕ
+bookWords days = 1_776 + 7_872 * days
+
+-- "A fresh book has no units and no open declaration, is on its first trading day and in the call phase."
+abbrev pub fresh : ℕ → ℕ → ℕ → Book
+fresh days floor ceiling =
+    record { days = days; floor = floor; ceiling = ceiling; phase = callPhase; given = 0; units = []; offers = []; orders = [] }
+
+-- "opening: only too short for days of 1 to 31"
+abbrev pub tooShort : ℕ → ℕ → Check
+tooShort words days = check 1 (daysIn days && ltb words (bookWords days))
+
+unfoldable pub openingRefusal : ℕ → ℕ → ℕ → ℕ → ℕ
+openingRefusal words days floor ceiling = firstOf (tooShort words days ∷ badOpening days floor ceiling ∷ [])

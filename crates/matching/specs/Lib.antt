@@ -1,0 +1,4 @@
+pub mod Orders
+pub mod Rolling
+pub mod Clearing
+pub mod Figures

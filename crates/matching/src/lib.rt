@@ -1,0 +1,1 @@
+// Rolling matching and clearing of the orders of one period: paper 01, "The eight calls", Order and Clear.
