@@ -5,13 +5,13 @@ use Rattle.measures.specs.Sharing.{parts}
 use Rattle.measures.proofs.FiguresHold.{figure1-holds}
 use Rattle.limits.specs.Limits.{hourLimit, termLimit, volumeLimit}
 use Rattle.limits.proofs.FiguresHold.{figure5-holds, figure6-holds}
-use Rattle.matching.specs.Orders.{lessen, bidAhead, askAhead, insert, laid}
-use Rattle.matching.specs.Rolling.{counterparts, matches, matchRow, afterMatches, meet}
+use Rattle.matching.specs.Orders.{rising, lessen, bidAhead, askAhead, insert, laid}
+use Rattle.matching.specs.Rolling.{candidate, counterparts, matches, matchRow, afterMatches, meet}
 use Rattle.matching.specs.Clearing.{tradedAt, largest, clearedVolume, marginal, filled, fillsOf, endToEnd, rowsOfBid, overlapRows, afterFills, clearPeriod}
 use Rattle.matching.proofs.FiguresHold.{figure2-holds, figure3-holds, figure4-holds}
 use Rattle.book.specs.Trades.{traded, booked, rowsBooked}
 use Rattle.book.specs.Fit.{openOrders, openOffers, openRaising, openLowering, hourFits, hoursFit, termFits, volumeFits}
-use Rattle.book.specs.Sound.{headIn, unitIn, offerIn, orderIn, rising, numbersDiffer, eachTwo, sound}
+use Rattle.book.specs.Sound.{headIn, unitIn, offerIn, orderIn, numbersDiffer, eachTwo, sound}
 use Rattle.book.specs.Refusals.{firstOf}
 use Rattle.book.specs.Opening.{openingRefusal}
 use Rattle.book.specs.Enrol.{enrolRefusal, enrolment}
@@ -43,5 +43,5 @@ pub figures-hold : Hold figures
 figures-hold = (figure1-holds, (figure2-holds, (figure3-holds, (figure4-holds, (figure5-calls, (figure6-calls, (figure7-calls, (figure8-holds, tt))))))))
 
 pub transcript-holds : Transcript
-unfolding sum all hourLimit termLimit volumeLimit openOrders openOffers openRaising openLowering hourFits hoursFit termFits volumeFits headIn unitIn offerIn orderIn rising numbersDiffer eachTwo sound firstOf enrolRefusal enrolment orderRefusal ordering answers openingRefusal lessen bidAhead askAhead insert laid counterparts matches matchRow afterMatches meet tradedAt largest clearedVolume clearPeriod clearFrom clearRefusal clearing traded booked rowsBooked waiting closing
+unfolding sum all hourLimit termLimit volumeLimit openOrders openOffers openRaising openLowering hourFits hoursFit termFits volumeFits headIn unitIn offerIn orderIn rising numbersDiffer eachTwo sound firstOf enrolRefusal enrolment orderRefusal ordering answers openingRefusal lessen bidAhead askAhead insert laid candidate counterparts matches matchRow afterMatches meet tradedAt largest clearedVolume clearPeriod clearFrom clearRefusal clearing traded booked rowsBooked waiting closing
 transcript-holds = (refl, refl)

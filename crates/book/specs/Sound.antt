@@ -8,7 +8,7 @@ use Rattle.measures.specs.Ranges.{between, mostEnergy, mostPrice}
 use Rattle.measures.specs.Lists.{every, all}
 use Rattle.measures.specs.Sharing.{total}
 use Rattle.limits.specs.Units.{daysIn, periods, periodIn, kindIn, generator, capacityIn, assetIn}
-use Rattle.matching.specs.Orders.{Order as OpenOrder, buys, sells}
+use Rattle.matching.specs.Orders.{Order as OpenOrder, buys, sells, rising, numbers}
 use Rattle.book.specs.Book.{Figures, Unit, OpenOffer, Book, rollingPhase, mostUnits, mostOffers, mostOrders, mostNumbers, known, unitOf}
 use Rattle.book.specs.Fit.{unitFits}
 
@@ -51,14 +51,10 @@ orderIn b o =
     && periodIn (b .days) (o .period) && between (b .floor) (b .ceiling) (o .price) && energyIn (o .quantity)
 
 -- "open numbers differ": each list's rise, and no offer has an order's
-unfoldable pub rising : List ℕ → Bool
-rising [] = true
-rising (n ∷ ns) = every (ltb n) ns && rising ns
-
 unfoldable pub numbersDiffer : Book → Bool
 numbersDiffer b =
     rising (map (λ (o : OpenOffer). o .number) (b .offers))
-    && rising (map (λ (o : OpenOrder). o .number) (b .orders))
+    && rising (numbers (b .orders))
     && every (λ (f : OpenOffer). every (λ (o : OpenOrder). not (eqb (f .number) (o .number))) (b .orders)) (b .offers)
 
 -- "no unit has open orders both ways in a period"

@@ -2,7 +2,7 @@
 use mathlib.Core.Path.{refl}
 use Rattle.measures.specs.Sharing.{parts}
 use Rattle.matching.specs.Orders.{lessen, bidAhead, askAhead, insert, laid}
-use Rattle.matching.specs.Rolling.{counterparts, matches, matchRow, afterMatches, meet}
+use Rattle.matching.specs.Rolling.{candidate, counterparts, matches, matchRow, afterMatches, meet}
 use Rattle.matching.specs.Clearing.{tradedAt, largest, clearedVolume, marginal, filled, fillsOf, endToEnd, rowsOfBid, overlapRows, afterFills, clearPeriod}
 use Rattle.matching.specs.Figures.{Figure2, Figure3, Figure4}
 
@@ -14,5 +14,5 @@ pub figure3-holds : Figure3
 figure3-holds = refl
 
 pub figure4-holds : Figure4
-unfolding lessen bidAhead askAhead insert laid counterparts matches matchRow afterMatches meet
+unfolding lessen bidAhead askAhead insert laid candidate counterparts matches matchRow afterMatches meet
 figure4-holds = refl

@@ -1,1 +1,3 @@
+pub mod OrderLaws
+pub mod RowLaws
 pub mod FiguresHold

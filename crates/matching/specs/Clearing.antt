@@ -3,12 +3,9 @@ use Prim.Native.Nat.{ℕ, _+_, _-_, _/_, min, max}
 use mathlib.Core.Bool.{Bool, cond}
 use mathlib.Core.List.{List, [], _∷_, _++_, map}
 use lib.Dec.{eqb, leb, ltb}
-use Rattle.measures.specs.Lists.{keep, sumOf}
+use Rattle.measures.specs.Lists.{keep}
 use Rattle.measures.specs.Sharing.{parts}
-use Rattle.matching.specs.Orders.{Order, Row, lessen, bids, asks}
-
-abbrev pub quantities : List Order → ℕ
-quantities os = sumOf (λ o. o .quantity) os
+use Rattle.matching.specs.Orders.{Order, Row, quantities, lessen, bids, asks}
 
 -- "the smaller of bids at p or above and asks at p or below"
 unfoldable pub tradedAt : List Order → List Order → ℕ → ℕ

@@ -1,9 +1,9 @@
 -- Orders and rows, and how orders are laid by price and number (paper 01, "The eight calls").
 use Prim.Native.Nat.{ℕ, _-_}
-use mathlib.Core.Bool.{Bool, cond, _&&_, _||_}
-use mathlib.Core.List.{List, [], _∷_}
+use mathlib.Core.Bool.{Bool, true, cond, _&&_, _||_}
+use mathlib.Core.List.{List, [], _∷_, map}
 use lib.Dec.{eqb, leb, ltb}
-use Rattle.measures.specs.Lists.{keep}
+use Rattle.measures.specs.Lists.{every, keep, sumOf}
 
 -- "Order (001 8.4): a unit, a direction (0 sell, 1 buy), a period, a price, a quantity", under its number; the quantity
 -- is what is still open
@@ -46,9 +46,17 @@ lessen n x (o ∷ os) =
     (cond (leb (o .quantity) x) os (less o x ∷ os))
     (o ∷ lessen n x os)
 
--- the orders without that of the number n
-unfoldable pub without : ℕ → List Order → List Order
-without n os = keep (λ o. ltb (o .number) n || ltb n (o .number)) os
+-- numbers that rise, so that no two are the same
+unfoldable pub rising : List ℕ → Bool
+rising [] = true
+rising (n ∷ ns) = every (ltb n) ns && rising ns
+
+abbrev pub numbers : List Order → List ℕ
+numbers os = map (λ o. o .number) os
+
+-- what orders have open together
+abbrev pub quantities : List Order → ℕ
+quantities os = sumOf (λ o. o .quantity) os
 
 -- "Lay bids high to low and asks low to high, equal prices by number."
 unfoldable pub bidAhead : Order → Order → Bool

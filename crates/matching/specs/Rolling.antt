@@ -4,13 +4,22 @@ use mathlib.Core.Bool.{Bool, cond, _&&_}
 use mathlib.Core.List.{List, [], _∷_, map}
 use lib.Dec.{eqb, leb}
 use Rattle.measures.specs.Lists.{keep, sumOf}
-use Rattle.matching.specs.Orders.{Order, Row, buys, sells, less, lessen, bids, asks}
+use Rattle.matching.specs.Orders.{Order, Row, buys, sells, lessen, bidAhead, askAhead, laid}
 
--- "it meets opposite orders of its period, best price first, then lowest number, as long as buy price ≥ sell price"
+-- "it meets opposite orders of its period", "as long as buy price ≥ sell price"
+unfoldable pub candidate : Order → Order → Bool
+candidate i o =
+    eqb (o .period) (i .period)
+    && cond (buys (i .direction))
+    (sells (o .direction) && leb (o .price) (i .price))
+    (sells (i .direction) && (buys (o .direction) && leb (i .price) (o .price)))
+
+-- "best price first, then lowest number"
+abbrev pub aheadFor : Order → Order → Order → Bool
+aheadFor i = cond (buys (i .direction)) askAhead bidAhead
+
 unfoldable pub counterparts : Order → List Order → List Order
-counterparts i os =
-    cond (buys (i .direction)) (keep (λ o. leb (o .price) (i .price)) (asks (i .period) os))
-    (cond (sells (i .direction)) (keep (λ o. leb (i .price) (o .price)) (bids (i .period) os)) [])
+counterparts i os = laid (aheadFor i) (keep (candidate i) os)
 
 -- a waiting order, and what of it an incoming order takes
 pub record Match : Type 0 where

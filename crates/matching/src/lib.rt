@@ -1,1 +1,2 @@
 // Rolling matching and clearing of the orders of one period: paper 01, "The eight calls", Order and Clear.
+pub mod orders;

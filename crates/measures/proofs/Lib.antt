@@ -1,3 +1,4 @@
 pub mod RangeLaws
+pub mod ListLaws
 pub mod SharingLaws
 pub mod FiguresHold

@@ -1,0 +1,95 @@
+// Orders and rows in lent memory: six numbers each, one behind the other.
+use measures::Energy;
+use measures::Price;
+ghost use mathlib.Core.Path.{_≡_};
+ghost use mathlib.Core.List.{List, [], _∷_, _++_};
+ghost use Prim.Native.Nat.{ℕ, _+_, _*_, _-_, _<_, _≤_};
+ghost use lib.ListN.{length, getD, set, drop, take};
+ghost use Rattle.matching.specs.Orders.{Row as RowRecord, leaving};
+ghost use Rattle.matching.specs.Memory.{orderOf, rowOf, orderAt, ordersIn, noOrder, written};
+
+// An open order.
+pub struct Order {
+    pub number: u64,
+    pub unit: u64,
+    pub direction: u64,
+    pub period: u64,
+    pub price: Price,
+    pub quantity: Energy,
+}
+
+impl Order {
+    // How many stand open at most.
+    pub const MOST: usize = 256;
+
+    // How many numbers hold an order.
+    pub const WORDS: usize = 6;
+}
+
+// A trade: way, period, seller, buyer, quantity, price.
+pub struct Row {
+    pub way: u64,
+    pub period: u64,
+    pub seller: u64,
+    pub buyer: u64,
+    pub quantity: Energy,
+    pub price: Price,
+}
+
+// What matching or clearing came to: orders that are not fit for it, or what is left of an incoming order, the count of
+// rows, and how many orders stand.
+pub enum Matched {
+    Unfit,
+    Done(Energy, usize, usize),
+}
+
+// The order at place k.
+pub fn read(orders: &[u64], k: usize) -> Order
+    requires { ⌜ (6 * k + 6 ≤ length (now orders)) × (k < 256) ⌝ }
+    ensures { λ r. ⌜ orderOf r ≡ orderAt (now (orders .entry)) k ⌝ }
+{
+    let at = 6 * k;
+    Order {
+        number: orders[at],
+        unit: orders[at + 1],
+        direction: orders[at + 2],
+        period: orders[at + 3],
+        price: Price(orders[at + 4]),
+        quantity: Energy(orders[at + 5]),
+    }
+}
+
+// The order at place k keeps q open.
+pub fn leave(orders: &mut [u64], n: usize, k: usize, q: Energy)
+    requires { ⌜ (6 * n ≤ length (now orders)) × (k < n) × (n ≤ 256) ⌝ }
+    ensures { λ _. ⌜ (ordersIn (now (orders .exit)) n ≡ set (ordersIn (now (orders .entry)) n) k (leaving (orderAt (now (orders .entry)) k) (q .0))) × (drop (6 * n) (now (orders .exit)) ≡ drop (6 * n) (now (orders .entry))) ⌝ }
+{
+    orders[6 * k + 5] = q.0;
+}
+
+// The order at place k goes, and those behind it move up by one place.
+pub fn remove(orders: &mut [u64], n: usize, k: usize)
+    requires { ⌜ (6 * n ≤ length (now orders)) × (k < n) × (n ≤ 256) ⌝ }
+    ensures { λ _. ⌜ (ordersIn (now (orders .exit)) (n - 1) ≡ take k (ordersIn (now (orders .entry)) n) ++ drop (k + 1) (ordersIn (now (orders .entry)) n)) × (drop (6 * n) (now (orders .exit)) ≡ drop (6 * n) (now (orders .entry))) ⌝ }
+{
+    let end = 6 * n - 6;
+    let mut j = 6 * k;
+    while j < end {
+        orders[j] = orders[j + 6];
+        j += 1;
+    }
+}
+
+// Row number n, behind the n rows that stand there.
+pub fn put_row(rows: &mut [u64], n: usize, r: Row)
+    requires { ⌜ (6 * n + 6 ≤ length (now rows)) × (n < 1000000) ⌝ }
+    ensures { λ _. ⌜ ((m : List ℕ) (rs : List RowRecord) → length rs ≡ n → now (rows .entry) ≡ written m rs → now (rows .exit) ≡ written m (rs ++ (rowOf r ∷ []))) ⌝ }
+{
+    let at = 6 * n;
+    rows[at] = r.way;
+    rows[at + 1] = r.period;
+    rows[at + 2] = r.seller;
+    rows[at + 3] = r.buyer;
+    rows[at + 4] = r.quantity.0;
+    rows[at + 5] = r.price.0;
+}
