@@ -94,6 +94,7 @@ impl Refusal {
     }
 
     /// The refusal of this number, if the paper has one.
+    #[inline]
     pub fn from_number(number: u64) -> Option<Refusal> {
         ALL.into_iter().find(|refusal| refusal.number() == number)
     }

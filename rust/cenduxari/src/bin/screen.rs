@@ -5,12 +5,16 @@ use cenduxari::{limits, share, Limits, Refusal};
 use std::env;
 use std::process::ExitCode;
 
-const WORDS: &str = "words: share AMOUNT REMAINING.. | limits DAYS KIND CAPACITY ASSET PERIOD";
+const WORDS: &str = "Ask by: share AMOUNT REMAINING.. or: limits DAYS KIND CAPACITY ASSET PERIOD";
 
+/// The paper's figures that these calls show.
 const FIGURES: [(&str, &[&str]); 3] = [
-    ("1", &["share 4 3 3 3", "share 2 2 2 1"]),
-    ("5", &["limits 1 2 100 0 0"]),
-    ("6", &["limits 1 1 100 0 5", "limits 1 1 100 0 6", "limits 1 1 100 0 19", "limits 1 1 100 0 20"]),
+    ("Figure 1: sharing 4 over 3, 3, 3, then 2 over 2, 2, 1", &["share 4 3 3 3", "share 2 2 2 1"]),
+    ("Figure 5: a generator, kind 2, of 100 kW, one day", &["limits 1 2 100 0 0"]),
+    (
+        "Figure 6: a solar generator, kind 1, of 100 kW, hours 5, 6, 19 and 20",
+        &["limits 1 1 100 0 5", "limits 1 1 100 0 6", "limits 1 1 100 0 19", "limits 1 1 100 0 20"],
+    ),
 ];
 
 enum Failure {
@@ -60,7 +64,7 @@ fn answer(words: &[&str]) -> Result<String, Failure> {
 fn figures() -> Result<String, Failure> {
     let mut text = String::new();
     for (figure, calls) in FIGURES {
-        text += &format!("Figure {figure}\n");
+        text += &format!("{figure}\n");
         for call in calls {
             let words: Vec<&str> = call.split(' ').collect();
             text += &format!("  {call}: {}\n", answer(&words)?);
