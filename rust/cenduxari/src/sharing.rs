@@ -33,6 +33,12 @@ pub fn share(amount: u64, amounts: &[u64], parts: &mut [u64]) -> Result<(), Refu
     // SAFETY: both are slices that Rust lends, so each pointer is aligned and not null, of an empty slice too, and
     // `parts` overlaps nothing. The function has no `requires`, reads `amounts` alone and writes `parts` alone.
     outcome(unsafe {
-        sys::cenduxari_share(amount, amounts.as_ptr(), amounts.len(), parts.as_mut_ptr(), parts.len())
+        sys::cenduxari_share(
+            amount,
+            amounts.as_ptr(),
+            amounts.len(),
+            parts.as_mut_ptr(),
+            parts.len(),
+        )
     })
 }

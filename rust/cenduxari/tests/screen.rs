@@ -4,7 +4,8 @@ use std::process::Command;
 
 /// What the program prints, and its exit status.
 fn screen(words: &str) -> (String, Option<i32>) {
-    let output = Command::new(env!("CARGO_BIN_EXE_screen")).args(words.split_whitespace()).output().unwrap();
+    let output =
+        Command::new(env!("CARGO_BIN_EXE_screen")).args(words.split_whitespace()).output().unwrap();
     (String::from_utf8(output.stdout).unwrap(), output.status.code())
 }
 
@@ -21,7 +22,11 @@ fn shares() {
 #[test]
 fn gives_the_limits() {
     says("limits 1 2 100 0 0", "hour limit 100, term limit 2400, volume limit 2880\n", 0);
-    says("limits 31 2 5000000 0 0", "hour limit 5000000, term limit 3720000000, volume limit 4464000000\n", 0);
+    says(
+        "limits 31 2 5000000 0 0",
+        "hour limit 5000000, term limit 3720000000, volume limit 4464000000\n",
+        0,
+    );
 }
 
 #[test]
@@ -44,7 +49,15 @@ fn a_refusal_has_its_number() {
 
 #[test]
 fn other_words_are_not_understood() {
-    for words in ["share", "share x", "share -1 3", "limits", "limits 1 2 100 0", "limits 1 2 100 0 0 0", "clear"] {
+    for words in [
+        "share",
+        "share x",
+        "share -1 3",
+        "limits",
+        "limits 1 2 100 0",
+        "limits 1 2 100 0 0 0",
+        "clear",
+    ] {
         says(words, "", 2);
     }
 }

@@ -148,7 +148,10 @@ pub fn list(kind: List, count: usize, random: &mut Random) -> Vec<u64> {
         return amounts;
     }
     let at = random.to(count as u64 - 1) as usize;
-    let others = amounts.iter().fold(0, |sum: u64, &amount| sum.wrapping_add(amount)).wrapping_sub(amounts[at]);
+    let others = amounts
+        .iter()
+        .fold(0, |sum: u64, &amount| sum.wrapping_add(amount))
+        .wrapping_sub(amounts[at]);
     match kind {
         List::OneHasAll => amounts[at] = random.of(&[1, 2, MOST, MOST + 1, u64::MAX]),
         List::Most => amounts[at] = MOST - others,
@@ -166,7 +169,12 @@ pub fn amounts_to_share(amounts: &[u64], random: &mut Random) -> Vec<u64> {
     let wrapped = total as u64;
     let capped = total.min(u64::MAX as u128) as u64;
     let mut all = vec![0, 1, 2, MOST, MOST + 1, u64::MAX, wrapped, wrapped & 0xffff_ffff];
-    all.extend([capped / 2, capped.saturating_sub(1), capped.saturating_add(1), capped.saturating_mul(2)]);
+    all.extend([
+        capped / 2,
+        capped.saturating_sub(1),
+        capped.saturating_add(1),
+        capped.saturating_mul(2),
+    ]);
     all.extend([random.to(capped), random.to(capped), random.to(MOST), random.word()]);
     all.sort_unstable();
     all.dedup();

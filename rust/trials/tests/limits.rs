@@ -2,7 +2,10 @@
 
 use std::collections::BTreeMap;
 use trials::exported;
-use trials::limits::{odd_question, plain, question, safe, trial, Asked, Limits, ASSETS, CAPACITIES, DAYS, KINDS, PERIODS};
+use trials::limits::{
+    odd_question, plain, question, safe, trial, Asked, Limits, ASSETS, CAPACITIES, DAYS, KINDS,
+    PERIODS,
+};
 use trials::random::Random;
 
 /// How often each number was given.
@@ -10,7 +13,9 @@ type Tally = BTreeMap<u64, u64>;
 
 /// Tries each version on the input; all must pass.
 fn pass(asked: Asked, random: &mut Random, tally: &mut Tally) {
-    for (name, limits) in [("exported", exported::limits as Limits), ("safe", safe), ("plain", plain)] {
+    for (name, limits) in
+        [("exported", exported::limits as Limits), ("safe", safe), ("plain", plain)]
+    {
         match trial(limits, asked, random) {
             Ok(number) if name == "exported" => *tally.entry(number).or_default() += 1,
             Ok(_) => {}
@@ -96,54 +101,59 @@ fn random_words() {
 fn figures_5_and_6() {
     for limits in [exported::limits as Limits, safe, plain] {
         let mut out = [7; 3];
-        assert_eq!((limits(1, 2, 100, 0, 0, &mut out), out), (0, [100, 2_400, 2_880]));
+        assert_eq!((limits([1, 2, 100, 0, 0], &mut out), out), (0, [100, 2_400, 2_880]));
         for (period, hour) in [(5, 0), (6, 100), (19, 100), (20, 0)] {
-            assert_eq!((limits(1, 1, 100, 0, period, &mut out), out), (0, [hour, 1_000, 1_200]));
+            assert_eq!((limits([1, 1, 100, 0, period], &mut out), out), (0, [hour, 1_000, 1_200]));
         }
         let most = [5_000_000, 3_720_000_000, 4_464_000_000];
-        assert_eq!((limits(31, 2, 5_000_000, 0, 743, &mut out), out), (0, most));
-        assert_eq!((limits(0, 0, 0, 0, 99, &mut out), out), (2, [0; 3]));
+        assert_eq!((limits([31, 2, 5_000_000, 0, 743], &mut out), out), (0, most));
+        assert_eq!((limits([0, 0, 0, 0, 99], &mut out), out), (2, [0; 3]));
     }
 }
 
 /// Versions with one fault each: the boundaries must find it.
 const WRONG: [(&str, Limits); 10] = [
-    ("32 days", |days, kind, capacity, asset, period, out| {
-        plain(if days == 32 { 31 } else { days }, kind, capacity, asset, period, out)
+    ("32 days", |[days, kind, capacity, asset, period], out| {
+        let days = if days == 32 { 31 } else { days };
+        plain([days, kind, capacity, asset, period], out)
     }),
-    ("kind 5 is known", |days, kind, capacity, asset, period, out| {
-        plain(days, if kind == 5 { 4 } else { kind }, capacity, asset, period, out)
+    ("kind 5 is known", |[days, kind, capacity, asset, period], out| {
+        let kind = if kind == 5 { 4 } else { kind };
+        plain([days, kind, capacity, asset, period], out)
     }),
-    ("capacity in 32 bits", |days, kind, capacity, asset, period, out| {
-        plain(days, kind, capacity & 0xffff_ffff, asset, period, out)
+    ("capacity in 32 bits", |[days, kind, capacity, asset, period], out| {
+        plain([days, kind, capacity & 0xffff_ffff, asset, period], out)
     }),
-    ("asset judged for retailers alone", |days, kind, capacity, asset, period, out| {
-        plain(days, kind, capacity, if kind == 4 { asset } else { 0 }, period, out)
+    ("asset judged for retailers alone", |[days, kind, capacity, asset, period], out| {
+        let asset = if kind == 4 { asset } else { 0 };
+        plain([days, kind, capacity, asset, period], out)
     }),
-    ("a period too many", |days, kind, capacity, asset, period, out| {
-        plain(days, kind, capacity, asset, if period == days.wrapping_mul(24) { 0 } else { period }, out)
+    ("asset of 0 is no limit", |[days, kind, capacity, asset, period], out| {
+        let kind = if kind == 4 && asset == 0 { 3 } else { kind };
+        plain([days, kind, capacity, asset, period], out)
     }),
-    ("period before capacity", |days, kind, capacity, asset, period, out| {
-        let number = plain(days, kind, capacity, asset, period, out);
-        if number == 4 && period >= 24 * days { 10 } else { number }
+    ("a period too many", |[days, kind, capacity, asset, period], out| {
+        let period = if period == days.wrapping_mul(24) { 0 } else { period };
+        plain([days, kind, capacity, asset, period], out)
     }),
-    ("a solar generator in hour 20", |days, kind, capacity, asset, period, out| {
-        plain(days, kind, capacity, asset, if period % 24 == 20 { period - 1 } else { period }, out)
+    ("a solar generator in hour 20", |[days, kind, capacity, asset, period], out| {
+        let period = if period % 24 == 20 { period - 1 } else { period };
+        plain([days, kind, capacity, asset, period], out)
     }),
-    ("asset of 0 is no limit", |days, kind, capacity, asset, period, out| {
-        let kind_asked = if kind == 4 && asset == 0 { 3 } else { kind };
-        plain(days, kind_asked, capacity, asset, period, out)
+    ("period before capacity", |asked, out| match plain(asked, out) {
+        4 if asked[4] >= 24 * asked[0] => 10,
+        number => number,
     }),
-    ("a fifth rounded first", |days, kind, capacity, asset, period, out| {
-        let number = plain(days, kind, capacity, asset, period, out);
-        if number == 0 && kind <= 2 {
+    ("a fifth rounded first", |asked, out| {
+        let number = plain(asked, out);
+        if number == 0 && asked[1] <= 2 {
             out[2] = out[1] / 5 * 6;
         }
         number
     }),
-    ("a refusal that writes no zeros", |days, kind, capacity, asset, period, out| {
+    ("a refusal that writes no zeros", |asked, out| {
         let kept = *out;
-        let number = plain(days, kind, capacity, asset, period, out);
+        let number = plain(asked, out);
         if number != 0 {
             *out = kept;
         }

@@ -29,11 +29,14 @@ impl Tally {
 
 /// Tries each version on the input; all must pass.
 fn pass(amount: u64, amounts: &[u64], lent: usize, random: &mut Random, tally: &mut Tally) {
-    for (name, share) in [("exported", exported::share as Share), ("safe", safe), ("plain", plain)] {
+    for (name, share) in [("exported", exported::share as Share), ("safe", safe), ("plain", plain)]
+    {
         match trial(share, amount, amounts, lent, random) {
             Ok(number) if name == "exported" => tally.count(number),
             Ok(_) => {}
-            Err(fault) => panic!("{name}: {fault}: share {amount} over {amounts:?}, {lent} parts lent"),
+            Err(fault) => {
+                panic!("{name}: {fault}: share {amount} over {amounts:?}, {lent} parts lent")
+            }
         }
     }
 }
@@ -70,7 +73,9 @@ fn short_lists() {
             let count = random.to(12) as usize;
             let amounts = list(kind, count, &mut random);
             for amount in amounts_to_share(&amounts, &mut random) {
-                for lent in [count, count + 1 + random.to(4) as usize, random.to(count as u64) as usize] {
+                for lent in
+                    [count, count + 1 + random.to(4) as usize, random.to(count as u64) as usize]
+                {
                     pass(amount, &amounts, lent, &mut random, &mut tally);
                 }
             }
@@ -129,35 +134,39 @@ fn figure_1() {
     }
 }
 
-/// The plain version, then a fault put in.
-fn with_fault(amount: u64, amounts: &[u64], parts: &mut [u64], fault: fn(&mut [u64])) -> u64 {
-    let number = plain(amount, amounts, parts);
-    if number == 0 {
-        fault(parts);
-    }
-    number
+/// The total, or the largest word where it doesn't fit one.
+fn total(amounts: &[u64]) -> u64 {
+    amounts.iter().fold(0, |sum: u64, &remaining| sum.saturating_add(remaining))
+}
+
+/// The total as it wraps in a word.
+fn wrapped_total(amounts: &[u64]) -> u64 {
+    amounts.iter().fold(0, |sum: u64, &remaining| sum.wrapping_add(remaining))
 }
 
 /// Versions with one fault each: the same inputs must find it.
 const WRONG: [(&str, Share); 10] = [
-    ("energy before parts", |amount, amounts, parts| {
-        if amount == 0 { 9 } else { plain(amount, amounts, parts) }
+    ("energy before parts", |amount, amounts, parts| match plain(amount, amounts, parts) {
+        7 if amount == 0 => 9,
+        number => number,
     }),
-    ("as many parts as amounts are too few", |amount, amounts, parts| {
-        if parts.len() <= amounts.len() { 7 } else { plain(amount, amounts, parts) }
+    ("all of it refused", |amount, amounts, parts| match plain(amount, amounts, parts) {
+        0 if amount == total(amounts) => 9,
+        number => number,
     }),
-    ("all of it refused", |amount, amounts, parts| {
-        let total = amounts.iter().fold(0, |sum: u64, &remaining| sum.saturating_add(remaining));
-        if parts.len() >= amounts.len() && amount == total { 9 } else { plain(amount, amounts, parts) }
+    ("the largest total refused", |amount, amounts, parts| match plain(amount, amounts, parts) {
+        0 if total(amounts) == MOST => 9,
+        number => number,
     }),
-    ("the largest total refused", |amount, amounts, parts| {
-        let total = amounts.iter().fold(0, |sum: u64, &remaining| sum.saturating_add(remaining));
-        if parts.len() >= amounts.len() && total == MOST { 9 } else { plain(amount, amounts, parts) }
+    ("one more than the largest total", |amount, amounts, parts| {
+        match plain(amount, amounts, parts) {
+            9 if 0 < amount && amount <= MOST + 1 && total(amounts) == MOST + 1 => 0,
+            number => number,
+        }
     }),
-    ("a total that wraps", |amount, amounts, parts| {
-        let total = amounts.iter().fold(0, |sum: u64, &remaining| sum.wrapping_add(remaining));
-        let number = plain(amount, amounts, parts);
-        if number == 9 && 0 < amount && amount <= total && total <= MOST { 0 } else { number }
+    ("a total that wraps", |amount, amounts, parts| match plain(amount, amounts, parts) {
+        9 if 0 < amount && (amount..=MOST).contains(&wrapped_total(amounts)) => 0,
+        number => number,
     }),
     ("a refusal that writes", |amount, amounts, parts| {
         let number = plain(amount, amounts, parts);
@@ -184,19 +193,19 @@ const WRONG: [(&str, Share); 10] = [
         }
         number
     }),
-    ("the next to last part goes to the last", |amount, amounts, parts| {
-        with_fault(amount, amounts, parts, |parts| {
-            if let [.., from, to] = parts {
-                *to = to.wrapping_add(*from);
-                *from = 0;
-            }
-        })
-    }),
-    ("an accepted call that writes nothing", |amount, amounts, parts| {
-        let kept = parts.to_vec();
+    ("two parts swapped", |amount, amounts, parts| {
         let number = plain(amount, amounts, parts);
-        parts.copy_from_slice(&kept);
+        if number == 0 && amounts.len() > 1 {
+            parts.swap(0, 1);
+        }
         number
+    }),
+    ("as many parts as amounts are too few", |amount, amounts, parts| {
+        if parts.len() > amounts.len() {
+            plain(amount, amounts, parts)
+        } else {
+            7
+        }
     }),
 ];
 
@@ -211,7 +220,8 @@ fn wrong_versions_are_found() {
                 let amounts = list(kind, count, &mut random);
                 for amount in amounts_to_share(&amounts, &mut random) {
                     for lent in [count, count + 1, random.to(count as u64) as usize] {
-                        found += u64::from(trial(share, amount, &amounts, lent, &mut random).is_err());
+                        found +=
+                            u64::from(trial(share, amount, &amounts, lent, &mut random).is_err());
                     }
                 }
             }
@@ -230,5 +240,8 @@ fn a_word_past_the_parts_is_found() {
         unsafe { *parts.as_mut_ptr().add(parts.len()) = 0 };
         number
     };
-    assert_eq!(trial(past, 4, &[3, 3, 3], 3, &mut Random(4)), Err("memory outside the parts changed"));
+    assert_eq!(
+        trial(past, 4, &[3, 3, 3], 3, &mut Random(4)),
+        Err("memory outside the parts changed")
+    );
 }

@@ -29,8 +29,11 @@ fn main() {
         ("limits, unit by unit", units_of_a_term(&mut random)),
         ("limits, random units", random_units),
     ] {
-        let times =
-            medians(asked.len(), || limited(&asked, cenduxari::limits), || limited(&asked, plain::limits));
+        let times = medians(
+            asked.len(),
+            || limited(&asked, cenduxari::limits),
+            || limited(&asked, plain::limits),
+        );
         report(name, times);
     }
 }
