@@ -1,7 +1,7 @@
 //! A seeded generator of calls that drives a book into deep states, in several manners.
 //! It serves the tests of "Refusals by place of check" and "The tally" of the paper.
 
-use crate::book::{total, Book, Unit, BUY, MOST_PRICE, ROLLING, SELL};
+use crate::book::{total, Book, Order, Unit, BUY, MOST_PRICE, ROLLING, SELL};
 use crate::calls::{Call, POINTS_LENT, ROWS_LENT};
 use crate::fits::Open;
 use crate::limits::{hour_limit, is_generator, term_limit, volume_limit};
@@ -169,22 +169,32 @@ impl Generator {
             0 => room.max(1),
             1 if self.random.once_in(2) => room.saturating_add(1),
             2 => 1 + self.random.below(room / 2 + 1),
-            _ => 1 + self.random.below(self.manner.quantity),
+            3 => 1 + self.random.below(self.manner.quantity),
+            _ => 1 + self.random.below(self.manner.quantity.min(room).max(1)),
         }
     }
 
     fn order(&mut self, book: &Book) -> Call {
-        let unit = self.unit(book);
-        let period = self.period(book);
-        let mut direction = self.random.below(2);
-        let mut room = 0;
-        if book.names(unit) && period < book.periods() {
-            if !self.random.once_in(24) {
-                direction = self.direction(book, unit, period);
+        let meets = !self.manner.apart || self.random.once_in(8);
+        let waiting = book.orders.len() as u64;
+        let meant = if meets && waiting > 0 && self.random.once_in(2) {
+            Some(book.orders[self.random.below(waiting) as usize])
+        } else {
+            None
+        };
+        // Draw until something fits, for a few times.
+        let mut drawn = self.draw(book, meant);
+        for _ in 0..4 {
+            if drawn.3 > 0 {
+                break;
             }
-            room = room_of(book, unit, direction, period);
+            drawn = self.draw(book, meant);
         }
-        let price = self.price(book, direction);
+        let (unit, direction, period, room) = drawn;
+        let price = match meant {
+            Some(waiting) if !self.random.once_in(4) => self.spoil(waiting.price),
+            _ => self.price(book, direction),
+        };
         let quantity = self.quantity(room);
         Call::Order {
             unit: self.spoil(unit),
@@ -194,6 +204,29 @@ impl Generator {
             quantity: self.spoil(quantity),
             lent: self.lent(ROWS_LENT),
         }
+    }
+
+    /// Draws an order's unit, direction and period, with the room that they leave. If it is meant
+    /// for a waiting order, it goes against it in its period.
+    fn draw(&mut self, book: &Book, meant: Option<Order>) -> (u64, u64, u64, u64) {
+        let unit = self.unit(book);
+        let mut period = self.period(book);
+        let mut direction = self.random.below(2);
+        if let Some(waiting) = meant {
+            period = waiting.period;
+            direction = 1 - waiting.direction;
+        }
+        if !book.names(unit) || period >= book.periods() {
+            return (unit, direction, period, 0);
+        }
+        if !self.random.once_in(24) {
+            let own = self.direction(book, unit, period);
+            if meant.is_some() && own != direction {
+                return (unit, direction, period, 0);
+            }
+            direction = own;
+        }
+        (unit, direction, period, room_of(book, unit, direction, period))
     }
 
     /// The way the unit goes already in the period; else raising, or lowering of what is held.

@@ -144,7 +144,7 @@ fn units(book: &Book) -> bool {
             return false;
         }
         if some {
-            open = Open::none();
+            open.empty(unit.figures.len());
         }
     }
     true
