@@ -1,10 +1,11 @@
 //! Damages a book by one word, or forges one that no calls make.
 //! It serves the tests of "A book is sound if" and of check 1 of the paper.
 
-use crate::book::{Book, Figures, Offer, Order, Unit};
+use crate::book::{Book, Figures, Offer, Order, Unit, MOST_PRICE};
 use crate::random::Random;
 
 /// Changes one word of the book, or the length or order of one list. The book may stay sound.
+/// It may be damaged already.
 pub fn damage(random: &mut Random, book: &mut Book) {
     match random.below(8) {
         0 => damage_frame(random, book),
@@ -84,6 +85,7 @@ fn damage_offer(random: &mut Random, book: &mut Book) {
         3 => change(random, &mut offer.price),
         4 => change(random, &mut offer.taken),
         5 => offer.amounts.fill(0),
+        _ if offer.amounts.is_empty() => offer.amounts.push(1),
         _ => {
             let at = place(random, &offer.amounts);
             change(random, &mut offer.amounts[at]);
@@ -106,12 +108,13 @@ fn damage_order(random: &mut Random, book: &mut Book) {
 
 /// Adds, drops, doubles or swaps an item of a list.
 fn damage_list(random: &mut Random, book: &mut Book) {
-    let periods = book.periods() as usize;
+    // The book may be damaged already: its days and prices are not relied on.
+    let periods = book.units.first().map_or(24, |unit| unit.figures.len().max(1));
     let unit = random.below(book.units.len() as u64 + 1);
-    let number = book.given + random.below(2);
-    let price = random.below(book.ceiling + 1);
+    let number = book.given.saturating_add(random.below(2));
+    let price = random.below(book.ceiling.min(MOST_PRICE) + 1);
     match random.below(9) {
-        0 => drop(book.units.pop()),
+        0 => book.units.truncate(book.units.len().saturating_sub(1)),
         1 => {
             let kind = random.below(6);
             book.units.push(Unit::fresh(kind, 9, 9, periods));

@@ -25,7 +25,8 @@ pub struct Counts {
     pub refused: [[u64; 22]; 10],
     /// Rows, by way.
     pub rows: [u64; 5],
-    pub most_rows: usize,
+    /// The most rows of one call, by call.
+    pub most_rows: [usize; 10],
     pub most_orders: usize,
     pub most_offers: usize,
     pub most_given: u64,
@@ -51,7 +52,7 @@ impl Counts {
             Err(refusal) => self.refused[which][*refusal as usize] += 1,
             Ok(answer) => {
                 self.accepted[which] += 1;
-                self.most_rows = self.most_rows.max(answer.rows.len());
+                self.most_rows[which] = self.most_rows[which].max(answer.rows.len());
                 for row in &answer.rows {
                     self.rows[row.way as usize] += 1;
                 }

@@ -156,7 +156,7 @@ pub const MANNERS: [Manner; 10] = [
     },
     Manner {
         name: "numbers",
-        length: 132_000,
+        length: 140_000,
         days: [1, 1],
         units: [2, 2],
         kinds: &[2, 3],

@@ -43,7 +43,8 @@ fn print(counts: &Counts) {
     for way in 1..=4 {
         println!("rows of way {way}: {}", counts.rows[way]);
     }
-    println!("most rows of a call {}", counts.most_rows);
+    let [_, _, _, take, _, order, _, clear, _, _] = counts.most_rows;
+    println!("most rows of a take {take}, an order {order}, a clear {clear}");
     println!("most open orders {}, offers {}", counts.most_orders, counts.most_offers);
     println!("most numbers of a day {}", counts.most_given);
     println!("damaged {}, still sound {}", counts.damaged, counts.damaged_sound);
