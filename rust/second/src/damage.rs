@@ -29,7 +29,7 @@ fn change(random: &mut Random, word: &mut u64) {
         6 => word.wrapping_mul(2),
         7 => *word ^ (1 << random.below(64)),
         8 => random.below(30),
-        _ => random.next(),
+        _ => random.draw(),
     };
 }
 

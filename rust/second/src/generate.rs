@@ -1,12 +1,12 @@
 //! A seeded generator of calls that drives a book into deep states, in several manners.
 //! It serves the tests of "Refusals by place of check" and "The tally" of the paper.
 
-use crate::book::{total, Book, Order, Unit, BUY, MOST_PRICE, ROLLING, SELL};
+use crate::book::{total, Book, Order, BUY, MOST_PRICE, ROLLING, SELL};
 use crate::calls::{Call, POINTS_LENT, ROWS_LENT};
-use crate::fits::Open;
-use crate::limits::{hour_limit, is_generator, term_limit, volume_limit};
+use crate::limits::is_generator;
 use crate::manners::Manner;
 use crate::random::Random;
+use crate::rooms::{hour_room, hour_rooms, room};
 use crate::sharing::MOST_ENERGY;
 
 /// Draws the calls of one list.
@@ -73,7 +73,7 @@ impl Generator {
             4 => MOST_ENERGY + 1,
             5 => u64::MAX,
             6 => self.random.below(100),
-            _ => self.random.next(),
+            _ => self.random.draw(),
         }
     }
 
@@ -174,6 +174,16 @@ impl Generator {
         }
     }
 
+    /// What an order could still declare; now and then the room of its hour alone, so that the
+    /// term or the volume is what it passes.
+    fn room(&mut self, book: &Book, unit: u64, direction: u64, period: u64) -> u64 {
+        if self.random.once_in(4) {
+            hour_room(book, unit, direction, period)
+        } else {
+            room(book, unit, direction, period)
+        }
+    }
+
     fn order(&mut self, book: &Book) -> Call {
         let meets = !self.manner.apart || self.random.once_in(8);
         let waiting = book.orders.len() as u64;
@@ -183,12 +193,12 @@ impl Generator {
             None
         };
         // Draw until something fits, for a few times.
-        let mut drawn = self.draw(book, meant);
+        let mut drawn = self.draw_order(book, meant);
         for _ in 0..4 {
             if drawn.3 > 0 {
                 break;
             }
-            drawn = self.draw(book, meant);
+            drawn = self.draw_order(book, meant);
         }
         let (unit, direction, period, room) = drawn;
         let price = match meant {
@@ -208,7 +218,7 @@ impl Generator {
 
     /// Draws an order's unit, direction and period, with the room that they leave. If it is meant
     /// for a waiting order, it goes against it in its period.
-    fn draw(&mut self, book: &Book, meant: Option<Order>) -> (u64, u64, u64, u64) {
+    fn draw_order(&mut self, book: &Book, meant: Option<Order>) -> (u64, u64, u64, u64) {
         let unit = self.unit(book);
         let mut period = self.period(book);
         let mut direction = self.random.below(2);
@@ -226,7 +236,7 @@ impl Generator {
             }
             direction = own;
         }
-        (unit, direction, period, room_of(book, unit, direction, period))
+        (unit, direction, period, self.room(book, unit, direction, period))
     }
 
     /// The way the unit goes already in the period; else raising, or lowering of what is held.
@@ -280,7 +290,7 @@ impl Generator {
             for _ in 0..1 + style * 2 {
                 let period = self.period(book).min(periods - 1);
                 let direction = if is_generator(book.unit(unit).kind) { SELL } else { BUY };
-                let room = room_of(book, unit, direction, period);
+                let room = self.room(book, unit, direction, period);
                 amounts[period as usize] = self.quantity(room);
             }
             return;
@@ -369,11 +379,7 @@ impl Generator {
     fn curve(&mut self, book: &Book) -> Call {
         let unit = self.unit(book);
         let day = self.random.below(book.days);
-        Call::Curve {
-            unit: self.spoil(unit),
-            day: self.spoil(day),
-            lent: self.lent(POINTS_LENT),
-        }
+        Call::Curve { unit: self.spoil(unit), day: self.spoil(day), lent: self.lent(POINTS_LENT) }
     }
 
     /// Orders and cancels in turn, so that the numbers of the day are used up.
@@ -390,47 +396,4 @@ impl Generator {
         let price = book.ceiling;
         Call::Order { unit, direction, period, price, quantity: 1, lent: ROWS_LENT }
     }
-}
-
-/// What an order of this direction could still declare.
-fn room_of(book: &Book, unit: u64, direction: u64, period: u64) -> u64 {
-    let open = Open::of(book, unit);
-    let unit = book.unit(unit);
-    let figures = &unit.figures[period as usize];
-    let at = period as usize;
-    if !unit.raises(direction) {
-        return figures.held - figures.lowered - open.lowering[at];
-    }
-    let hour = hour_limit(unit.kind, unit.capacity, period % 24);
-    let hour_room = hour - figures.held - figures.raised - open.raising[at];
-    let (term_room, volume_room) = term_rooms(book, unit, &open);
-    // Past the hour room 19 comes first: now and then ask for what only the hour gives.
-    if hour_room > 0 && (hour_room + period + volume_room) % 4 == 0 {
-        hour_room
-    } else {
-        hour_room.min(term_room).min(volume_room)
-    }
-}
-
-/// The room that the term limit and the volume limit leave.
-fn term_rooms(book: &Book, unit: &Unit, open: &Open) -> (u64, u64) {
-    let mut term = 0;
-    let mut volume = 0;
-    for (period, figures) in unit.figures.iter().enumerate() {
-        term += figures.held + figures.raised + open.raising[period];
-        volume += figures.volume + open.raising[period] + open.lowering[period];
-    }
-    let limit = term_limit(book.days, unit.kind, unit.capacity, unit.asset);
-    (limit - term, volume_limit(unit.kind, limit) - volume)
-}
-
-/// The room of each hour for raising.
-fn hour_rooms(book: &Book, unit: u64) -> Vec<u64> {
-    let open = Open::of(book, unit);
-    let unit = book.unit(unit);
-    let rooms = unit.figures.iter().enumerate().map(|(period, figures)| {
-        let hour = hour_limit(unit.kind, unit.capacity, period as u64 % 24);
-        hour - figures.held - figures.raised - open.raising[period]
-    });
-    rooms.collect()
 }

@@ -13,6 +13,7 @@ pub mod manners;
 pub mod orders;
 pub mod random;
 pub mod rehearse;
+pub mod rooms;
 pub mod sharing;
 pub mod sound;
 pub mod tally;

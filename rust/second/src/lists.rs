@@ -11,9 +11,8 @@ use crate::sound::sound;
 use crate::tally::{demand3, Tally};
 
 /// The names of the calls, in the order of their counts.
-pub const CALLS: [&str; 10] = [
-    "open", "enrol", "offer", "take", "withdraw", "order", "cancel", "clear", "close", "curve",
-];
+pub const CALLS: [&str; 10] =
+    ["open", "enrol", "offer", "take", "withdraw", "order", "cancel", "clear", "close", "curve"];
 
 /// What lists came to.
 #[derive(Clone, Debug, Default)]
@@ -84,14 +83,14 @@ pub fn run_lists(seed: u64, calls: u64, counts: &mut Counts) -> Result<(), Strin
     let end = counts.calls() + calls;
     let numbers = MANNERS[NUMBERS].length;
     if calls >= 2 * numbers {
-        run_list(random.next(), &MANNERS[NUMBERS], numbers, counts)?;
+        run_list(random.draw(), &MANNERS[NUMBERS], numbers, counts)?;
     }
     while counts.calls() < end {
         let place = random.below(NUMBERS as u64) as usize;
         let place = if random.once_in(60) { MONTH } else { place };
         let manner = &MANNERS[place];
         let left = end - counts.calls();
-        run_list(random.next(), manner, manner.length.min(left), counts)?;
+        run_list(random.draw(), manner, manner.length.min(left), counts)?;
     }
     Ok(())
 }
@@ -157,11 +156,7 @@ fn step(
 
 /// Damages a copy of the book and makes a call on it: 1 and nothing changed if it is not sound;
 /// a sound book, whatever is answered, if it is.
-fn step_damaged(
-    generator: &mut Generator,
-    book: &Book,
-    counts: &mut Counts,
-) -> Result<(), String> {
+fn step_damaged(generator: &mut Generator, book: &Book, counts: &mut Counts) -> Result<(), String> {
     let call = generator.call(book);
     let mut damaged = book.clone();
     damage(&mut generator.random, &mut damaged);
@@ -196,7 +191,8 @@ fn curves(tally: &Tally, book: &Book) -> Result<(), String> {
             let points = book.curve(unit, day, 48).map_err(|no| format!("curve gives {no}"))?;
             for (hour, pair) in points.chunks(2).enumerate() {
                 let net = tally.units[unit as usize - 1].net(24 * day as usize + hour);
-                if (pair[0] + pair[1]) as i128 != net || pair[0] > pair[1] || pair[1] > pair[0] + 1 {
+                if (pair[0] + pair[1]) as i128 != net || pair[0] > pair[1] || pair[1] > pair[0] + 1
+                {
                     return Err(format!("curve of unit {unit} day {day} hour {hour}"));
                 }
             }

@@ -33,7 +33,7 @@ pub struct Manner {
 const ALL_KINDS: &[u64] = &[1, 2, 3, 4];
 
 /// All manners. The last two are for single long or large lists.
-pub const MANNERS: [Manner; 10] = [
+pub const MANNERS: [Manner; 11] = [
     Manner {
         name: "tight",
         length: 300,
@@ -155,6 +155,21 @@ pub const MANNERS: [Manner; 10] = [
         spoil: 200,
     },
     Manner {
+        name: "sweep",
+        length: 800,
+        days: [1, 1],
+        units: [40, 64],
+        kinds: &[2, 3, 3, 4],
+        capacity: [500, 5_000],
+        asset: [100_000, MOST_ENERGY],
+        ceiling: [4, 40],
+        quantity: 4,
+        periods: 1,
+        apart: true,
+        weights: [0, 1, 1, 0, 200, 2, 2, 1, 1],
+        spoil: 300,
+    },
+    Manner {
         name: "numbers",
         length: 140_000,
         days: [1, 1],
@@ -187,6 +202,6 @@ pub const MANNERS: [Manner; 10] = [
 ];
 
 /// The place of "numbers" among the manners: one list uses all numbers of a day.
-pub const NUMBERS: usize = 8;
+pub const NUMBERS: usize = 9;
 /// The place of "month" among the manners: the largest books.
-pub const MONTH: usize = 9;
+pub const MONTH: usize = 10;

@@ -10,7 +10,7 @@ impl Random {
     }
 
     /// The next number of the series.
-    pub fn next(&mut self) -> u64 {
+    pub fn draw(&mut self) -> u64 {
         self.0 = self.0.wrapping_add(0x9e37_79b9_7f4a_7c15);
         let mut z = self.0;
         z = (z ^ (z >> 30)).wrapping_mul(0xbf58_476d_1ce4_e5b9);
@@ -20,7 +20,7 @@ impl Random {
 
     /// A number from 0 to count less 1.
     pub fn below(&mut self, count: u64) -> u64 {
-        self.next() % count
+        self.draw() % count
     }
 
     /// A number from the first to the second, both included.

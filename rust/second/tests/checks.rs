@@ -17,11 +17,8 @@ fn day(named: &[(usize, u64)]) -> Vec<u64> {
 
 /// Unit 1: retailer of 10 kW, asset 6. Unit 2: large generator. Unit 3: large load.
 fn book() -> Book {
-    let units = vec![
-        Unit::fresh(4, 10, 6, 24),
-        Unit::fresh(2, 1_000, 0, 24),
-        Unit::fresh(3, 1_000, 0, 24),
-    ];
+    let units =
+        vec![Unit::fresh(4, 10, 6, 24), Unit::fresh(2, 1_000, 0, 24), Unit::fresh(3, 1_000, 0, 24)];
     let mut book = Book::blank();
     book.open(false, 1, 1, 9).unwrap();
     book.units = units;
@@ -38,6 +35,9 @@ fn sells(from: u64, to: u64) -> impl Iterator<Item = Order> {
         quantity: 1,
     })
 }
+
+/// Mends one fault.
+type Mend = fn(&mut Try);
 
 /// An order's arguments, and the book that it meets.
 #[derive(Clone)]
@@ -74,7 +74,7 @@ fn order() {
     }
     book.orders.extend(sells(3, 256));
     assert!(sound(book));
-    let steps: [(u64, fn(&mut Try)); 14] = [
+    let steps: [(u64, Mend); 14] = [
         (6, |all| all.unit = 1),
         (7, |all| all.lent = ROWS_LENT),
         (8, |all| all.price = 1),

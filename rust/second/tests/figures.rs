@@ -21,7 +21,14 @@ fn day(named: &[(usize, u64)]) -> Vec<u64> {
     amounts
 }
 
-fn order(book: &mut Book, unit: u64, direction: u64, period: u64, price: u64, quantity: u64) -> u64 {
+fn order(
+    book: &mut Book,
+    unit: u64,
+    direction: u64,
+    period: u64,
+    price: u64,
+    quantity: u64,
+) -> u64 {
     match book.order(unit, direction, period, price, quantity, ROWS_LENT) {
         Ok(_) => 0,
         Err(refusal) => refusal,
@@ -47,7 +54,8 @@ fn figure_2_clear() {
     assert_eq!(order(&mut book, 2, BUY, 0, 480, 10), 0);
     assert_eq!(order(&mut book, 3, SELL, 0, 450, 10), 0);
     assert_eq!(order(&mut book, 4, SELL, 0, 470, 4), 0);
-    let row = |seller, buyer, quantity| Row { way: 3, period: 0, seller, buyer, quantity, price: 475 };
+    let row =
+        |seller, buyer, quantity| Row { way: 3, period: 0, seller, buyer, quantity, price: 475 };
     let rows = vec![row(3, 1, 10), row(4, 2, 4)];
     assert_eq!(book.clear(ROWS_LENT), Ok(Answer { number: 0, rows }));
     let rest = Order { number: 2, unit: 2, direction: BUY, period: 0, price: 480, quantity: 6 };

@@ -4,7 +4,7 @@
 mod naive;
 
 use second::book::{Book, Offer, Order, Unit, ROLLING};
-use second::calls::{Answer, Call, Row};
+use second::calls::{Answer, Call, Row, ROWS_LENT};
 use second::generate::Generator;
 use second::manners::{MANNERS, NUMBERS};
 use second::random::Random;
@@ -135,9 +135,10 @@ fn try_call(
         Call::Withdraw { unit, number } => {
             expected.offers.retain(|offer| offer.number != number);
             assert_eq!(expected.offers.len() + 1, before.offers.len());
-            assert!(before.offers.iter().any(|offer| offer.number == number
-                && offer.unit == unit
-                && offer.taken == 0));
+            assert!(before
+                .offers
+                .iter()
+                .any(|offer| offer.number == number && offer.unit == unit && offer.taken == 0));
         }
         Call::Enrol { kind, capacity, asset } => {
             let periods = 24 * before.days as usize;
@@ -188,7 +189,8 @@ fn try_fit(before: &Book, call: &Call, answer: &Result<Answer, u64>, tried: &mut
             unit
         }
         Call::Take { unit, number: taken, quantity, .. } => {
-            let mut offer = before.offers.iter().find(|offer| offer.number == taken).unwrap().clone();
+            let mut offer =
+                before.offers.iter().find(|offer| offer.number == taken).unwrap().clone();
             offer.amounts = parts(quantity, &offer.amounts);
             (offer.number, offer.unit) = (number, unit);
             added.offers.push(offer);
@@ -245,6 +247,46 @@ fn sharing() {
         shared += 1;
     }
     assert!(shared > 5_000, "{shared}");
+}
+
+/// A book of 32 generators and 32 loads in which so many buys and sells wait in period 7.
+fn waiting(buys: u64, sells: u64) -> Book {
+    let mut book = Book::blank();
+    book.open(false, 1, 0, 9).unwrap();
+    for unit in 0..64 {
+        book.enrol(if unit < 32 { 2 } else { 3 }, 1_000, 0).unwrap();
+    }
+    for at in 0..buys + sells {
+        let (unit, direction) = if at < buys { (33 + at % 32, 1) } else { (1 + at % 31, 0) };
+        let number = at + 1;
+        let (price, quantity) = (4 + at % 2, 1 + at % 3);
+        book.orders.push(Order { number, unit, direction, period: 7, price, quantity });
+    }
+    book.given = buys + sells;
+    book
+}
+
+#[test]
+fn the_longest_matches() {
+    // 255 sells wait, and a buy of unit 64 meets them all.
+    let mut book = waiting(0, 255);
+    book.phase = ROLLING;
+    let open: u64 = book.orders.iter().map(|order| order.quantity).sum();
+    let answer = book.order(64, 1, 7, 9, open + 1, ROWS_LENT).unwrap();
+    assert_eq!((answer.number, answer.rows.len()), (256, 255));
+    let first_at_5 = answer.rows.iter().position(|row| row.price == 5).unwrap();
+    assert_eq!(first_at_5, 128);
+    assert_eq!(book.orders.len(), 1);
+    assert_eq!((book.orders[0].unit, book.orders[0].quantity), (64, 1));
+    // 256 wait both ways, and the clear lays them all against each other.
+    let mut book = waiting(128, 128);
+    for order in &mut book.orders {
+        (order.price, order.quantity) = (5, 1 + order.number % 2);
+    }
+    let answer = book.clear(ROWS_LENT).unwrap();
+    let traded: u64 = answer.rows.iter().map(|row| row.quantity).sum();
+    assert_eq!((traded, book.orders.len()), (192, 0));
+    assert!(answer.rows.len() >= 128);
 }
 
 #[test]

@@ -3,6 +3,7 @@
 
 // Each file of tests uses some of these.
 #![allow(dead_code)]
+#![allow(clippy::manual_div_ceil)]
 
 use second::book::{Book, Order};
 use second::calls::Row;
