@@ -3,9 +3,7 @@
 
 use crate::book::{total, Book, Offer, Unit, CALL, MOST_PRICE};
 use crate::fits::{fit, Open};
-use crate::limits::{
-    capacity_in_range, days_in_range, is_generator, kind_in_range, MOST_PERIODS,
-};
+use crate::limits::{capacity_in_range, days_in_range, is_generator, kind_in_range, MOST_PERIODS};
 use crate::sharing::{share, MOST_ENERGY};
 use crate::sound::sound;
 
@@ -44,16 +42,54 @@ impl Answer {
 #[derive(Clone, Debug, PartialEq, Eq)]
 pub enum Call {
     /// `short`: the memory is too short for these days.
-    Open { short: bool, days: u64, floor: u64, ceiling: u64 },
-    Enrol { kind: u64, capacity: u64, asset: u64 },
-    Offer { unit: u64, partner: u64, price: u64, amounts: Vec<u64> },
-    Take { unit: u64, number: u64, quantity: u64, lent: u64 },
-    Withdraw { unit: u64, number: u64 },
-    Order { unit: u64, direction: u64, period: u64, price: u64, quantity: u64, lent: u64 },
-    Cancel { unit: u64, number: u64 },
-    Clear { lent: u64 },
+    Open {
+        short: bool,
+        days: u64,
+        floor: u64,
+        ceiling: u64,
+    },
+    Enrol {
+        kind: u64,
+        capacity: u64,
+        asset: u64,
+    },
+    Offer {
+        unit: u64,
+        partner: u64,
+        price: u64,
+        amounts: Vec<u64>,
+    },
+    Take {
+        unit: u64,
+        number: u64,
+        quantity: u64,
+        lent: u64,
+    },
+    Withdraw {
+        unit: u64,
+        number: u64,
+    },
+    Order {
+        unit: u64,
+        direction: u64,
+        period: u64,
+        price: u64,
+        quantity: u64,
+        lent: u64,
+    },
+    Cancel {
+        unit: u64,
+        number: u64,
+    },
+    Clear {
+        lent: u64,
+    },
     Close,
-    Curve { unit: u64, day: u64, lent: u64 },
+    Curve {
+        unit: u64,
+        day: u64,
+        lent: u64,
+    },
 }
 
 /// Check 9 of a quantity or a total.
@@ -87,9 +123,7 @@ impl Book {
             Call::Cancel { unit, number } => self.cancel(unit, number),
             Call::Clear { lent } => self.clear(lent),
             Call::Close => self.close(),
-            Call::Curve { unit, day, lent } => {
-                self.curve(unit, day, lent).map(|_| Answer::of(0))
-            }
+            Call::Curve { unit, day, lent } => self.curve(unit, day, lent).map(|_| Answer::of(0)),
         }
     }
 

@@ -61,6 +61,7 @@ fn clear_period(
     }
     let bid = margin(orders, bids, volume);
     let ask = margin(orders, asks, volume);
+    #[allow(clippy::manual_div_ceil)] // As the paper writes it.
     let price = (bid + ask + 1) / 2;
     fill(orders, bids, bid, volume, parts, fills);
     fill(orders, asks, ask, volume, parts, fills);

@@ -16,6 +16,12 @@ impl Open {
         Open { raising: [0; MOST_PERIODS], lowering: [0; MOST_PERIODS] }
     }
 
+    /// Back to nothing open, in the first so many periods.
+    pub fn empty(&mut self, periods: usize) {
+        self.raising[..periods].fill(0);
+        self.lowering[..periods].fill(0);
+    }
+
     /// What a unit of a sound book has open.
     pub fn of(book: &Book, unit: u64) -> Open {
         let mut open = Open::none();
@@ -60,33 +66,36 @@ impl Open {
 /// Gives 1 for a mark out of range, which no sound book has: so one pass serves check 1 as well.
 /// The unit's fields are in range and it has a set of figures for each period.
 pub fn fit(days: u64, unit: &Unit, open: &Open) -> u64 {
+    let mut limits = [0; 24];
+    for (hour, limit) in limits.iter_mut().enumerate() {
+        *limit = hour_limit(unit.kind, unit.capacity, hour as u64);
+    }
     let mut term: u64 = 0;
-    let mut volume: u64 = 0;
-    for (day, hours) in unit.figures.chunks(24).enumerate() {
-        for (hour, figures) in hours.iter().enumerate() {
-            let period = 24 * day + hour;
-            let raising = open.raising[period];
-            let lowering = open.lowering[period];
+    let mut declared: u64 = 0;
+    let mut traded: u64 = 0;
+    let days_open = open.raising.chunks(24).zip(open.lowering.chunks(24));
+    for (day, (raisings, lowerings)) in unit.figures.chunks(24).zip(days_open) {
+        let hours = raisings.iter().zip(lowerings).zip(&limits);
+        for (figures, ((&raising, &lowering), &limit)) in day.iter().zip(hours) {
+            let up = figures.held.saturating_add(figures.raised).saturating_add(raising);
+            let down = figures.lowered.saturating_add(lowering);
             if figures.way > 2 {
                 return 1;
             }
-            let up = figures.held.saturating_add(figures.raised).saturating_add(raising);
-            let down = figures.lowered.saturating_add(lowering);
-            if up > hour_limit(unit.kind, unit.capacity, hour as u64) || down > figures.held {
+            if up > limit || down > figures.held {
                 return 19;
             }
+            // All but the volume are within the hour limit by now.
             term += up;
-            volume = volume
-                .saturating_add(figures.volume)
-                .saturating_add(raising)
-                .saturating_add(lowering);
+            declared += raising + lowering;
+            traded = traded.saturating_add(figures.volume);
         }
     }
-    let limit = term_limit(days, unit.kind, unit.capacity, unit.asset);
-    if term > limit {
+    let term_limit = term_limit(days, unit.kind, unit.capacity, unit.asset);
+    if term > term_limit {
         return 20;
     }
-    if volume > volume_limit(unit.kind, limit) {
+    if traded.saturating_add(declared) > volume_limit(unit.kind, term_limit) {
         return 21;
     }
     0

@@ -4,12 +4,16 @@
 pub mod book;
 pub mod calls;
 pub mod clearing;
+pub mod damage;
 pub mod fits;
 pub mod generate;
 pub mod limits;
 pub mod lists;
+pub mod manners;
 pub mod orders;
+pub mod random;
 pub mod rehearse;
+pub mod rooms;
 pub mod sharing;
 pub mod sound;
 pub mod tally;

@@ -58,9 +58,7 @@ fn understand(line: &[u8]) -> Option<Call> {
         (b"L", &[unit, partner, price, ref amounts @ ..]) if amounts.len() == AMOUNTS => {
             Call::Offer { unit, partner, price, amounts: amounts.to_vec() }
         }
-        (b"T", &[unit, number, quantity]) => {
-            Call::Take { unit, number, quantity, lent: ROWS_LENT }
-        }
+        (b"T", &[unit, number, quantity]) => Call::Take { unit, number, quantity, lent: ROWS_LENT },
         (b"W", &[unit, number]) => Call::Withdraw { unit, number },
         (b"R", &[unit, direction, period, price, quantity]) => {
             Call::Order { unit, direction, period, price, quantity, lent: ROWS_LENT }

@@ -3,9 +3,7 @@
 
 use crate::book::{total, Book, Offer, Order, Unit, BUY, MOST_PRICE, ROLLING};
 use crate::fits::{fit, Open};
-use crate::limits::{
-    capacity_in_range, days_in_range, is_generator, kind_in_range, MOST_PERIODS,
-};
+use crate::limits::{capacity_in_range, days_in_range, is_generator, kind_in_range, MOST_PERIODS};
 use crate::sharing::MOST_ENERGY;
 
 /// Is this book sound? Any book may be asked about, a damaged one too.
@@ -47,7 +45,8 @@ fn numbers(book: &Book) -> bool {
     if last > book.given {
         return false;
     }
-    let in_orders = |number| book.orders.binary_search_by_key(&number, |order| order.number).is_ok();
+    let in_orders =
+        |number| book.orders.binary_search_by_key(&number, |order| order.number).is_ok();
     !book.offers.iter().any(|offer| in_orders(offer.number))
 }
 
@@ -144,7 +143,7 @@ fn units(book: &Book) -> bool {
             return false;
         }
         if some {
-            open = Open::none();
+            open.empty(unit.figures.len());
         }
     }
     true
