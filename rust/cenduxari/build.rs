@@ -14,7 +14,10 @@ fn main() {
         let archive = folder.join(format!("lib{library}.a"));
         println!("cargo:rerun-if-changed={}", archive.display());
         if !archive.exists() {
-            eprintln!("target/staticlib/lib{library}.a is missing: run ./cenduxari or .ci/run in the repository's root.");
+            eprintln!(
+                "{} is missing: run ./cenduxari in the repository's root, which builds it.",
+                archive.display()
+            );
             process::exit(1);
         }
         println!("cargo:rustc-link-lib=static={library}");
