@@ -168,6 +168,13 @@ fn take() {
     assert_eq!(book, before);
     assert_eq!(book.take(1, 1, 5, lent).unwrap().rows.len(), 2);
     assert!(sound(&book));
+    // A bilateral offer: by its partner alone, for exactly its total.
+    assert_eq!(book.offer(2, 1, 5, &day(&[(0, 1), (1, 1)])), Ok(Answer::of(2)));
+    assert_eq!(book.take(3, 2, 2, lent), Err(12));
+    assert_eq!(book.take(2, 2, 2, lent), Err(12));
+    assert_eq!(book.take(1, 2, 1, lent), Err(12));
+    assert_eq!(book.take(1, 2, 3, lent), Err(12));
+    assert_eq!(book.take(1, 2, 2, lent), Err(20));
 }
 
 #[test]

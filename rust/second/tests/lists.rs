@@ -154,19 +154,37 @@ fn demand_3_fails_of_a_wrong_list() {
     });
 }
 
+/// Demand 3 once unit 3 (asset 20, net 2 in period 1) sold and bought back so much, lists this
+/// amount and has an order to sell this quantity.
+fn with_open(traded: u64, listed: u64, sells: u64) -> Result<(), String> {
+    let (mut book, mut tally) = grown();
+    tally.units[2].sold[1] += traded;
+    tally.units[2].bought[1] += traded;
+    book.units[2].figures[1].volume += 2 * traded;
+    let mut amounts = vec![0; 24];
+    (amounts[4], amounts[5]) = (listed.min(10), listed.saturating_sub(10));
+    let listing = Call::Offer { unit: 3, partner: 0, price: 5, amounts };
+    tally.feed(&listing, &Ok(Answer::of(9))).unwrap();
+    let (period, price, quantity) = (1, 5, sells);
+    let sale = Call::Order { unit: 3, direction: SELL, period, price, quantity, lent: ROWS_LENT };
+    tally.feed(&sale, &Ok(Answer::of(10))).unwrap();
+    demand3(&tally, &book)
+}
+
 #[test]
 fn open_amounts_count_in_full() {
-    // Unit 3: asset 20, net 2. Its own listing of 18 meets the term limit, 19 passes it.
-    let open = |amount: u64| {
-        let (_, mut tally) = grown();
-        let mut amounts = vec![0; 24];
-        (amounts[4], amounts[5]) = (9, amount - 9);
-        let call = Call::Offer { unit: 3, partner: 0, price: 5, amounts };
-        tally.feed(&call, &Ok(Answer::of(9))).unwrap();
-        demand3(&tally, &grown().0)
-    };
-    assert_eq!(open(18), Ok(()));
-    assert_eq!(open(19), Err("unit 3: term limit".to_string()));
+    let wrong = |what: &str| Err(format!("unit 3: {what}"));
+    // The term limit: net and open raising. Lowering that may not trade frees nothing.
+    assert_eq!(with_open(0, 18, 0), Ok(()));
+    assert_eq!(with_open(0, 19, 0), wrong("term limit"));
+    assert_eq!(with_open(0, 19, 2), wrong("term limit"));
+    // The volume limit: all that is open, both ways.
+    assert_eq!(with_open(8, 2, 0), Ok(()));
+    assert_eq!(with_open(8, 3, 0), wrong("volume limit"));
+    assert_eq!(with_open(8, 0, 2), Ok(()));
+    assert_eq!(with_open(8, 1, 2), wrong("volume limit"));
+    // No net below 0.
+    assert_eq!(with_open(0, 0, 3), wrong("net below 0 in period 1"));
 }
 
 #[test]

@@ -170,6 +170,13 @@ fn units_fit() {
             book.units[2].figures[hour].held = if hour < 16 { 10 } else { 1 };
         }
     });
+    misfit("a purchase today frees no term room", 3, 20, |book| {
+        for hour in 6..16 {
+            book.units[2].figures[hour].held = 10;
+        }
+        book.units[2].figures[6].lowered = 5;
+        book.units[2].figures[16].raised = 1;
+    });
     still_sound("asset met", |book| book.units[3].asset = 4);
     misfit("asset passed", 4, 20, |book| book.units[3].asset = 3);
     misfit("asset passed by held and raised", 4, 20, |book| {

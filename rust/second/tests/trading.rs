@@ -26,7 +26,7 @@ struct Tried {
 fn trades_and_misfits() {
     let mut tried = Tried::default();
     for manner in &MANNERS[..NUMBERS] {
-        for seed in 100..106 {
+        for seed in 100..124 {
             let mut generator = Generator::new(seed, manner);
             let mut book = Book::blank();
             for _ in 0..manner.length {
