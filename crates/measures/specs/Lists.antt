@@ -3,6 +3,11 @@ use Prim.Native.Nat.{ℕ, zero, suc, _+_}
 use mathlib.Core.Bool.{Bool, true, false, cond, _&&_}
 use mathlib.Core.List.{List, [], _∷_}
 
+-- whether each of a list of conditions holds
+unfoldable pub holds : List Bool → Bool
+holds [] = true
+holds (c ∷ cs) = c && holds cs
+
 module _ {A : Type 0} where
   -- the sum of f over a list
   abbrev pub sumOf : (A → ℕ) → List A → ℕ
