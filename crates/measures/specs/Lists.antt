@@ -19,6 +19,11 @@ module _ {A : Type 0} where
   every f [] = true
   every f (x ∷ xs) = f x && every f xs
 
+  -- that P is so of each element
+  abbrev pub Each : (A → Type 0) → List A → Type 0
+  Each P [] = Unit {0}
+  Each P (x ∷ xs) = P x × Each P xs
+
   -- the elements of which f holds, in their order
   abbrev pub keep : (A → Bool) → List A → List A
   keep f [] = []
