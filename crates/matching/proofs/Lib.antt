@@ -1,3 +1,4 @@
 pub mod OrderLaws
 pub mod RowLaws
+pub mod FitLaws
 pub mod FiguresHold
