@@ -3,6 +3,6 @@ pub mod RowLaws
 pub mod FitLaws
 pub mod CandidateLaws
 pub mod CounterpartLaws
-pub mod LessenLaws
+pub mod TakeOffLaws
 pub mod MeetingLaws
 pub mod FiguresHold

@@ -20,7 +20,7 @@ use Rattle.matching.proofs.OrderLaws.{orders-length, orders-at}
 use Rattle.matching.proofs.RowLaws.{written-none}
 use Rattle.matching.proofs.FitLaws.{Fit, fit-gives}
 use Rattle.matching.proofs.CounterpartLaws.{best, without, best-first, best-none}
-use Rattle.matching.proofs.LessenLaws.{without-length, lessen-gone, lessen-kept, lessen-rises}
+use Rattle.matching.proofs.TakeOffLaws.{without-length, lessen-gone, lessen-kept, lessen-rises}
 
 abbrev pub match : Order → ℕ → Match
 match o x = record { order = o; quantity = x }

@@ -2,7 +2,7 @@
 use mathlib.Core.Path.{sym, _∙_}
 use native.Mathlib.Omega.{arith}
 use borrow.Author.Tests.{eqb-true, eqb-false}
-use Rattle.matching.proofs.LessenLaws.{off-gone, off-kept}
+use Rattle.matching.proofs.TakeOffLaws.{off-gone, off-kept}
 use borrow.Author.Needs.{needs}
 use Rattle.matching.proofs.rolling.take_off.Statement.{statement}
 use Rattle.matching.proofs.rolling.take_off.Tie as tie
