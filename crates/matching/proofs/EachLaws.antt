@@ -96,6 +96,18 @@ module _ {A : Type 0} where
   pairs-append R [] ys p q e = q
   pairs-append R (x ∷ xs) ys p q e = (each-append (R x) xs ys (p .0) (e .0), pairs-append R xs ys (p .1) q (e .1))
 
+  -- an element and those up to it, and those from it on
+  module _ (R : A → A → Type 0) (self : (x : A) → R x x) where
+    pub pairs-upto : (l : List A) (i : ℕ) (d : A) → Pairs R l → i < length l → Each (λ x. R x (getD l i d)) (take (suc i) l)
+    pairs-upto [] i d p h = absurd (omega arith)
+    pairs-upto (x ∷ xs) zero d p h = (self x, tt)
+    pairs-upto (x ∷ xs) (suc i) d p h = (each-at (R x) xs i d (p .0) (omega arith), pairs-upto xs i d (p .1) (omega arith))
+
+    pub pairs-from : (l : List A) (i : ℕ) (d : A) → Pairs R l → i < length l → Each (λ x. R (getD l i d) x) (drop i l)
+    pairs-from [] i d p h = absurd (omega arith)
+    pairs-from (x ∷ xs) zero d p h = (self x, p .0)
+    pairs-from (x ∷ xs) (suc i) d p h = pairs-from xs i d (p .1) (omega arith)
+
   -- sums of what is kept
   pub keep-sum : (f : A → ℕ) (g : A → Bool) (l : List A) → sumOf f (keep g l) ≡ sumOf (λ x. cond (g x) (f x) 0) l
   keep-sum f g [] = refl

@@ -3,4 +3,6 @@ pub mod RowLaws
 pub mod EachLaws
 pub mod LaidLaws
 pub mod AheadLaws
+pub mod VolumeLaws
+pub mod WalkLaws
 pub mod FiguresHold
