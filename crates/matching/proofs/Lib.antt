@@ -5,4 +5,8 @@ pub mod LaidLaws
 pub mod AheadLaws
 pub mod VolumeLaws
 pub mod WalkLaws
+pub mod MarginLaws
+pub mod FillLaws
+pub mod SumLaws
+pub mod OverlapLaws
 pub mod FiguresHold
