@@ -1,10 +1,13 @@
 -- What the functions that read a book's memory ask of it: that its head is in range, so that each place lies in the memory.
 use Prim.Native.Nat.{ℕ, _+_, _*_, _≤_}
-use mathlib.Core.Bool.{Bool}
+use mathlib.Core.Bool.{Bool, _&&_, _||_}
 use mathlib.Core.List.{List, [], _∷_}
 use lib.ListN.{length}
+use lib.Dec.{eqb}
 use Rattle.measures.specs.Lists.{holds, all}
 use Rattle.limits.specs.Units.{mostDays, kindIn, capacityIn, assetIn}
+use Rattle.book.specs.Book.{Book, known}
+use Rattle.book.specs.Sound.{bilateralSides}
 use Rattle.book.specs.Opening.{bookWords}
 use Rattle.book.specs.Layout.{word}
 
@@ -22,3 +25,7 @@ unitFieldsIn m k = holds (kindIn (word m (8 + 3 * k)) ∷ capacityIn (word m (9 
 
 abbrev pub unitsFieldsIn : List ℕ → Bool
 unitsFieldsIn m = all (word m 5) (unitFieldsIn m)
+
+-- whether a partner is none, or an enrolled load for a generator
+unfoldable pub sidesIn : Book → ℕ → ℕ → Bool
+sidesIn b unit partner = eqb partner 0 || (known b partner && bilateralSides b unit partner)
