@@ -9,4 +9,9 @@ pub mod MarginLaws
 pub mod FillLaws
 pub mod SumLaws
 pub mod OverlapLaws
+pub mod LessenLaws
+pub mod AfterLaws
+pub mod SideLaws
+pub mod PeriodLaws
+pub mod ClearingLaws
 pub mod FiguresHold
