@@ -5,6 +5,7 @@ use mathlib.Core.Bool.{Bool, true, false, cond, _&&_}
 use mathlib.Core.List.{List, [], _∷_, _++_}
 use native.Mathlib.Omega.{arith}
 use Rattle.measures.specs.Lists.{sumOf, keep}
+use Rattle.measures.proofs.ListLaws.{sumOf-append, keep-append}
 use Rattle.matching.specs.Orders.{Order, quantities, numbers, rising, lessen, less, leaving}
 use Rattle.matching.specs.Clearing.{Fill, afterFills}
 use Rattle.matching.proofs.EachLaws.{Each, Has, Pairs, each-map, each-both, has-each, each-has, keep-sum}
@@ -78,3 +79,7 @@ module _ (g : Order → Bool) (still : (o : Order) (q : ℕ) → g (leaving o q)
       let c = keep-sum (λ o. o .quantity) g os in
       let w = after-weight fs os p d in
       omega arith
+
+-- fills of two lists under a test
+pub fills-append : (t : Fill → Bool) (fs hs : List Fill) → amounts (keep t (fs ++ hs)) ≡ amounts (keep t fs) + amounts (keep t hs)
+fills-append t fs hs = ap amounts (keep-append t fs hs) ∙ sumOf-append (λ f. f .amount) (keep t fs) (keep t hs)

@@ -14,4 +14,6 @@ pub mod AfterLaws
 pub mod SideLaws
 pub mod PeriodLaws
 pub mod ClearingLaws
+pub mod RestLaws
+pub mod CrossLaws
 pub mod FiguresHold
