@@ -1,14 +1,14 @@
 -- Laws of the orders after fills.
-use Prim.Native.Nat.{ℕ, zero, suc, _+_, _-_, _<_, _≤_}
-use mathlib.Core.Path.{_≡_, refl, sym, ap, ap₂, _∙_}
-use mathlib.Core.Bool.{Bool, true, false, cond, _&&_}
+use Prim.Native.Nat.{ℕ, _+_, _-_, _<_}
+use mathlib.Core.Path.{_≡_, refl, sym, ap, _∙_}
+use mathlib.Core.Bool.{Bool, false, cond}
 use mathlib.Core.List.{List, [], _∷_, _++_}
 use native.Mathlib.Omega.{arith}
 use Rattle.measures.specs.Lists.{sumOf, keep}
 use Rattle.measures.proofs.ListLaws.{sumOf-append, keep-append}
-use Rattle.matching.specs.Orders.{Order, quantities, numbers, rising, lessen, less, leaving}
+use Rattle.matching.specs.Orders.{Order, quantities, lessen, less, leaving}
 use Rattle.matching.specs.Clearing.{Fill, afterFills}
-use Rattle.matching.proofs.EachLaws.{Each, Has, Pairs, each-map, each-both, has-each, each-has, keep-sum}
+use Rattle.matching.proofs.EachLaws.{Each, Has, Pairs, each-map, each-both, each-has, keep-sum}
 use Rattle.matching.proofs.FillLaws.{Fits, amounts}
 use Rattle.matching.proofs.LessenLaws.{Numbered, same-number, lessen-each, lessen-numbered, lessen-has, lessen-keep, lessen-open, openUnder}
 

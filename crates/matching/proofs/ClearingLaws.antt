@@ -1,25 +1,19 @@
 -- What clearing a period does, in the trade's words.
-use Prim.Native.Nat.{ℕ, zero, suc, _+_, _-_, _/_, _<_, _≤_, min}
-use mathlib.Core.Path.{_≡_, refl, sym, ap, _∙_}
-use mathlib.Core.Bool.{Bool, true, false, cond, not, _&&_}
-use mathlib.Core.List.{List, [], _∷_, _++_}
+use Prim.Native.Nat.{ℕ, _<_, _≤_}
+use mathlib.Core.Path.{_≡_, refl, sym, _∙_}
+use mathlib.Core.Bool.{true}
+use mathlib.Core.List.{List}
 use native.Mathlib.Omega.{arith}
-use native.Mathlib.Decide.{decLt}
-use lib.Dec.{eqb, leb, ltb}
-use borrow.Author.Tests.{eqb-true, eqb-false, ltb-true, ltb-false, le-leb}
+use lib.Dec.{eqb}
+use borrow.Author.Tests.{eqb-true, ltb-true}
 use Rattle.measures.specs.Lists.{sumOf, keep}
-use Rattle.measures.proofs.ListLaws.{and-true, and-left, and-right, and-left-false, sumOf-append, keep-append}
-use Rattle.matching.specs.Orders.{Order, Row, quantities, numbers, rising, buys, sells, bids, asks, bidAhead, askAhead, leaving, less}
-use Rattle.matching.specs.Clearing.{Fill, Span, tradedAt, clearedVolume, clearingPrice, bidFills, askFills, endToEnd, overlapRows, afterFills, clearPeriod}
-use Rattle.matching.proofs.EachLaws.{Each, Has, each-map, each-both, each-all, each-append, has-each, keep-sum, keep-nothing, keep-ext}
-use Rattle.matching.proofs.AheadLaws.{dearer, cheaper, dearer-strict, cheaper-strict}
-use Rattle.matching.proofs.VolumeLaws.{demand, supply, traded, no-price-trades-more}
+use Rattle.matching.specs.Orders.{Order, bids, asks}
+use Rattle.matching.specs.Clearing.{bidFills, askFills, endToEnd, overlapRows, clearPeriod}
+use Rattle.matching.proofs.EachLaws.{Each, Has, each-both, each-all, keep-sum}
+use Rattle.matching.proofs.AheadLaws.{dearer, cheaper}
 use Rattle.matching.proofs.FillLaws.{amounts, Fits, side-sum, side-fits, side-prices}
 use Rattle.matching.proofs.OverlapLaws.{rows-each, rows-bought, rows-sold, rows-total, spans-each}
-use Rattle.matching.proofs.LessenLaws.{Numbered, rising-numbered, numbered-rising}
-use Rattle.matching.proofs.AfterLaws.{Due, after-numbered, after-each, after-stay, after-open}
-use Rattle.matching.proofs.SideLaws.{kind-quantities, one-of, left-behind, left-over}
-use Rattle.matching.proofs.PeriodLaws.{isBid, isAsk, volume, bidMargin, askMargin, priceOf, bidFillsOf, askFillsOf, cleared-rows, cleared-orders, fills-case, margins-of, bids-each, asks-each, bids-are, asks-are, bid-fills-each, ask-fills-each, bid-fills-stand, ask-fills-stand, clear-due}
+use Rattle.matching.proofs.PeriodLaws.{isBid, isAsk, volume, bidMargin, askMargin, priceOf, bidFillsOf, askFillsOf, cleared-rows, fills-case, margins-of, bids-are, asks-are, bid-fills-each, ask-fills-each, bid-fills-stand, ask-fills-stand}
 
 module _ (period : ℕ) (os : List Order) where
   -- both sides' fills sum to the volume

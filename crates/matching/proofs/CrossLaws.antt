@@ -1,15 +1,15 @@
 -- After clearing no bid and ask of the period meet.
-use Prim.Native.Nat.{ℕ, zero, suc, _+_, _-_, _<_, _≤_, min}
-use mathlib.Core.Path.{_≡_, refl, sym, ap, _∙_}
-use mathlib.Core.Bool.{Bool, true, false, _&&_}
-use mathlib.Core.List.{List, [], _∷_, _++_}
+use Prim.Native.Nat.{ℕ, _<_, _≤_}
+use mathlib.Core.Path.{_≡_, refl}
+use mathlib.Core.Bool.{Bool, true, _&&_}
+use mathlib.Core.List.{List, [], _++_}
 use native.Mathlib.Omega.{arith}
 use native.Mathlib.Decide.{decLt}
-use lib.Dec.{eqb, leb}
+use lib.Dec.{leb}
 use borrow.Author.Tests.{ltb-true, ltb-false, le-leb}
 use Rattle.measures.specs.Lists.{keep}
 use Rattle.measures.proofs.ListLaws.{and-true}
-use Rattle.matching.specs.Orders.{Order, quantities, numbers, rising, buys, sells, bids, asks, bidAhead, askAhead}
+use Rattle.matching.specs.Orders.{Order, numbers, rising, bids, asks, bidAhead, askAhead}
 use Rattle.matching.specs.Clearing.{Fill, afterFills, bidFills, askFills, clearPeriod}
 use Rattle.matching.proofs.EachLaws.{Each, Has, has-each}
 use Rattle.matching.proofs.AheadLaws.{dearer, cheaper, dearer-strict, cheaper-strict}

@@ -1,15 +1,15 @@
 -- Laws of one order lessened.
-use Prim.Native.Nat.{ℕ, zero, suc, _+_, _-_, _<_, _≤_}
-use mathlib.Core.Path.{_≡_, refl, sym, ap, ap₂, _∙_}
-use mathlib.Core.Logic.{_⊎_, inl, inr}
-use mathlib.Core.Bool.{Bool, true, false, cond, _&&_}
-use mathlib.Core.List.{List, [], _∷_, _++_, map}
+use Prim.Native.Nat.{ℕ, _+_, _-_, _<_, _≤_}
+use mathlib.Core.Path.{_≡_, refl, sym, ap, _∙_}
+use mathlib.Core.Logic.{inl, inr}
+use mathlib.Core.Bool.{Bool, true, false, cond}
+use mathlib.Core.List.{List, [], _∷_}
 use native.Mathlib.Omega.{arith}
 use lib.Dec.{eqb, leb, ltb}
-use borrow.Author.Tests.{eqb-true, eqb-false, eq-eqb, ne-eqb, leb-true, leb-false, le-leb, lt-leb, ltb-true, lt-ltb}
+use borrow.Author.Tests.{eqb-true, eqb-false, ne-eqb, leb-true, leb-false, ltb-true, lt-ltb}
 use Rattle.measures.specs.Lists.{sumOf, keep, every}
-use Rattle.measures.proofs.ListLaws.{cond-case, cond-true, cond-false, both-ways, and-true, and-left, and-right}
-use Rattle.matching.specs.Orders.{Order, quantities, numbers, rising, lessen, less, leaving}
+use Rattle.measures.proofs.ListLaws.{cond-case, and-true, and-left, and-right}
+use Rattle.matching.specs.Orders.{Order, numbers, rising, lessen, less, leaving}
 use Rattle.matching.proofs.EachLaws.{Each, Has, Pairs, has-each}
 
 -- orders whose numbers rise

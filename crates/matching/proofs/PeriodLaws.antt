@@ -1,16 +1,16 @@
 -- One period's clearing in terms of its fills.
-use Prim.Native.Nat.{ℕ, zero, suc, _+_, _-_, _<_, _≤_}
-use mathlib.Core.Path.{_≡_, refl, sym, ap, _∙_}
+use Prim.Native.Nat.{ℕ, _<_}
+use mathlib.Core.Path.{_≡_, refl, sym, _∙_}
 use mathlib.Core.Bool.{Bool, true, false, cond, _&&_}
-use mathlib.Core.List.{List, [], _∷_, _++_}
+use mathlib.Core.List.{List, [], _++_}
 use native.Mathlib.Omega.{arith}
 use lib.Dec.{eqb}
 use borrow.Author.Tests.{eqb-true, eqb-false}
 use Rattle.measures.specs.Lists.{keep}
-use Rattle.measures.proofs.ListLaws.{and-left, and-right}
-use Rattle.matching.specs.Orders.{Order, Row, buys, sells, bids, asks, bidAhead, askAhead, leaving}
+use Rattle.measures.proofs.ListLaws.{and-left}
+use Rattle.matching.specs.Orders.{Order, Row, buys, sells, bids, asks, bidAhead, askAhead}
 use Rattle.matching.specs.Clearing.{Fill, Cleared, clearedVolume, marginal, clearingPrice, bidFills, askFills, endToEnd, overlapRows, afterFills, clearPeriod}
-use Rattle.matching.proofs.EachLaws.{Each, Has, Pairs, each-map, each-keep, kept, has-self, pairs-map, pairs-keep}
+use Rattle.matching.proofs.EachLaws.{Each, Has, Pairs, each-keep, kept, has-self, pairs-map, pairs-keep}
 use Rattle.matching.proofs.LaidLaws.{laid-each, laid-pairs}
 use Rattle.matching.proofs.AheadLaws.{dearer, cheaper, dearer-strict, cheaper-strict, bids-ordered, asks-ordered}
 use Rattle.matching.proofs.MarginLaws.{Margins, margins}
@@ -78,6 +78,13 @@ module _ (period : ℕ) (os : List Order) where
       go : (b : Bool) → eqb (volume period os) 0 ≡ b → P (cond b [] (bidFills (volume period os) (bidMargin period os) (bids period os))) (cond b [] (askFills (volume period os) (askMargin period os) (asks period os)))
       go true e = h (eqb-true (volume period os) 0 e)
       go false e = let n = eqb-false (volume period os) 0 e in k (omega arith)
+
+  pub fills-are : 0 < volume period os
+      → (bidFillsOf period os ≡ bidFills (volume period os) (bidMargin period os) (bids period os)) × (askFillsOf period os ≡ askFills (volume period os) (askMargin period os) (asks period os))
+  fills-are pos =
+      fills-case
+      (λ F H. (F ≡ bidFills (volume period os) (bidMargin period os) (bids period os)) × (H ≡ askFills (volume period os) (askMargin period os) (asks period os)))
+      (λ z. absurd (omega arith)) (λ _. (refl, refl))
 
   pub margins-of : 0 < volume period os → Margins (bids period os) (asks period os) (volume period os) (bidMargin period os) (askMargin period os)
   margins-of pos = margins (bids period os) (asks period os) (bids-ordered period os) (asks-ordered period os) pos

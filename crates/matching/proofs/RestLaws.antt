@@ -1,20 +1,38 @@
 -- What stands open after a period is cleared, in the trade's words.
-use Prim.Native.Nat.{ℕ, zero, suc, _+_, _-_, _<_, _≤_, min}
-use mathlib.Core.Path.{_≡_, refl, sym, ap, _∙_}
-use mathlib.Core.Bool.{Bool, true, false, cond, not, _&&_}
-use mathlib.Core.List.{List, [], _∷_, _++_}
+use Prim.Native.Nat.{ℕ, _+_, _<_}
+use mathlib.Core.Path.{_≡_, refl, ap}
+use mathlib.Core.Bool.{Bool, true, false, not, _&&_}
+use mathlib.Core.List.{List, _++_}
 use native.Mathlib.Omega.{arith}
 use lib.Dec.{eqb}
 use Rattle.measures.specs.Lists.{sumOf, keep}
 use Rattle.measures.proofs.ListLaws.{and-right, and-left-false}
-use Rattle.matching.specs.Orders.{Order, Row, quantities, numbers, rising, buys, sells, bids, asks, bidAhead, askAhead, leaving, less}
-use Rattle.matching.specs.Clearing.{Fill, afterFills, bidFills, askFills, clearPeriod}
-use Rattle.matching.proofs.EachLaws.{Each, Has, each-map, each-append, has-each, keep-nothing, keep-ext}
+use Rattle.matching.specs.Orders.{Order, quantities, numbers, rising, buys, sells, bids, asks, leaving, less}
+use Rattle.matching.specs.Clearing.{Fill, afterFills, clearPeriod}
+use Rattle.matching.proofs.EachLaws.{Each, Has, each-map, each-append, keep-nothing, keep-ext}
 use Rattle.matching.proofs.FillLaws.{amounts}
-use Rattle.matching.proofs.LessenLaws.{Numbered, rising-numbered, numbered-rising}
-use Rattle.matching.proofs.AfterLaws.{Due, after-numbered, after-each, after-stay, after-open, fills-append}
-use Rattle.matching.proofs.PeriodLaws.{isBid, isAsk, volume, bidMargin, askMargin, bidFillsOf, askFillsOf, cleared-orders, fills-case, margins-of, bids-are, asks-are, bid-fills-each, ask-fills-each, bid-fills-stand, ask-fills-stand, not-both, clear-due}
+use Rattle.matching.proofs.LessenLaws.{rising-numbered, numbered-rising}
+use Rattle.matching.proofs.AfterLaws.{after-numbered, after-each, after-stay, after-open, fills-append}
+use Rattle.matching.proofs.PeriodLaws.{isBid, isAsk, bidFillsOf, askFillsOf, cleared-orders, bids-are, asks-are, bid-fills-each, ask-fills-each, bid-fills-stand, ask-fills-stand, not-both, clear-due}
 use Rattle.matching.proofs.ClearingLaws.{rows-by-unit}
+
+is-no : (b : Bool) → (b ≡ true → ⊥) → b ≡ false
+is-no true h = absurd (h refl)
+is-no false h = refl
+
+-- a unit's fills among those of a kind, and among those of another
+module _ (kind : Order → Bool) (u : ℕ) (fs : List Fill) where
+  own-fills : Each (λ f. kind (f .order) ≡ true) fs → amounts (keep (λ f. kind (f .order) && eqb (f .order .unit) u) fs) ≡ amounts (keep (λ f. eqb (f .order .unit) u) fs)
+  own-fills e =
+      ap amounts
+      (keep-ext (λ f. kind (f .order) && eqb (f .order .unit) u) (λ f. eqb (f .order .unit) u) fs
+      (each-map (λ f. kind (f .order) ≡ true) (λ f. (kind (f .order) && eqb (f .order .unit) u) ≡ eqb (f .order .unit) u) fs (λ f b. ap (λ (t : Bool). t && eqb (f .order .unit) u) b) e))
+
+  no-fills : Each (λ f. kind (f .order) ≡ false) fs → amounts (keep (λ f. kind (f .order) && eqb (f .order .unit) u) fs) ≡ 0
+  no-fills e =
+      ap amounts
+      (keep-nothing (λ f. kind (f .order) && eqb (f .order .unit) u) fs
+      (each-map (λ f. kind (f .order) ≡ false) (λ f. (kind (f .order) && eqb (f .order .unit) u) ≡ false) fs (λ f b. and-left-false (kind (f .order)) (eqb (f .order .unit) u) b) e))
 
 module _ (period : ℕ) (os : List Order) where
   -- rising numbers stay rising
@@ -69,41 +87,26 @@ module _ (period : ℕ) (os : List Order) where
       → quantities (keep (λ o. isBid period o && eqb (o .unit) u) (clearPeriod period os .orders)) + amounts (keep (λ f. eqb (f .order .unit) u) (bidFillsOf period os))
       ≡ quantities (keep (λ o. isBid period o && eqb (o .unit) u) os)
   bids-less-fills u e =
-      let g : Order → Bool = λ o. isBid period o && eqb (o .unit) u in
-      let own : keep (λ f. g (f .order)) (bidFillsOf period os) ≡ keep (λ f. eqb (f .order .unit) u) (bidFillsOf period os) =
-      keep-ext (λ f. g (f .order)) (λ f. eqb (f .order .unit) u) (bidFillsOf period os)
-      (bid-fills-each period os (λ o. g o ≡ eqb (o .unit) u) (each-map (λ o. isBid period o ≡ true) (λ o. g o ≡ eqb (o .unit) u) (bids period os) (λ o b. ap (λ (t : Bool). t && eqb (o .unit) u) b) (bids-are period os))) in
-      let none : keep (λ f. g (f .order)) (askFillsOf period os) ≡ [] =
-      keep-nothing (λ f. g (f .order)) (askFillsOf period os)
-      (ask-fills-each period os (λ o. g o ≡ false) (each-map (λ o. isAsk period o ≡ true) (λ o. g o ≡ false) (asks period os) (λ o a. and-left-false (isBid period o) (eqb (o .unit) u) (no-bid o (isBid period o) refl a)) (asks-are period os))) in
-      let a = open-less-fills g (λ o q. refl) e in
-      let b : amounts (keep (λ f. g (f .order)) (bidFillsOf period os)) ≡ amounts (keep (λ f. eqb (f .order .unit) u) (bidFillsOf period os)) = ap amounts own in
-      let c : amounts (keep (λ f. g (f .order)) (askFillsOf period os)) ≡ 0 = ap amounts none in
+      let a = open-less-fills (λ o. isBid period o && eqb (o .unit) u) (λ o q. refl) e in
+      let b = own-fills (isBid period) u (bidFillsOf period os) (bid-fills-each period os (λ o. isBid period o ≡ true) (bids-are period os)) in
+      let c = no-fills (isBid period) u (askFillsOf period os) (ask-fills-each period os (λ o. isBid period o ≡ false) (each-map (λ o. isAsk period o ≡ true) (λ o. isBid period o ≡ false) (asks period os) (λ o h. is-no (isBid period o) (λ k. not-both period os o k h)) (asks-are period os))) in
       omega arith
-    where
-      no-bid : (o : Order) (t : Bool) → isBid period o ≡ t → isAsk period o ≡ true → isBid period o ≡ false
-      no-bid o true h a = absurd (not-both period os o h a)
-      no-bid o false h a = h
 
   pub asks-less-fills : (u : ℕ) → rising (numbers os) ≡ true
       → quantities (keep (λ o. isAsk period o && eqb (o .unit) u) (clearPeriod period os .orders)) + amounts (keep (λ f. eqb (f .order .unit) u) (askFillsOf period os))
       ≡ quantities (keep (λ o. isAsk period o && eqb (o .unit) u) os)
   asks-less-fills u e =
-      let g : Order → Bool = λ o. isAsk period o && eqb (o .unit) u in
-      let own : keep (λ f. g (f .order)) (askFillsOf period os) ≡ keep (λ f. eqb (f .order .unit) u) (askFillsOf period os) =
-      keep-ext (λ f. g (f .order)) (λ f. eqb (f .order .unit) u) (askFillsOf period os)
-      (ask-fills-each period os (λ o. g o ≡ eqb (o .unit) u) (each-map (λ o. isAsk period o ≡ true) (λ o. g o ≡ eqb (o .unit) u) (asks period os) (λ o b. ap (λ (t : Bool). t && eqb (o .unit) u) b) (asks-are period os))) in
-      let none : keep (λ f. g (f .order)) (bidFillsOf period os) ≡ [] =
-      keep-nothing (λ f. g (f .order)) (bidFillsOf period os)
-      (bid-fills-each period os (λ o. g o ≡ false) (each-map (λ o. isBid period o ≡ true) (λ o. g o ≡ false) (bids period os) (λ o b. and-left-false (isAsk period o) (eqb (o .unit) u) (no-ask o (isAsk period o) refl b)) (bids-are period os))) in
-      let a = open-less-fills g (λ o q. refl) e in
-      let b : amounts (keep (λ f. g (f .order)) (askFillsOf period os)) ≡ amounts (keep (λ f. eqb (f .order .unit) u) (askFillsOf period os)) = ap amounts own in
-      let c : amounts (keep (λ f. g (f .order)) (bidFillsOf period os)) ≡ 0 = ap amounts none in
+      let a = open-less-fills (λ o. isAsk period o && eqb (o .unit) u) (λ o q. refl) e in
+      let b = own-fills (isAsk period) u (askFillsOf period os) (ask-fills-each period os (λ o. isAsk period o ≡ true) (asks-are period os)) in
+      let c = no-fills (isAsk period) u (bidFillsOf period os) (bid-fills-each period os (λ o. isAsk period o ≡ false) (each-map (λ o. isBid period o ≡ true) (λ o. isAsk period o ≡ false) (bids period os) (λ o h. is-no (isAsk period o) (λ k. not-both period os o h k)) (bids-are period os))) in
       omega arith
-    where
-      no-ask : (o : Order) (t : Bool) → isAsk period o ≡ t → isBid period o ≡ true → isAsk period o ≡ false
-      no-ask o true h b = absurd (not-both period os o b h)
-      no-ask o false h b = h
+
+  pub orders-less-fills : (u : ℕ) → rising (numbers os) ≡ true
+      → (quantities (keep (λ o. isBid period o && eqb (o .unit) u) (clearPeriod period os .orders)) + amounts (keep (λ f. eqb (f .order .unit) u) (bidFillsOf period os))
+      ≡ quantities (keep (λ o. isBid period o && eqb (o .unit) u) os))
+      × (quantities (keep (λ o. isAsk period o && eqb (o .unit) u) (clearPeriod period os .orders)) + amounts (keep (λ f. eqb (f .order .unit) u) (askFillsOf period os))
+      ≡ quantities (keep (λ o. isAsk period o && eqb (o .unit) u) os))
+  orders-less-fills u e = (bids-less-fills u e, asks-less-fills u e)
 
   -- and so by exactly the rows in which it buys, or sells
   pub bids-less-rows : (u : ℕ) → rising (numbers os) ≡ true
