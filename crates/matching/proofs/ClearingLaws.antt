@@ -12,7 +12,7 @@ use Rattle.matching.specs.Clearing.{bidFills, askFills, endToEnd, overla
 use Rattle.matching.proofs.EachLaws.{Each, Has, each-both, each-all, keep-sum}
 use Rattle.matching.proofs.AheadLaws.{dearer, cheaper}
 use Rattle.matching.proofs.FillLaws.{amounts, Fits, side-sum, side-fits, side-prices}
-use Rattle.matching.proofs.OverlapLaws.{rows-each, rows-bought, rows-sold, rows-total, spans-each}
+use Rattle.matching.proofs.RowSumLaws.{rows-each, rows-bought, rows-sold, rows-total, spans-each}
 use Rattle.matching.proofs.PeriodLaws.{isBid, isAsk, volume, bidMargin, askMargin, priceOf, bidFillsOf, askFillsOf, cleared-rows, fills-case, margins-of, bids-are, asks-are, bid-fills-each, ask-fills-each, bid-fills-stand, ask-fills-stand}
 
 module _ (period : ℕ) (os : List Order) where

@@ -8,7 +8,7 @@ pub mod WalkLaws
 pub mod MarginLaws
 pub mod FillLaws
 pub mod SumLaws
-pub mod OverlapLaws
+pub mod RowSumLaws
 pub mod LessenLaws
 pub mod AfterLaws
 pub mod SideLaws
