@@ -14,4 +14,5 @@ pub mod CandidateLaws
 pub mod CounterpartLaws
 pub mod TakeOffLaws
 pub mod MeetingLaws
+pub mod RollingLaws
 pub mod FiguresHold
