@@ -1,5 +1,6 @@
 pub mod OrderLaws
 pub mod RowLaws
+pub mod FitLaws
 pub mod EachLaws
 pub mod LaidLaws
 pub mod AheadLaws
@@ -16,4 +17,9 @@ pub mod PeriodLaws
 pub mod ClearingLaws
 pub mod RestLaws
 pub mod CrossLaws
+pub mod CandidateLaws
+pub mod CounterpartLaws
+pub mod TakeOffLaws
+pub mod MeetingLaws
+pub mod RollingLaws
 pub mod FiguresHold
