@@ -2,12 +2,13 @@
 use Prim.Native.Nat.{ℕ, _+_, _*_, _≤_}
 use mathlib.Core.Path.{_≡_}
 use mathlib.Core.Bool.{Bool, true, false, not, _&&_, _||_}
-use mathlib.Core.List.{List, [], _∷_}
+use mathlib.Core.List.{List, [], _∷_, map}
 use lib.ListN.{length, getD}
 use lib.Dec.{eqb, leb}
 use Rattle.measures.specs.Lists.{holds, every, all}
 use Rattle.limits.specs.Units.{mostDays, periods, kindIn, capacityIn, assetIn}
-use Rattle.book.specs.Book.{Figures, Book, known, unitOf}
+use Rattle.matching.specs.Orders.{Order as OpenOrder}
+use Rattle.book.specs.Book.{Figures, OpenOffer, Book, known, unitOf}
 use Rattle.book.specs.Fit.{Declaration, hourFits, termFits, volumeFits}
 use Rattle.book.specs.Sound.{bilateralSides, offerIn, orderIn}
 use Rattle.book.specs.Refusals.{check, firstOf}
@@ -62,3 +63,14 @@ misfitOf b u d =
 pub record Fitted (b : Book) (u : ℕ) (d : Declaration) (r : ℕ) : Type 0 where
   pub clean : waysIn b u ≡ true → r ≡ misfitOf b u d
   pub dirty : waysIn b u ≡ false → r ≡ 0 → ⊥
+
+-- the numbers of the open offers
+abbrev pub offerNumbers : Book → List ℕ
+offerNumbers b = map (λ (o : OpenOffer). o .number) (b .offers)
+
+-- whether no open order has a number, and none an open offer's
+unfoldable pub numberFree : Book → ℕ → Bool
+numberFree b n = every (λ (o : OpenOrder). not (eqb n (o .number))) (b .orders)
+
+unfoldable pub numbersFree : Book → Bool
+numbersFree b = every (λ (f : OpenOffer). numberFree b (f .number)) (b .offers)
