@@ -1,3 +1,4 @@
 pub mod RangeFacts
 pub mod NumberLaws
+pub mod PairLaws
 pub mod FiguresHold

@@ -8,9 +8,9 @@ use lib.Dec.{eqb, leb}
 use Rattle.measures.specs.Lists.{holds, every, all}
 use Rattle.limits.specs.Units.{mostDays, periods, kindIn, capacityIn, assetIn}
 use Rattle.matching.specs.Orders.{Order as OpenOrder}
-use Rattle.book.specs.Book.{Figures, OpenOffer, Book, known, unitOf}
+use Rattle.book.specs.Book.{Figures, OpenOffer, Book, rollingPhase, known, unitOf}
 use Rattle.book.specs.Fit.{Declaration, hourFits, termFits, volumeFits}
-use Rattle.book.specs.Sound.{bilateralSides, offerIn, orderIn}
+use Rattle.book.specs.Sound.{bilateralSides, offerIn, orderIn, oneWay, apart, eachTwo}
 use Rattle.book.specs.Refusals.{check, firstOf}
 use Rattle.book.specs.Opening.{bookWords}
 use Rattle.book.specs.Layout.{word, decode}
@@ -74,3 +74,10 @@ numberFree b n = every (λ (o : OpenOrder). not (eqb n (o .number))) (b .orders)
 
 unfoldable pub numbersFree : Book → Bool
 numbersFree b = every (λ (f : OpenOffer). numberFree b (f .number)) (b .offers)
+
+-- whether two orders may stand together in a phase, and whether all of a list may
+unfoldable pub pairFits : ℕ → OpenOrder → OpenOrder → Bool
+pairFits phase a b = oneWay a b && (not (eqb phase rollingPhase) || (apart a b && apart b a))
+
+unfoldable pub pairsFit : ℕ → List OpenOrder → Bool
+pairsFit phase os = eachTwo oneWay os && (not (eqb phase rollingPhase) || eachTwo apart os)
