@@ -2,4 +2,5 @@ pub mod RangeFacts
 pub mod NumberLaws
 pub mod PairLaws
 pub mod MadeLaws
+pub mod OpeningLaws
 pub mod FiguresHold
