@@ -9,3 +9,4 @@ pub mod OpenLaws
 pub mod KeepLaws
 pub mod DeclareLaws
 pub mod OfferLaws
+pub mod OrderingLaws
