@@ -10,3 +10,4 @@ pub mod KeepLaws
 pub mod DeclareLaws
 pub mod OfferLaws
 pub mod OrderingLaws
+pub mod TradeLaws
