@@ -11,3 +11,4 @@ pub mod DeclareLaws
 pub mod OfferLaws
 pub mod OrderingLaws
 pub mod TradeLaws
+pub mod TakeLaws
