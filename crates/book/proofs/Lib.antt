@@ -12,3 +12,4 @@ pub mod OfferLaws
 pub mod OrderingLaws
 pub mod TradeLaws
 pub mod TakeLaws
+pub mod TakingLaws
