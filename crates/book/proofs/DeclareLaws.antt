@@ -1,23 +1,22 @@
 -- A book with one offer or one order more.
-use Prim.Native.Nat.{ℕ, _+_, _≤_, _<_}
-use mathlib.Core.Path.{_≡_, refl, sym, ap, _∙_}
-use mathlib.Core.Bool.{Bool, true, false, cond, not, _&&_, _||_}
-use mathlib.Core.List.{List, [], _∷_, _++_, map}
+use Prim.Native.Nat.{ℕ, _≤_, _<_}
+use mathlib.Core.Path.{_≡_, refl}
+use mathlib.Core.Bool.{Bool, true, not, _&&_}
+use mathlib.Core.List.{List, [], _∷_, _++_}
 use native.Mathlib.Omega.{arith}
 use native.Mathlib.Decide.{ℕ-discrete}
 use lib.ListN.{length, length-append}
 use lib.Dec.{eqb}
-use borrow.Author.Tests.{eq-eqb, ne-eqb, eqb-false}
+use borrow.Author.Tests.{eq-eqb, ne-eqb}
 use Rattle.measures.specs.Lists.{every, Each}
-use Rattle.measures.proofs.RangeLaws.{In}
 use Rattle.measures.proofs.ListLaws.{and-true, and-left-false, and-right-false, or-left, or-right, not-fails}
-use Rattle.matching.specs.Orders.{Order as OpenOrder, numbers}
+use Rattle.matching.specs.Orders.{Order as OpenOrder}
 use Rattle.book.specs.Book.{OpenOffer, Book, rollingPhase, mostOffers, mostOrders, mostNumbers, unitOf, withOffers, withOrders, nextNumber, numbered}
 use Rattle.book.specs.Trades.{raises, lowers}
 use Rattle.book.specs.Fit.{openRaising, openLowering, Declaration}
 use Rattle.book.specs.Sound.{oneWay, apart, eachTwo}
-use Rattle.book.proofs.RemainLaws.{each-of, each-holds, each-imp, each-append, every-append, every-both, rising-append}
-use Rattle.book.proofs.SoundLaws.{HeadRanges, OfferRanges, OrderRanges, numbersApart, Formed}
+use Rattle.book.proofs.RemainLaws.{each-holds, each-imp, each-append, every-append, every-both, rising-append}
+use Rattle.book.proofs.SoundLaws.{HeadRanges, OfferRanges, OrderRanges, Formed}
 use Rattle.book.proofs.FitLaws.{Moved}
 use Rattle.book.proofs.OpenLaws.{offerOpens, orderOpens, offers-more, orders-more}
 use Rattle.book.proofs.FormedLaws.{same-offer, same-order, Names, offer-after, order-after}

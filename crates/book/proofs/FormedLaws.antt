@@ -1,22 +1,19 @@
 -- When offers and orders stay in their ranges, and a book keeps its form.
-use Prim.Native.Nat.{ℕ, _+_, _≤_, _<_}
-use mathlib.Core.Path.{_≡_, refl, sym, ap, _∙_}
-use mathlib.Core.Bool.{Bool, true, false, cond, not, _&&_, _||_}
-use mathlib.Core.List.{List, [], _∷_, _++_, map}
+use Prim.Native.Nat.{ℕ, _≤_, _<_}
+use mathlib.Core.Path.{_≡_, refl, ap, _∙_}
+use mathlib.Core.Bool.{Bool, true, not}
+use mathlib.Core.List.{List}
 use native.Mathlib.Omega.{arith}
-use lib.ListN.{length, getD, length-append}
-use lib.Dec.{eqb, ltb}
-use borrow.Author.Tests.{ne-eqb}
-use Rattle.measures.specs.Ranges.{mostEnergy}
+use lib.ListN.{length, getD}
+use lib.Dec.{eqb}
 use Rattle.measures.specs.Lists.{every, Each}
 use Rattle.measures.specs.Sharing.{total}
 use Rattle.measures.proofs.RangeLaws.{In}
-use Rattle.measures.proofs.ListLaws.{not-fails}
-use Rattle.limits.specs.Units.{periods, generator}
-use Rattle.matching.specs.Orders.{Order as OpenOrder, leaving, rising, numbers}
-use Rattle.book.specs.Book.{Unit, OpenOffer, Book, rollingPhase, mostUnits, mostOffers, mostOrders, mostNumbers, unitOf}
+use Rattle.limits.specs.Units.{generator}
+use Rattle.matching.specs.Orders.{Order as OpenOrder, leaving, numbers}
+use Rattle.book.specs.Book.{OpenOffer, Book, rollingPhase, mostUnits, mostNumbers, unitOf}
 use Rattle.book.specs.Sound.{oneWay, apart, eachTwo}
-use Rattle.book.proofs.RemainLaws.{each-of, each-holds, each-imp, each-append, every-append, rising-append, Remains, remains-each, remains-every, remains-length, remains-rising}
+use Rattle.book.proofs.RemainLaws.{Remains, remains-each, remains-every, remains-length, remains-rising}
 use Rattle.book.proofs.SoundLaws.{HeadRanges, UnitRanges, Sides, OfferRanges, OrderRanges, numbersApart, Formed}
 
 -- an offer with other amounts left

@@ -13,3 +13,4 @@ pub mod OrderingLaws
 pub mod TradeLaws
 pub mod TakeLaws
 pub mod TakingLaws
+pub mod CallLaws

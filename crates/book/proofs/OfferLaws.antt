@@ -1,11 +1,11 @@
 -- Offer leaves a sound book.
-use Prim.Native.Nat.{ℕ, _+_, _≤_, _<_}
-use mathlib.Core.Path.{_≡_, refl, sym, ap, _∙_}
-use mathlib.Core.Bool.{Bool, true, false, cond, not, _&&_}
+use Prim.Native.Nat.{ℕ, _<_}
+use mathlib.Core.Path.{_≡_, refl}
+use mathlib.Core.Bool.{true, not, _&&_}
 use mathlib.Core.List.{List, [], _∷_}
 use native.Mathlib.Omega.{arith}
 use native.Mathlib.Decide.{ℕ-discrete}
-use lib.ListN.{length, getD}
+use lib.ListN.{length}
 use lib.Dec.{eqb}
 use borrow.Author.Tests.{leb-false, eqb-true, eq-eqb, ne-eqb, not-false}
 use Rattle.measures.specs.Ranges.{mostEnergy}
@@ -14,14 +14,13 @@ use Rattle.measures.proofs.RangeLaws.{In, within}
 use Rattle.measures.proofs.ListLaws.{and-left, and-right, not-holds}
 use Rattle.limits.specs.Units.{periods, generator}
 use Rattle.book.specs.Book.{OpenOffer, Book, mostOffers, mostNumbers, known, unitOf, nextNumber}
-use Rattle.book.specs.Fit.{Declaration, nothing}
+use Rattle.book.specs.Fit.{nothing}
 use Rattle.book.specs.Sound.{energyIn, bilateralSides, sound}
 use Rattle.book.specs.Refusals.{accepted, unsound, unknownUnit, unknownPartner, badPrice, badAmounts, wrongPartner, offersFull, numbersUsed, hourMisfit, termMisfit, volumeMisfit}
-use Rattle.book.specs.Offer.{raisingAmounts, offerRefusal, offered, offering}
+use Rattle.book.specs.Offer.{raisingAmounts, offerRefusal, offering}
 use Rattle.book.proofs.FitLaws.{Fits, fits-with, fits-after}
 use Rattle.book.proofs.SoundLaws.{Sides, OfferRanges, Sound, sound-facts, sound-holds}
 use Rattle.book.proofs.RefusalLaws.{NoneApplies, none-applies, decided-sound, second-passed}
-use Rattle.book.proofs.OpenLaws.{offerOpens}
 use Rattle.book.proofs.DeclareLaws.{withOffer, formed-offer, moved-offer}
 
 module _ (b : Book) (unit partner price : ℕ) (amounts : List ℕ) where

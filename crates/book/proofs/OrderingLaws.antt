@@ -1,6 +1,6 @@
 -- Order in the call phase leaves a sound book; what an accepted order passed, in either phase.
-use Prim.Native.Nat.{ℕ, suc, _+_, _≤_, _<_}
-use mathlib.Core.Path.{_≡_, refl, sym, ap, _∙_}
+use Prim.Native.Nat.{ℕ, _≤_, _<_}
+use mathlib.Core.Path.{_≡_, refl, sym}
 use mathlib.Core.Bool.{Bool, true, false, cond, not, _&&_, _||_}
 use mathlib.Core.List.{List, [], _∷_}
 use native.Mathlib.Omega.{arith}
@@ -13,17 +13,16 @@ use Rattle.measures.specs.Lists.{Each, keep}
 use Rattle.measures.proofs.RangeLaws.{In, within}
 use Rattle.measures.proofs.ListLaws.{and-true, not-both}
 use Rattle.matching.specs.Orders.{Order as OpenOrder, sells}
-use Rattle.book.specs.Book.{Book, callPhase, rollingPhase, mostOrders, mostNumbers, unitOf, figuresOf, nextNumber}
+use Rattle.book.specs.Book.{Book, callPhase, mostOrders, mostNumbers, unitOf, figuresOf}
 use Rattle.book.specs.Trades.{raises, lowers}
-use Rattle.book.specs.Fit.{Declaration, nothing}
+use Rattle.book.specs.Fit.{nothing}
 use Rattle.book.specs.Sound.{oneWay, sound}
 use Rattle.book.specs.Refusals.{accepted, ordersIn, unsound, unknownUnit, fewRows, badPrice, badQuantity, badPeriod, badDirection, otherDirection, twoOpen, ordersFull, numbersUsed, hourMisfit, termMisfit, volumeMisfit}
-use Rattle.book.specs.Order.{orderDeclares, orderRefusal, newOrder, orderedInCall, orderedInRolling, ordering}
+use Rattle.book.specs.Order.{orderDeclares, orderRefusal, newOrder, ordering}
 use Rattle.book.proofs.RemainLaws.{each-holds}
 use Rattle.book.proofs.FitLaws.{Fits, fits-with, fits-after}
 use Rattle.book.proofs.SoundLaws.{OrderRanges, Sound, sound-facts, sound-holds}
 use Rattle.book.proofs.RefusalLaws.{NoneApplies, none-applies, decided-sound}
-use Rattle.book.proofs.OpenLaws.{orderOpens}
 use Rattle.book.proofs.DeclareLaws.{withOrder, Beside, same-way, formed-order, moved-order}
 
 -- an order of unit u in period p goes the way d

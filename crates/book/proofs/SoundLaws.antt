@@ -2,14 +2,14 @@
 use Prim.Native.Nat.{ℕ, _+_, _-_, _≤_, _<_}
 use mathlib.Core.Path.{_≡_, ap}
 use mathlib.Core.Bool.{Bool, true, false, not, _&&_, _||_}
-use mathlib.Core.List.{List, [], _∷_, map}
+use mathlib.Core.List.{List, map}
 use native.Mathlib.Omega.{arith}
 use native.Mathlib.Decide.{ℕ-discrete}
 use lib.ListN.{length}
-use lib.Dec.{eqb, leb, ltb}
+use lib.Dec.{eqb, leb}
 use borrow.Author.Tests.{leb-true, le-leb, eqb-true, eq-eqb, ne-eqb, ltb-true, lt-ltb}
-use Rattle.measures.specs.Ranges.{between, mostEnergy, mostPrice}
-use Rattle.measures.specs.Lists.{holds, every, Each, all}
+use Rattle.measures.specs.Ranges.{mostEnergy, mostPrice}
+use Rattle.measures.specs.Lists.{every, Each, all}
 use Rattle.measures.specs.Sharing.{total}
 use Rattle.measures.proofs.RangeLaws.{In, inside, within}
 use Rattle.measures.proofs.ListLaws.{and-true, and-left, and-right, or-left, or-right, or-other, not-holds, not-fails, all-true, holds-all, all-at, all-by}

@@ -9,7 +9,7 @@ use native.Mathlib.Decide.{ℕ-discrete}
 use lib.ListN.{length, getD}
 use lib.Dec.{eqb}
 use borrow.Author.Tests.{eq-eqb, ne-eqb, eqb-true, eqb-false}
-use Rattle.measures.specs.Lists.{sumOf, Each, keep}
+use Rattle.measures.specs.Lists.{Each, keep}
 use Rattle.measures.specs.Sharing.{total}
 use Rattle.measures.proofs.ListLaws.{both-ways, and-right-false}
 use Rattle.measures.proofs.SharingLaws.{Within}
@@ -20,8 +20,7 @@ use Rattle.book.specs.Fit.{openOffers}
 use Rattle.book.specs.Take.{takeRowsFrom, takeRows, wayOf, lessEach, offerLess, offersLess}
 use Rattle.book.proofs.RemainLaws.{Remains, gone, kept, ended, remains-all}
 use Rattle.book.proofs.FormedLaws.{LessOffer, same-offer}
-use Rattle.book.proofs.OpenLaws.{offerOpens}
-use Rattle.book.proofs.TradeLaws.{rowTrades, tradedBy, sold, bought, rowsRaise, rowsLower, Named}
+use Rattle.book.proofs.TradeLaws.{tradedBy, sold, bought, rowsRaise, rowsLower, Named}
 
 -- each row of a take names its two units
 pub take-named : (k way s t price : ℕ) (ps : List ℕ) → 1 ≤ s → 1 ≤ t → Each Named (takeRowsFrom k way s t price ps)

@@ -9,16 +9,16 @@ use lib.ListN.{length, getD}
 use lib.Dec.{eqb, leb}
 use borrow.Author.Tests.{leb-true, ltb-true, eqb-true, eqb-false, eq-eqb, ne-eqb, not-false}
 use Rattle.measures.specs.Ranges.{mostEnergy}
-use Rattle.measures.specs.Lists.{Each, keep}
+use Rattle.measures.specs.Lists.{Each}
 use Rattle.measures.specs.Sharing.{total, parts}
 use Rattle.measures.proofs.RangeLaws.{In, within}
 use Rattle.measures.proofs.ListLaws.{both-ways, and-left, and-right}
-use Rattle.measures.proofs.SharingLaws.{Within, no-part-exceeds}
+use Rattle.measures.proofs.SharingLaws.{no-part-exceeds}
 use Rattle.limits.specs.Units.{periods, generator}
-use Rattle.matching.specs.Orders.{Order as OpenOrder, Row}
-use Rattle.book.specs.Book.{Figures, Unit, noUnit, OpenOffer, noOffer, Book, unitOf, figuresOf, offersOf, offerOf, withUnits, withOffers}
-use Rattle.book.specs.Trades.{raises, lowers, rowsBooked}
-use Rattle.book.specs.Fit.{openOffers, openOrders, openRaising, openLowering, Declaration, nothing}
+use Rattle.matching.specs.Orders.{Row}
+use Rattle.book.specs.Book.{noUnit, OpenOffer, noOffer, Book, unitOf, figuresOf, offersOf, offerOf, withUnits, withOffers}
+use Rattle.book.specs.Trades.{rowsBooked}
+use Rattle.book.specs.Fit.{openOffers, openRaising, openLowering, Declaration, nothing}
 use Rattle.book.specs.Sound.{sound}
 use Rattle.book.specs.Refusals.{accepted, sameSide, canTake, unsound, unknownUnit, fewRows, badQuantity, noSuchOffer, cannotTake, hourMisfit, termMisfit, volumeMisfit}
 use Rattle.book.specs.Offer.{raisingAmounts}
@@ -27,7 +27,7 @@ use Rattle.book.proofs.RemainLaws.{each-at, remains-all, remains-keep, 
 use Rattle.book.proofs.FitLaws.{Fits, fits-with, Moved, fits-after}
 use Rattle.book.proofs.SoundLaws.{UnitRanges, OfferRanges, Sound, sound-facts, sound-holds}
 use Rattle.book.proofs.RefusalLaws.{NoneApplies, none-applies, decided-sound}
-use Rattle.book.proofs.FormedLaws.{LessOffer, LessOrder, same-order, Remaining, formed-remaining}
+use Rattle.book.proofs.FormedLaws.{LessOrder, same-order, Remaining, formed-remaining}
 use Rattle.book.proofs.TradeLaws.{Kept, kept-rows, Grown, grown-rows}
 use Rattle.book.proofs.TakeLaws.{offers-remain, offers-fall, rows-named, take-raises}
 

@@ -2,9 +2,8 @@
 use Prim.Native.Nat.{ℕ, zero, suc, _+_, _-_, _≤_, _<_}
 use mathlib.Core.Path.{_≡_, refl, sym, ap, _∙_}
 use mathlib.Core.Bool.{Bool, true, false, cond, _&&_}
-use mathlib.Core.List.{List, [], _∷_, _++_}
+use mathlib.Core.List.{List, [], _∷_}
 use native.Mathlib.Omega.{arith}
-use native.Mathlib.Nat.{not-suc-le-zero}
 use native.Mathlib.Decide.{ℕ-discrete, decLt}
 use lib.ListN.{length, getD, set, length-set}
 use lib.Seq.{getD-set-same, getD-set-other, set-out}
@@ -15,7 +14,7 @@ use Rattle.measures.proofs.RangeLaws.{In}
 use Rattle.limits.specs.Units.{generator}
 use Rattle.matching.specs.Orders.{Row}
 use Rattle.book.specs.Book.{Figures, noFigures, Unit, noUnit, Book, unitOf, figuresOf, withUnits}
-use Rattle.book.specs.Trades.{wayAfter, traded, unitTraded, booked, rowBooked, rowsBooked}
+use Rattle.book.specs.Trades.{traded, unitTraded, booked, rowBooked, rowsBooked}
 use Rattle.book.proofs.RemainLaws.{each-at}
 use Rattle.book.proofs.SoundLaws.{UnitRanges}
 
