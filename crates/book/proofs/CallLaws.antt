@@ -43,5 +43,6 @@ module _
     calls-sound b [] e = e
     calls-sound b (c ∷ cs) e = calls-sound (outcome b c .book) cs (outcome-sound b c e)
 
-    pub every-book-sound : (words days floor ceiling : ℕ) (cs : List Call) → openingRefusal words days floor ceiling ≡ 0 → sound (bookAfter (fresh days floor ceiling) cs) ≡ true
+    pub every-book-sound : (words days floor ceiling : ℕ) (cs : List Call) → openingRefusal words days floor ceiling ≡ 0
+        → sound (bookAfter (fresh days floor ceiling) cs) ≡ true
     every-book-sound words days floor ceiling cs z = calls-sound (fresh days floor ceiling) cs (fresh-sound words days floor ceiling z)

@@ -63,7 +63,8 @@ fresh-sound words days floor ceiling e =
     })
 
 -- declarations that go or lessen leave a sound book
-pub fewer-sound : (b : Book) (fs : List OpenOffer) (os : List OpenOrder) → Remains LessOffer fs (b .offers) → Remains LessOrder os (b .orders) → sound b ≡ true → sound (withOrders (withOffers b fs) os) ≡ true
+pub fewer-sound : (b : Book) (fs : List OpenOffer) (os : List OpenOrder) → Remains LessOffer fs (b .offers) → Remains LessOrder os (b .orders) → sound b ≡ true
+    → sound (withOrders (withOffers b fs) os) ≡ true
 fewer-sound b fs os p q e =
     sound-holds after (record {
       formed = formed-remaining b after left (s .formed);
@@ -177,8 +178,11 @@ module _ (b : Book) (kind capacity asset : ℕ) where
                 given = f .head .given;
                 most = omega (arith, one-more);
                 units =
-                    each-append (UnitRanges (b .days)) (b .units) (newcomer ∷ []) (f .units)
-                    (newcomer-ranges (within 1 4 kind (not-false _ (passed .1 .0))) (within 1 mostCapacity capacity (and-left (capacityIn capacity) (assetIn asset) sizes)) (leb-true _ _ (and-right (capacityIn capacity) (assetIn asset) sizes)), tt);
+                    each-append (UnitRanges (b .days)) (b .units) (newcomer ∷ []) (f .units) (
+                      newcomer-ranges (within 1 4 kind (not-false _ (passed .1 .0))) (within 1 mostCapacity capacity (and-left (capacityIn capacity) (assetIn asset) sizes))
+                          (leb-true _ _ (and-right (capacityIn capacity) (assetIn asset) sizes)),
+                      tt,
+                    );
                 offers = remains-all LessOffer same-offer (b .offers);
                 orders = remains-all LessOrder same-order (b .orders);
                 apart = f .apart;

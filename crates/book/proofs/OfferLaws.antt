@@ -14,7 +14,7 @@ use Rattle.measures.proofs.RangeLaws.{In, within}
 use Rattle.measures.proofs.ListLaws.{and-left, and-right, not-holds}
 use Rattle.limits.specs.Units.{periods, generator}
 use Rattle.book.specs.Book.{OpenOffer, Book, mostOffers, mostNumbers, known, unitOf, nextNumber}
-use Rattle.book.specs.Fit.{nothing}
+use Rattle.book.specs.Fit.{Declaration, nothing}
 use Rattle.book.specs.Sound.{energyIn, bilateralSides, sound}
 use Rattle.book.specs.Refusals.{accepted, unsound, unknownUnit, unknownPartner, badPrice, badAmounts, wrongPartner, offersFull, numbersUsed, hourMisfit, termMisfit, volumeMisfit}
 use Rattle.book.specs.Offer.{raisingAmounts, offerRefusal, offering}
@@ -54,7 +54,12 @@ module _ (b : Book) (unit partner price : ℕ) (amounts : List ℕ) where
             (not-false _ (t .1 .1 .1 .1 .1 .1 .1 .1 .1 .1 .0));
       }
     where
-      t : NoneApplies (unsound b ∷ unknownUnit b unit ∷ unknownPartner b partner ∷ badPrice b price ∷ badAmounts b amounts ∷ wrongPartner b unit partner ∷ offersFull b ∷ numbersUsed b ∷ hourMisfit b unit (raisingAmounts amounts) ∷ termMisfit b unit (raisingAmounts amounts) ∷ volumeMisfit b unit (raisingAmounts amounts) ∷ [])
+      d : Declaration
+      d = raisingAmounts amounts
+
+      t : NoneApplies
+          (unsound b ∷ unknownUnit b unit ∷ unknownPartner b partner ∷ badPrice b price ∷ badAmounts b amounts ∷ wrongPartner b unit partner
+          ∷ offersFull b ∷ numbersUsed b ∷ hourMisfit b unit d ∷ termMisfit b unit d ∷ volumeMisfit b unit d ∷ [])
       t = none-applies _ (omega arith) z
 
       named : In 1 (length (b .units)) unit
@@ -89,5 +94,7 @@ module _ (b : Book) (unit partner price : ℕ) (amounts : List ℕ) where
           }
         where
           fit : (v : ℕ) → In 1 (length (b .units)) v → Dec (unit ≡ v) → Fits (withOffer b newOffer) v nothing
-          fit v i (yes q) = fits-after b (withOffer b newOffer) v (raisingAmounts amounts) (moved-offer b v (raisingAmounts amounts) newOffer (λ p. rw (eq-eqb unit v q) (omega arith))) (rw q at (a .fits))
+          fit v i (yes q) =
+              fits-after b (withOffer b newOffer) v (raisingAmounts amounts)
+              (moved-offer b v (raisingAmounts amounts) newOffer (λ p. rw (eq-eqb unit v q) (omega arith))) (rw q at (a .fits))
           fit v i (no q) = fits-after b (withOffer b newOffer) v nothing (moved-offer b v nothing newOffer (λ p. rw (ne-eqb unit v q) (omega arith))) (s .fits v i)

@@ -214,9 +214,12 @@ module _ (b : Book) (o : OpenOrder) where
         ),
       )
 
--- whether no offer has the number of an order
+-- whether an order has another number, and whether no offer has the number of an order
+abbrev pub otherNumber : ℕ → OpenOrder → Bool
+otherNumber n o = not (eqb n (o .number))
+
 abbrev pub numbersApart : List OpenOffer → List OpenOrder → Bool
-numbersApart fs os = every (λ (f : OpenOffer). every (λ (o : OpenOrder). not (eqb (f .number) (o .number))) os) fs
+numbersApart fs os = every (λ (f : OpenOffer). every (otherNumber (f .number)) os) fs
 
 -- all that a sound book is, but for the limits
 pub record Formed (b : Book) : Type 0 where
