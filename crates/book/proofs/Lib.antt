@@ -4,3 +4,17 @@ pub mod PairLaws
 pub mod MadeLaws
 pub mod OpeningLaws
 pub mod FiguresHold
+pub mod RemainLaws
+pub mod FitLaws
+pub mod SoundLaws
+pub mod RefusalLaws
+pub mod FormedLaws
+pub mod OpenLaws
+pub mod KeepLaws
+pub mod DeclareLaws
+pub mod OfferLaws
+pub mod OrderingLaws
+pub mod TradeLaws
+pub mod TakeLaws
+pub mod TakingLaws
+pub mod CallLaws
