@@ -3,7 +3,7 @@ use Prim.Native.Nat.{ℕ, _+_, _*_, _≤_, _<_}
 use mathlib.Core.Path.{_≡_}
 use mathlib.Core.Bool.{Bool, true, false, not, _&&_, _||_}
 use mathlib.Core.List.{List, [], _∷_, map}
-use lib.ListN.{length, getD}
+use lib.ListN.{length, getD, set}
 use lib.Dec.{eqb, leb}
 use Rattle.measures.specs.Lists.{holds, every, all}
 use Rattle.limits.specs.Units.{mostDays, mostCapacity, periods, kindIn, capacityIn, assetIn}
@@ -13,7 +13,7 @@ use Rattle.book.specs.Fit.{Declaration, hourFits, termFits, volumeFits}
 use Rattle.book.specs.Sound.{bilateralSides, offerIn, orderIn, oneWay, apart, eachTwo}
 use Rattle.book.specs.Refusals.{check, firstOf}
 use Rattle.book.specs.Opening.{bookWords}
-use Rattle.book.specs.Layout.{word, decode}
+use Rattle.book.specs.Layout.{word, decode, netIn}
 
 pub record Readable (m : List ℕ) : Type 0 where
   pub daysFrom : 1 ≤ word m 0
@@ -86,3 +86,10 @@ pairsFit phase os = eachTwo oneWay os && (not (eqb phase rollingPhase) || eachTw
 pub record Netted (m : List ℕ) (k : ℕ) : Type 0 where
   pub held : (p : ℕ) → p < periods (word m 0) → word m (1776 + 328 * p + 5 * k) + word m (1777 + 328 * p + 5 * k) ≤ mostCapacity
   pub lowered : (p : ℕ) → p < periods (word m 0) → word m (1778 + 328 * p + 5 * k) ≤ word m (1776 + 328 * p + 5 * k)
+
+-- the memory with the day over for one unit and period
+unfoldable pub cellClosed : List ℕ → ℕ → ℕ → List ℕ
+cellClosed m k p =
+    set
+    (set (set (set m (1776 + 328 * p + 5 * k) (netIn m k p)) (1777 + 328 * p + 5 * k) 0) (1778 + 328 * p + 5 * k) 0)
+    (1780 + 328 * p + 5 * k) 0

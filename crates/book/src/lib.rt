@@ -1,4 +1,5 @@
 // The book of a term: opening, the eight calls and the curve (paper 01).
+mod closing;
 mod curve;
 mod numbers;
 pub mod opening;
