@@ -1,2 +1,3 @@
 // Rolling matching and clearing of the orders of one period: paper 01, "The eight calls", Order and Clear.
+pub mod laying;
 pub mod orders;

@@ -1,0 +1,58 @@
+-- How clearing works on places: an order is named by where it stands in the memory. For the contracts of inner functions.
+use Prim.Native.Nat.{ℕ, _+_, _-_, _≤_, _<_, min, max}
+use mathlib.Core.Path.{_≡_}
+use mathlib.Core.Bool.{Bool, true, cond, _&&_}
+use mathlib.Core.List.{List, [], _∷_, _++_, map}
+use lib.ListN.{length, getD, take, drop}
+use lib.Dec.{eqb, leb, ltb}
+use Rattle.measures.specs.Lists.{every, keep}
+use Rattle.matching.specs.Orders.{Order, Row, buys, bidAhead, askAhead, insert, laid}
+use Rattle.matching.specs.Memory.{orderAt, ordersIn}
+use Rattle.matching.specs.Clearing.{Fill, filled}
+
+-- the orders at places
+abbrev pub ordersAt : List ℕ → List ℕ → List Order
+ordersAt m ps = map (orderAt m) ps
+
+-- how orders of a direction stand
+unfoldable pub aheadOn : ℕ → Order → Order → Bool
+aheadOn direction = cond (buys direction) bidAhead askAhead
+
+-- whether an order is of a direction and a period
+abbrev pub belongs : ℕ → ℕ → Order → Bool
+belongs direction period o = eqb (o .direction) direction && eqb (o .period) period
+
+-- the first c of the places ps, all below n, are those of the orders l
+pub record Stand (m ps : List ℕ) (n c : ℕ) (l : List Order) : Type 0 where
+  pub few : c ≤ n
+  pub room : n ≤ length ps
+  pub below : every (λ p. ltb p n) (take c ps) ≡ true
+  pub orders : ordersAt m (take c ps) ≡ l
+
+-- an order put into laid orders, where it belongs to them
+abbrev pub putIn : (Order → Order → Bool) → Bool → Order → List Order → List Order
+putIn ahead b o l = cond b (insert ahead o l) l
+
+-- a list with k put in at j
+abbrev pub putAt : ℕ → ℕ → List ℕ → List ℕ
+putAt j k l = take j l ++ (k ∷ drop j l)
+
+-- an order's price against the margin: better for sales (0), better for purchases (1), or at it (2)
+unfoldable pub chosen : ℕ → ℕ → Order → Bool
+chosen which margin o =
+    cond (eqb which 2) (eqb (o .price) margin)
+    (cond (eqb which 1) (ltb margin (o .price)) (ltb (o .price) margin))
+
+-- the row of a bid's fill, from a up to x, and an ask's, from e up to y: none where they share nothing
+unfoldable pub overlapRow : ℕ → ℕ → ℕ → ℕ → ℕ → ℕ → ℕ → ℕ → List Row
+overlapRow period price seller buyer a x e y =
+    cond (eqb (min x y - max a e) 0) []
+    (record { way = 3; period = period; seller = seller; buyer = buyer; quantity = min x y - max a e; price = price } ∷ [])
+
+-- the orders whose mark is not 0
+unfoldable pub standing : List ℕ → List Order → List Order
+standing [] os = []
+standing (s ∷ ss) [] = []
+standing (s ∷ ss) (o ∷ os) =
+    let rest = standing ss os in
+    cond (eqb s 0) rest (o ∷ rest)
