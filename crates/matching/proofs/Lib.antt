@@ -1,5 +1,6 @@
 pub mod OrderLaws
 pub mod RowLaws
+pub mod FitLaws
 pub mod EachLaws
 pub mod LaidLaws
 pub mod AheadLaws
