@@ -1,14 +1,16 @@
 -- How clearing works on places: an order is named by where it stands in the memory. For the contracts of inner functions.
-use Prim.Native.Nat.{ℕ, _+_, _-_, _≤_, _<_, min, max}
+use Prim.Native.Nat.{ℕ, _+_, _-_, _*_, _≤_, _<_, min, max}
 use mathlib.Core.Path.{_≡_}
 use mathlib.Core.Bool.{Bool, true, cond, _&&_}
 use mathlib.Core.List.{List, [], _∷_, _++_, map}
 use lib.ListN.{length, getD, take, drop}
 use lib.Dec.{eqb, leb, ltb}
 use Rattle.measures.specs.Lists.{every, keep}
-use Rattle.matching.specs.Orders.{Order, Row, buys, bidAhead, askAhead, insert, laid}
+use Rattle.measures.specs.Ranges.{mostEnergy}
+use Rattle.measures.specs.Sharing.{total}
+use Rattle.matching.specs.Orders.{Order, Row, buys, bidAhead, askAhead, insert, laid, lessen, numbers}
 use Rattle.matching.specs.Memory.{orderAt, ordersIn}
-use Rattle.matching.specs.Clearing.{Fill, filled}
+use Rattle.matching.specs.Clearing.{Fill, filled, afterFills}
 
 -- the orders at places
 abbrev pub ordersAt : List ℕ → List ℕ → List Order
@@ -56,3 +58,21 @@ standing (s ∷ ss) [] = []
 standing (s ∷ ss) (o ∷ os) =
     let rest = standing ss os in
     cond (eqb s 0) rest (o ∷ rest)
+
+-- the fills of the orders at the first c of the places ps, of the amounts xs
+unfoldable pub fillsAt : List ℕ → List ℕ → List ℕ → ℕ → List Fill
+fillsAt m ps xs c = filled (ordersAt m (take c ps)) (take c xs)
+
+-- fills by place: c of them, at places below n
+pub record Filling (ps xs : List ℕ) (n c : ℕ) : Type 0 where
+  pub few : c ≤ n
+  pub places : n ≤ length ps
+  pub amounts : n ≤ length xs
+  pub below : every (λ p. ltb p n) (take c ps) ≡ true
+  pub small : total (take c xs) ≤ mostEnergy
+
+-- fills taken off orders in memory, whose marks ss are then ss′
+pub record Taken (m ss : List ℕ) (n : ℕ) (os : List Order) (m′ ss′ : List ℕ) : Type 0 where
+  pub orders : standing (take n ss′) (ordersIn m′ n) ≡ os
+  pub numbers : numbers (ordersIn m′ n) ≡ numbers (ordersIn m n)
+  pub past : drop (6 * n) m′ ≡ drop (6 * n) m
