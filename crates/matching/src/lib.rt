@@ -2,4 +2,5 @@
 pub mod fitness;
 pub mod laying;
 pub mod orders;
+pub mod overlaps;
 pub mod rests;
