@@ -9,4 +9,6 @@ pub mod WalkLaws
 pub mod OverlapLaws
 pub mod TakingLaws
 pub mod LayingLaws
+pub mod FillLaws
+pub mod MarginLaws
 pub mod FiguresHold

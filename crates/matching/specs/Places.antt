@@ -8,9 +8,9 @@ use lib.Dec.{eqb, leb, ltb}
 use Rattle.measures.specs.Lists.{every, keep}
 use Rattle.measures.specs.Ranges.{mostEnergy}
 use Rattle.measures.specs.Sharing.{total}
-use Rattle.matching.specs.Orders.{Order, Row, buys, bidAhead, askAhead, insert, laid, lessen, numbers}
+use Rattle.matching.specs.Orders.{Order, Row, buys, bidAhead, askAhead, insert, laid, numbers, quantities}
 use Rattle.matching.specs.Memory.{orderAt, ordersIn}
-use Rattle.matching.specs.Clearing.{Fill, filled, afterFills}
+use Rattle.matching.specs.Clearing.{Fill, filled, clearedVolume, marginal}
 
 -- the orders at places
 abbrev pub ordersAt : List ℕ → List ℕ → List Order
@@ -35,6 +35,19 @@ pub record Stand (m ps : List ℕ) (n c : ℕ) (l : List Order) : Type 0 where
 abbrev pub putIn : (Order → Order → Bool) → Bool → Order → List Order → List Order
 putIn ahead b o l = cond b (insert ahead o l) l
 
+-- the places of a period's bids and of its asks, laid
+pub record Sides (m bids asks : List ℕ) (n nb na : ℕ) : Type 0 where
+  pub period : ℕ
+  pub bidsStand : Stand m bids n nb (laid (aheadOn 1) (keep (belongs 1 period) (ordersIn m n)))
+  pub asksStand : Stand m asks n na (laid (aheadOn 0) (keep (belongs 0 period) (ordersIn m n)))
+  pub small : quantities (ordersIn m n) ≤ mostEnergy
+
+-- the cleared volume, and the prices of the bid and the ask that hold its last kWh
+pub record AreMargins (bl al : List Order) (volume bid ask : ℕ) : Type 0 where
+  pub cleared : volume ≡ clearedVolume bl al
+  pub ofBids : 0 < volume → bid ≡ marginal volume bl
+  pub ofAsks : 0 < volume → ask ≡ marginal volume al
+
 -- a list with k put in at j
 abbrev pub putAt : ℕ → ℕ → List ℕ → List ℕ
 putAt j k l = take j l ++ (k ∷ drop j l)
@@ -44,6 +57,25 @@ unfoldable pub chosen : ℕ → ℕ → Order → Bool
 chosen which margin o =
     cond (eqb which 2) (eqb (o .price) margin)
     (cond (eqb which 1) (ltb margin (o .price)) (ltb (o .price) margin))
+
+-- those of the places that are chosen, and what the orders at places have open
+unfoldable pub picked : List ℕ → ℕ → ℕ → List ℕ → List ℕ
+picked m which margin ps = keep (λ p. chosen which margin (orderAt m p)) ps
+
+abbrev pub openAt : List ℕ → List ℕ → List ℕ
+openAt m ps = map (λ p. orderAt m p .quantity) ps
+
+-- the places ks stand behind the first `from` of to, and what is open at them behind the first of am
+pub record Picked (m ks to am : List ℕ) (first r : ℕ) (to′ am′ : List ℕ) : Type 0 where
+  pub count : r ≡ first + length ks
+  pub places : take r to′ ≡ take first to ++ ks
+  pub amounts : take r am′ ≡ take first am ++ openAt m ks
+
+-- a volume between what is better than the margin and what is better or at it
+pub record AtMargin (volume : ℕ) (better margin : List Order) : Type 0 where
+  pub over : quantities better < volume
+  pub within : volume ≤ quantities better + quantities margin
+  pub small : quantities better + quantities margin ≤ mostEnergy
 
 -- the row of a bid's fill, from a up to x, and an ask's, from e up to y: none where they share nothing
 unfoldable pub overlapRow : ℕ → ℕ → ℕ → ℕ → ℕ → ℕ → ℕ → ℕ → List Row

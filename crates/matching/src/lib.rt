@@ -1,6 +1,8 @@
 // Rolling matching and clearing of the orders of one period: paper 01, "The eight calls", Order and Clear.
+pub mod fills;
 pub mod fitness;
 pub mod laying;
+pub mod margins;
 pub mod orders;
 pub mod overlaps;
 pub mod rests;
