@@ -208,12 +208,15 @@ module _ (m ps : List ℕ) (n c d margin v : ℕ) (s : Stand m ps n c (ordersAt 
   abbrev M : List ℕ
   M = picked m 2 margin (take c ps)
 
-  lc : length (take c ps) ≤ n
-  lc = let f = s .few in simp length-take (omega arith)
+  both-within : length K + length M ≤ c
+  unfolding picked
+  both-within =
+      let k = keep-apart (λ p. chosen d margin (orderAt m p)) (λ p. chosen 2 margin (orderAt m p)) (take c ps) (λ p e. apart d margin (orderAt m p) hd e) in
+      let l = length-take c ps in
+      omega arith
 
   pub both-few : length K + length M ≤ n
-  unfolding picked
-  both-few = omega (arith, lc, keep-apart (λ p. chosen d margin (orderAt m p)) (λ p. chosen 2 margin (orderAt m p)) (take c ps) (λ p e. apart d margin (orderAt m p) hd e))
+  both-few = let f = s .few in omega (arith, both-within)
 
   better-is : total (openAt m K) ≡ quantities (keep (chosen d margin) (ordersAt m (take c ps)))
   better-is = open-total m K ∙ ap quantities (picked-orders m d margin (take c ps))
@@ -237,6 +240,9 @@ module _ (m ps : List ℕ) (n c d margin v : ℕ) (s : Stand m ps n c (ordersAt 
     module _ (op₀ to₂ op : List ℕ) (all : ℕ) (q : Picked m M to₁ op₀ better all to₂ op) where
       pub all-count : all ≡ better + length M
       all-count = q .count
+
+      all-within : all ≤ c
+      all-within = omega (arith, both-within, better-count, all-count)
 
       pub all-few : all ≤ n
       all-few = omega (arith, both-few, better-count, all-count)
@@ -293,7 +299,7 @@ module _ (m ps : List ℕ) (n c d margin v : ℕ) (s : Stand m ps n c (ordersAt 
             ∙ take-at (take better am₁ ++ ys) (postOf better (all - better) am₁) all l
             ∙ ap₂ (λ (f g : List ℕ). f ++ g) (p .amounts) shares
 
-        pub filling : Filling to₂ (putMid better (all - better) am₁ ys) n all
+        filling : Filling to₂ (putMid better (all - better) am₁ ys) n all
         filling =
             let t : total (openAt m K ++ parts D R) ≡ v = total-join (openAt m K) (parts D R) ∙ (let o = a .over in omega (arith, better-sum, better-is, parts-sum D R (omega (arith, least, most)))) in
             record {
@@ -304,10 +310,14 @@ module _ (m ps : List ℕ) (n c d margin v : ℕ) (s : Stand m ps n c (ordersAt 
               small = rw (whole-am, t) (let o = a .within in let k = a .small in omega arith);
             }
 
-        pub fills-are : fillsAt m to₂ (putMid better (all - better) am₁ ys) all ≡ fillsOf v (keep (chosen d margin) (ordersAt m (take c ps))) (keep (chosen 2 margin) (ordersAt m (take c ps)))
+        fills-are : fillsAt m to₂ (putMid better (all - better) am₁ ys) all ≡ fillsOf v (keep (chosen d margin) (ordersAt m (take c ps))) (keep (chosen 2 margin) (ordersAt m (take c ps)))
         unfolding fillsAt fillsOf
         fills-are =
             let eD : D ≡ v - quantities (keep (chosen d margin) (ordersAt m (take c ps))) = ap (λ (y : ℕ). v - y) better-sum in
             rw (whole-to, whole-am, map-join (orderAt m) K M)
             (filled-join (ordersAt m K) (ordersAt m M) (openAt m K) (parts D R) (length-mapped (orderAt m) K ∙ sym lK)
             ∙ rw (open-orders m K, open-orders m M, picked-orders m d margin (take c ps), picked-orders m 2 margin (take c ps), eD) refl)
+
+        pub side-filled : (all ≤ c) × Filling to₂ (putMid better (all - better) am₁ ys) n all
+            × (fillsAt m to₂ (putMid better (all - better) am₁ ys) all ≡ fillsOf v (keep (chosen d margin) (ordersAt m (take c ps))) (keep (chosen 2 margin) (ordersAt m (take c ps))))
+        side-filled = (all-within, filling, fills-are)

@@ -11,4 +11,5 @@ pub mod TakingLaws
 pub mod LayingLaws
 pub mod FillLaws
 pub mod MarginLaws
+pub mod ClearingLaws
 pub mod FiguresHold

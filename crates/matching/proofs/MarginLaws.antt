@@ -5,21 +5,22 @@ use mathlib.Core.Bool.{Bool, true, false, cond}
 use mathlib.Core.List.{List, [], _∷_, _++_, map}
 use native.Mathlib.Omega.{arith}
 use native.Mathlib.Nat.{not-suc-le-zero}
+use native.Mathlib.Decide.{decLe}
 use lib.Dec.{eqb, ltb, leb}
-use borrow.Author.Tests.{lt-ltb, le-ltb, ltb-false, eq-eqb, ne-eqb, le-leb, lt-leb}
+use borrow.Author.Tests.{eq-eqb, eqb-true, eqb-false, le-leb, lt-leb}
 use lib.ListN.{length, getD, take, length-take, List·getD-eq-default, List·getD-map}
 use lib.Seq.{getD-take, length-take-le}
 use Rattle.measures.specs.Lists.{keep}
 use Rattle.measures.specs.Ranges.{mostEnergy}
-use Rattle.measures.proofs.ListLaws.{cond-true, cond-false}
+use Rattle.measures.proofs.ListLaws.{both-ways}
 use Rattle.matching.specs.Orders.{Order, quantities, laid, bids, asks}
 use Rattle.matching.specs.Memory.{orderAt, ordersIn, noOrder}
-use Rattle.matching.specs.Clearing.{clearedVolume, marginal}
+use Rattle.matching.specs.Clearing.{tradedAt, clearedVolume, marginal}
 use Rattle.matching.specs.Places.{ordersAt, aheadOn, belongs, chosen, Stand, Sides, AreMargins, AtMargin}
-use Rattle.matching.proofs.EachLaws.{Each, Pairs, each-map}
+use Rattle.matching.proofs.EachLaws.{Each, each-all}
 use Rattle.matching.proofs.LaidLaws.{laid-quantities}
-use Rattle.matching.proofs.AheadLaws.{Falling, Rising, bids-fall, asks-rise}
-use Rattle.matching.proofs.VolumeLaws.{keep-some, keep-none}
+use Rattle.matching.proofs.AheadLaws.{Strict, Ordered, Falling, Rising, bids-fall, asks-rise}
+use Rattle.matching.proofs.VolumeLaws.{keep-some, keep-none, largest-below, traded}
 use Rattle.matching.proofs.WalkLaws.{priceAt, quantityAt, Walking, walking-start, walking-takes, walking-next-bid, walking-next-ask, walking-bids-end, walking-asks-end, walking-apart}
 use Rattle.matching.proofs.LayingLaws.{length-mapped, stand-length}
 
@@ -163,3 +164,81 @@ turns-ask nb na i j rb ra q h = fewer (nb - i + (na - (j + 1))) (nb - i + (na - 
 
 pub turns-take : (nb na i j rb ra t : ℕ) → t ≡ min rb ra → (rb ≡ 0 → ⊥) → (ra ≡ 0 → ⊥) → turns nb na i j (rb - t) (ra - t) < turns nb na i j rb ra
 turns-take nb na i j rb ra t e hb ha = last-one (2 * (nb - i + (na - j))) (min (rb - t) (ra - t)) (min rb ra) (omega arith) (omega arith)
+
+-- the margin's price is one of the prices
+priced : (P : ℕ → Type 0) (v : ℕ) (os : List Order) → Each (λ o. P (o .price)) os → 0 < v → v ≤ quantities os → P (marginal v os)
+unfolding marginal
+priced P v [] e pos le = absurd (omega arith)
+priced P v (o ∷ os) e pos le = go (decLe v (o .quantity)) (λ k l. priced P (v - o .quantity) os (e .1) k l)
+  where
+    go : Dec (v ≤ o .quantity) → (0 < v - o .quantity → v - o .quantity ≤ quantities os → P (marginal (v - o .quantity) os)) → P (cond (leb v (o .quantity)) (o .price) (marginal (v - o .quantity) os))
+    go (yes h) ih = rw (le-leb v (o .quantity) h) (e .0)
+    go (no h) ih = rw (lt-leb v (o .quantity) (omega arith)) (ih (omega arith) (omega arith))
+
+-- a volume within the orders of a side lies between those better than its margin and those at it too
+module _ (better : ℕ → ℕ → Bool) (st : Strict better) where
+  abbrev above : ℕ → List Order → ℕ
+  above p os = quantities (keep (λ o. better (o .price) p) os)
+
+  abbrev level : ℕ → List Order → ℕ
+  level p os = quantities (keep (λ o. eqb (o .price) p) os)
+
+  first-holds : (v : ℕ) (o : Order) (os : List Order) → Each (λ x. better (x .price) (o .price) ≡ false) os → 0 < v → v ≤ o .quantity → (above (o .price) (o ∷ os) < v) × (v ≤ above (o .price) (o ∷ os) + level (o .price) (o ∷ os))
+  first-holds v o os e pos le =
+      let none : above (o .price) os ≡ 0 = keep-none (λ x. better (x .price) (o .price)) os e in
+      rw (st .same (o .price), eq-eqb (o .price) (o .price) refl) (omega arith, omega arith)
+
+  later-holds : (p v : ℕ) (o : Order) (os : List Order) → better p (o .price) ≡ false → o .quantity < v → (above p os < v - o .quantity) × (v - o .quantity ≤ above p os + level p os) → (above p (o ∷ os) < v) × (v ≤ above p (o ∷ os) + level p (o ∷ os))
+  later-holds p v o os w lt ih = go (better (o .price) p) refl (eqb (o .price) p) refl
+    where
+      go : (a : Bool) → better (o .price) p ≡ a → (b : Bool) → eqb (o .price) p ≡ b
+          → (quantities (cond (better (o .price) p) (o ∷ keep (λ x. better (x .price) p) os) (keep (λ x. better (x .price) p) os)) < v)
+          × (v ≤ quantities (cond (better (o .price) p) (o ∷ keep (λ x. better (x .price) p) os) (keep (λ x. better (x .price) p) os)) + quantities (cond (eqb (o .price) p) (o ∷ keep (λ x. eqb (x .price) p) os) (keep (λ x. eqb (x .price) p) os)))
+      go true ea true eb = rw (ea, eb) (omega arith, omega arith)
+      go true ea false eb = rw (ea, eb) (omega arith, omega arith)
+      go false ea true eb = rw (ea, eb) (omega arith, omega arith)
+      go false ea false eb = absurd (eqb-false (o .price) p eb (st .total (o .price) p ea w))
+
+  margin-holds : (v : ℕ) (os : List Order) → Ordered better os → 0 < v → v ≤ quantities os → (above (marginal v os) os < v) × (v ≤ above (marginal v os) os + level (marginal v os) os)
+  unfolding marginal
+  margin-holds v [] e pos le = absurd (omega arith)
+  margin-holds v (o ∷ os) e pos le = go (decLe v (o .quantity)) (λ k l. margin-holds (v - o .quantity) os (e .1) k l)
+    where
+      go : Dec (v ≤ o .quantity) → (0 < v - o .quantity → v - o .quantity ≤ quantities os → (above (marginal (v - o .quantity) os) os < v - o .quantity) × (v - o .quantity ≤ above (marginal (v - o .quantity) os) os + level (marginal (v - o .quantity) os) os))
+          → (above (cond (leb v (o .quantity)) (o .price) (marginal (v - o .quantity) os)) (o ∷ os) < v) × (v ≤ above (cond (leb v (o .quantity)) (o .price) (marginal (v - o .quantity) os)) (o ∷ os) + level (cond (leb v (o .quantity)) (o .price) (marginal (v - o .quantity) os)) (o ∷ os))
+      go (yes h) ih = rw (le-leb v (o .quantity) h) (first-holds v o os (e .0) pos h)
+      go (no h) ih =
+          let p = marginal (v - o .quantity) os in
+          rw (lt-leb v (o .quantity) (omega arith))
+          (later-holds p v o os (priced (λ q. better q (o .price) ≡ false) (v - o .quantity) os (e .0) (omega arith) (omega arith)) (omega arith) (ih (omega arith) (omega arith)))
+
+  margin-within : (p : ℕ) (os : List Order) → above p os + level p os ≤ quantities os
+  margin-within p [] = omega arith
+  margin-within p (o ∷ os) = go (better (o .price) p) refl (eqb (o .price) p) refl (margin-within p os)
+    where
+      go : (a : Bool) → better (o .price) p ≡ a → (b : Bool) → eqb (o .price) p ≡ b → above p os + level p os ≤ quantities os
+          → quantities (cond a (o ∷ keep (λ x. better (x .price) p) os) (keep (λ x. better (x .price) p) os)) + quantities (cond b (o ∷ keep (λ x. eqb (x .price) p) os) (keep (λ x. eqb (x .price) p) os)) ≤ o .quantity + quantities os
+      go true ea true eb ih = both-ways (sym ea ∙ ap (λ (x : ℕ). better x p) (eqb-true (o .price) p eb) ∙ st .same p)
+      go true ea false eb ih = omega arith
+      go false ea true eb ih = omega arith
+      go false ea false eb ih = omega arith
+
+  pub at-margin : (v : ℕ) (os : List Order) → Ordered better os → 0 < v → v ≤ quantities os → quantities os ≤ mostEnergy
+      → AtMargin v (keep (λ o. better (o .price) (marginal v os)) os) (keep (λ o. eqb (o .price) (marginal v os)) os)
+  at-margin v os h pos le small =
+      let m = margin-holds v os h pos le in
+      let w = margin-within (marginal v os) os in
+      record { over = m .0; within = m .1; small = omega arith }
+
+-- no more is cleared than either side has
+pub cleared-bids : (bl al : List Order) → clearedVolume bl al ≤ quantities bl
+unfolding clearedVolume
+cleared-bids bl al =
+    largest-below (λ o. tradedAt bl al (o .price)) (bl ++ al) (quantities bl)
+    (each-all (λ o. tradedAt bl al (o .price) ≤ quantities bl) (bl ++ al) (λ o. omega (arith, traded bl al (o .price), keep-some (λ x. leb (o .price) (x .price)) bl)))
+
+pub cleared-asks : (bl al : List Order) → clearedVolume bl al ≤ quantities al
+unfolding clearedVolume
+cleared-asks bl al =
+    largest-below (λ o. tradedAt bl al (o .price)) (bl ++ al) (quantities al)
+    (each-all (λ o. tradedAt bl al (o .price) ≤ quantities al) (bl ++ al) (λ o. omega (arith, traded bl al (o .price), keep-some (λ x. leb (x .price) (o .price)) al)))

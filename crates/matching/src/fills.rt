@@ -83,7 +83,7 @@ pub fn fill(
     amounts: &mut [u64],
 ) -> usize
     requires { ⌜ (6 * n ≤ length (now orders)) × (n ≤ 256) × (direction < 2) × (n ≤ length (now to)) × (n ≤ length (now amounts)) × Stand (now orders) (now places) n count (ordersAt (now orders) (take count (now places))) × AtMargin volume (keep (chosen direction margin) (ordersAt (now orders) (take count (now places)))) (keep (chosen 2 margin) (ordersAt (now orders) (take count (now places)))) ⌝ }
-    ensures { λ r. ⌜ Filling (now (to .exit)) (now (amounts .exit)) n r × (fillsAt (now (orders .entry)) (now (to .exit)) (now (amounts .exit)) r ≡ fillsOf volume (keep (chosen direction margin) (ordersAt (now (orders .entry)) (take count (now (places .entry))))) (keep (chosen 2 margin) (ordersAt (now (orders .entry)) (take count (now (places .entry)))))) ⌝ }
+    ensures { λ r. ⌜ (r ≤ count) × Filling (now (to .exit)) (now (amounts .exit)) n r × (fillsAt (now (orders .entry)) (now (to .exit)) (now (amounts .exit)) r ≡ fillsOf volume (keep (chosen direction margin) (ordersAt (now (orders .entry)) (take count (now (places .entry))))) (keep (chosen 2 margin) (ordersAt (now (orders .entry)) (take count (now (places .entry)))))) ⌝ }
 {
     let better = pick(orders, n, direction, margin, places, count, to, amounts, 0);
     let mut open = [0u64; 256];

@@ -1,4 +1,5 @@
 // Rolling matching and clearing of the orders of one period: paper 01, "The eight calls", Order and Clear.
+pub mod clearing;
 pub mod fills;
 pub mod fitness;
 pub mod laying;

@@ -5,7 +5,7 @@ use mathlib.Core.List.{List}
 use native.Mathlib.Omega.{arith}
 use lib.ListN.{length, take}
 use Rattle.matching.specs.Places.{picked}
-use Rattle.matching.proofs.FillLaws.{both-few, better-sum, all-count, all-few, filling, fills-are}
+use Rattle.matching.proofs.FillLaws.{both-few, better-sum, side-filled}
 use borrow.Author.Needs.{needs}
 use Rattle.matching.proofs.fills.fill.Statement.{statement}
 use Rattle.matching.proofs.fills.fill.Tie as tie
@@ -130,10 +130,9 @@ returns c =
     let o = c .before .before .before .before .before .before .before .before .before .before .before .pick2 in
     let to1 : Room (a .n) (o .last .1 .1 .1 .1 .1 .1 .0) = omega arith in
     let am1 : Room (a .n) (k .last .1 .1 .1 .1 .1 .1 .1 .0) = omega arith in
-    let op1 : Room (a .n) (o .last .1 .1 .1 .1 .1 .1 .1 .0) = omega arith in (
-      filling (a .orders .now) (a .places .now) (a .n) (a .count) (a .direction) (a .margin) (a .volume) (s .pre .5) (s .pre .2) (s .pre .6) _ _ _ _ _ (k .ensures) _ _ _ _ (o .ensures) to1 am1 (omega arith) op1 _ (c .before .before .before .before .before .before .together .ensures) _ _ (c .before .before .share .ensures),
-      fills-are (a .orders .now) (a .places .now) (a .n) (a .count) (a .direction) (a .margin) (a .volume) (s .pre .5) (s .pre .2) (s .pre .6) _ _ _ _ _ (k .ensures) _ _ _ _ (o .ensures) to1 am1 (omega arith) op1 _ (c .before .before .before .before .before .before .together .ensures) _ _ (c .before .before .share .ensures),
-    )
+    let op1 : Room (a .n) (o .last .1 .1 .1 .1 .1 .1 .1 .0) = omega arith in
+    side-filled (a .orders .now) (a .places .now) (a .n) (a .count) (a .direction) (a .margin) (a .volume) (s .pre .5) (s .pre .2) (s .pre .6) _ _ _ _ _ (k .ensures) _ _ _ _ (o .ensures)
+    to1 am1 (omega arith) op1 _ (c .before .before .before .before .before .before .together .ensures) _ _ (c .before .before .share .ensures)
 
 pub fill-spec : {M : Type 1} → statement M
 fill-spec =
