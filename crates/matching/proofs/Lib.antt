@@ -9,7 +9,7 @@ pub mod WalkLaws
 pub mod OverlapLaws
 pub mod TakingLaws
 pub mod LayingLaws
-pub mod FillLaws
-pub mod MarginLaws
-pub mod ClearingLaws
+pub mod PickLaws
+pub mod PlaceLaws
+pub mod StepLaws
 pub mod FiguresHold

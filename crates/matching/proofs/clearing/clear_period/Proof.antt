@@ -5,7 +5,7 @@ use mathlib.Core.Bool.{true}
 use native.Mathlib.Omega.{arith}
 use borrow.Author.Tests.{not-true, not-false}
 use Rattle.matching.proofs.FitLaws.{Fit, fit-gives}
-use Rattle.matching.proofs.ClearingLaws.{clears-unfit, clears-none}
+use Rattle.matching.proofs.StepLaws.{clears-unfit, clears-none}
 use borrow.Author.Needs.{needs}
 use Rattle.matching.proofs.clearing.clear_period.Statement.{statement}
 use Rattle.matching.proofs.clearing.clear_period.Tie as tie

@@ -3,8 +3,8 @@ use Prim.Native.Nat.{ℕ, _+_, _≤_, _<_}
 use mathlib.Core.Path.{_≡_, refl}
 use native.Mathlib.Omega.{arith}
 use Rattle.matching.proofs.FitLaws.{Fit, fit-gives}
-use Rattle.matching.proofs.MarginLaws.{stand-here}
-use Rattle.matching.proofs.ClearingLaws.{sides-few, bids-at-margin, asks-at-margin, clears-some}
+use Rattle.matching.proofs.PlaceLaws.{stand-here}
+use Rattle.matching.proofs.StepLaws.{sides-few, bids-at-margin, asks-at-margin, clears-some}
 use borrow.Author.Needs.{needs}
 use Rattle.matching.proofs.clearing.trade.Statement.{statement}
 use Rattle.matching.proofs.clearing.trade.Tie as tie

@@ -5,7 +5,7 @@ use mathlib.Core.List.{List}
 use native.Mathlib.Omega.{arith}
 use lib.ListN.{length, take}
 use Rattle.matching.specs.Places.{picked}
-use Rattle.matching.proofs.FillLaws.{both-few, better-sum, side-filled}
+use Rattle.matching.proofs.PickLaws.{both-few, better-sum, side-filled}
 use borrow.Author.Needs.{needs}
 use Rattle.matching.proofs.fills.fill.Statement.{statement}
 use Rattle.matching.proofs.fills.fill.Tie as tie

@@ -5,7 +5,7 @@ use native.Mathlib.Omega.{arith}
 use lib.ListN.{length, length-set}
 use Rattle.matching.specs.Orders.{Order}
 use Rattle.matching.proofs.LayingLaws.{stand-below}
-use Rattle.matching.proofs.FillLaws.{Picking, picking-start, picking-skip, picking-put, picking-room, picking-end}
+use Rattle.matching.proofs.PickLaws.{Picking, picking-start, picking-skip, picking-put, picking-room, picking-end}
 use borrow.Author.Needs.{needs}
 use Rattle.matching.proofs.fills.pick.Statement.{statement}
 use Rattle.matching.proofs.fills.pick.Tie as tie

@@ -3,7 +3,7 @@ use Prim.Native.Nat.{ℕ, _+_, _*_, _-_, _≤_, _<_, min}
 use mathlib.Core.Path.{_≡_, sym, ap, _∙_}
 use native.Mathlib.Omega.{arith}
 use Rattle.matching.proofs.LayingLaws.{stand-below}
-use Rattle.matching.proofs.MarginLaws.{stand-here, Meeting, meeting-start, meeting-bid, meeting-ask, meeting-takes, meeting-small, meeting-bids-end, meeting-asks-end, meeting-apart, turns, turns-bid, turns-ask, turns-take}
+use Rattle.matching.proofs.PlaceLaws.{stand-here, Meeting, meeting-start, meeting-bid, meeting-ask, meeting-takes, meeting-small, meeting-bids-end, meeting-asks-end, meeting-apart, turns, turns-bid, turns-ask, turns-take}
 use borrow.Author.Needs.{needs}
 use Rattle.matching.proofs.margins.find_margins.Statement.{statement}
 use Rattle.matching.proofs.margins.find_margins.Tie as tie

@@ -25,8 +25,8 @@ use Rattle.matching.proofs.LaidLaws.{laid-length, laid-quantities}
 use Rattle.matching.proofs.AheadLaws.{dearer, cheaper, dearer-strict, cheaper-strict, bids-ordered, asks-ordered}
 use Rattle.matching.proofs.VolumeLaws.{keep-some}
 use Rattle.matching.proofs.LayingLaws.{stand-length}
-use Rattle.matching.proofs.FillLaws.{keep-apart}
-use Rattle.matching.proofs.MarginLaws.{at-margin, cleared-bids, cleared-asks}
+use Rattle.matching.proofs.PickLaws.{keep-apart}
+use Rattle.matching.proofs.PlaceLaws.{at-margin, cleared-bids, cleared-asks}
 
 -- orders that do not fit
 pub clears-unfit : (m rows : List ℕ) (n period : ℕ) → fit m n rows ≡ false → Clears m rows n period Unfit m rows
