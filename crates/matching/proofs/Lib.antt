@@ -16,3 +16,4 @@ pub mod TakeOffLaws
 pub mod MeetingLaws
 pub mod RollingLaws
 pub mod FiguresHold
+pub mod RollingFigure

@@ -87,19 +87,6 @@ add-count c =
     let g = c .before .before .before .before .before .before .before .before .before .before .before .before .before .before .before .before .before .before .before .meeting .inv in
     record { fits = omega (arith, g .room, g .few) }
 
-meeting-less : tie.Need-meeting-less Inv-loop μ-loop Inv-meeting μ-meeting
-meeting-less c =
-    let l = c .before .before .before .before .before .before .before .before .before .before .before .before .before .before .before .loop in
-    let turn = c .before .before .before .take-off in
-    rw (c .minus .ensures)
-    (meeting-falls _ _ _ _ _ _ _ _ _ (c .before .before .before .before .before .before .before .before .before .before .before .before .before .before .before .before .before .before .before .meeting .inv) (turn .last .0) (turn .result) (l .best) (c .before .before .before .before .before .before .before .before .before .before .least .result .0) _
-    (eqb-false _ _ (sym (c .before .before .before .before .before .before .before .before .before .before .before .before .before .before .before .before .before .is-zero .ensures) ∙ c .before .before .before .before .before .before .before .before .before .before .before .before .before .before .before .before .if2 .left))
-    (omega arith)
-    (scan-ends _ _ _ (l .k) (l .best) (omega arith) (l .inv .2))
-    (c .before .before .before .before .before .before .before .before .before .before .before .read .ensures)
-    (c .before .before .before .before .before .before .before .before .before .before .least .ensures)
-    (turn .ensures .0))
-
 meeting-again : tie.Need-meeting-again Inv-loop μ-loop Inv-meeting μ-meeting
 meeting-again c =
     let g = c .before .before .before .before .before .before .before .before .before .before .before .before .before .before .before .before .before .before .before .meeting .inv in
@@ -122,6 +109,19 @@ meeting-again c =
     (row .kept .0)
     (c .before .before .before .before .before .before .before .before .match-row .ensures)
     (row .ensures (s .rows .now) (map (matchRow (orderOf (s .incoming))) (g .done)) (g .counted) (g .handed)))
+
+meeting-less : tie.Need-meeting-less Inv-loop μ-loop Inv-meeting μ-meeting
+meeting-less c =
+    let l = c .before .before .before .before .before .before .before .before .before .before .before .before .before .before .before .loop in
+    let turn = c .before .before .before .take-off in
+    rw (c .minus .ensures)
+    (meeting-falls _ _ _ _ _ _ _ _ _ (c .before .before .before .before .before .before .before .before .before .before .before .before .before .before .before .before .before .before .before .meeting .inv) (turn .last .0) (turn .result) (l .best) (c .before .before .before .before .before .before .before .before .before .before .least .result .0) _
+    (eqb-false _ _ (sym (c .before .before .before .before .before .before .before .before .before .before .before .before .before .before .before .before .before .is-zero .ensures) ∙ c .before .before .before .before .before .before .before .before .before .before .before .before .before .before .before .before .if2 .left))
+    (omega arith)
+    (scan-ends _ _ _ (l .k) (l .best) (omega arith) (l .inv .2))
+    (c .before .before .before .before .before .before .before .before .before .before .before .read .ensures)
+    (c .before .before .before .before .before .before .before .before .before .before .least .ensures)
+    (turn .ensures .0))
 
 same-length-3 : tie.Need-same-length-3 Inv-loop μ-loop Inv-meeting μ-meeting
 same-length-3 c = search needs
