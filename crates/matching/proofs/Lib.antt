@@ -9,7 +9,14 @@ pub mod WalkLaws
 pub mod MarginLaws
 pub mod FillLaws
 pub mod SumLaws
-pub mod OverlapLaws
+pub mod RowSumLaws
+pub mod LessenLaws
+pub mod AfterLaws
+pub mod SideLaws
+pub mod PeriodLaws
+pub mod ClearingLaws
+pub mod RestLaws
+pub mod CrossLaws
 pub mod CandidateLaws
 pub mod CounterpartLaws
 pub mod TakeOffLaws
