@@ -155,9 +155,9 @@ row-sides i os =
     (matches-each (Met i os) (i .quantity) (counterparts i os) (counterparts-met i os))
 
 -- where nothing is laid, there is no candidate
-keep-none : (f : Order → Bool) (os : List Order) → length (keep f os) ≡ 0 → Each (λ o. f o ≡ false) os
-keep-none f [] e = tt
-keep-none f (o ∷ os) e = go (f o) refl (λ h. keep-none f os h) e
+none-kept : (f : Order → Bool) (os : List Order) → length (keep f os) ≡ 0 → Each (λ o. f o ≡ false) os
+none-kept f [] e = tt
+none-kept f (o ∷ os) e = go (f o) refl (λ h. none-kept f os h) e
   where
     go : (b : Bool) → f o ≡ b → (length (keep f os) ≡ 0 → Each (λ o. f o ≡ false) os) → length (cond b (o ∷ keep f os) (keep f os)) ≡ 0 → (f o ≡ false) × Each (λ o. f o ≡ false) os
     go true h ih z = absurd (omega arith)
@@ -165,7 +165,7 @@ keep-none f (o ∷ os) e = go (f o) refl (λ h. keep-none f os h) e
 
 no-counterpart : (i : Order) (os : List Order) → counterparts i os ≡ [] → Each (λ o. candidate i o ≡ false) os
 unfolding counterparts
-no-counterpart i os e = keep-none (candidate i) os (sym (laid-length (aheadFor i) (keep (candidate i) os)) ∙ ap length e)
+no-counterpart i os e = none-kept (candidate i) os (sym (laid-length (aheadFor i) (keep (candidate i) os)) ∙ ap length e)
 
 -- if some of the incoming order is left, no order left over is a candidate for it
 crosses-none : (f : ℕ) (i : Order) (os : List Order) (q : ℕ) → q + length os ≤ f → rising (numbers os) ≡ true
