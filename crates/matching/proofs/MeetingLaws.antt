@@ -19,7 +19,6 @@ use Rattle.matching.specs.Answers.{fit, Answer, answerOf, Meets}
 use Rattle.matching.proofs.OrderLaws.{orders-length, orders-at}
 use Rattle.matching.proofs.RowLaws.{written-none}
 use Rattle.matching.proofs.FitLaws.{Fit, fit-gives}
-use Rattle.matching.proofs.LessenLaws.{rising-numbered}
 use Rattle.matching.proofs.CounterpartLaws.{best, without, found-laid-first, none-found}
 use Rattle.matching.proofs.TakeOffLaws.{without-length, lessen-gone, lessen-kept, lessen-rises}
 
@@ -60,7 +59,7 @@ module _ (i : Order) (os os′ : List Order) (q b x : ℕ) (some : q ≡ 0 → �
       go (yes h) =
           let z : q - x ≡ 0 = omega arith in
           matches-spent (q - x) (counterparts i (without b os)) z ∙ sym (matches-spent (q - x) (counterparts i os′) z)
-      go (no h) = ap (λ (y : List Order). matches (q - x) (counterparts i y)) (sym (el ∙ lessen-gone os b x (rising-numbered os rises) l (omega arith)))
+      go (no h) = ap (λ (y : List Order). matches (q - x) (counterparts i y)) (sym (el ∙ lessen-gone os b x rises l (omega arith)))
 
   pub matched : matches q (counterparts i os) ≡ match (getD os b noOrder) x ∷ matches (q - x) (counterparts i os′)
   matched =
@@ -81,10 +80,10 @@ module _ (i : Order) (os os′ : List Order) (q b x : ℕ) (some : q ≡ 0 → �
     where
       go : Dec (x < getD os b noOrder .quantity) → (length os′ + 1 ≤ length os + (1 - (q - x))) × (length os′ ≤ length os) × ((q - x) + length os′ < q + length os)
       go (yes h) =
-          let e : length os′ ≡ length os = ap length (el ∙ lessen-kept os b x (rising-numbered os rises) l h) ∙ length-set os b (less (getD os b noOrder) x) in
+          let e : length os′ ≡ length os = ap length (el ∙ lessen-kept os b x rises l h) ∙ length-set os b (less (getD os b noOrder) x) in
           omega arith
       go (no h) =
-          let e : length os′ ≡ length (without b os) = ap length (el ∙ lessen-gone os b x (rising-numbered os rises) l (omega arith)) in
+          let e : length os′ ≡ length (without b os) = ap length (el ∙ lessen-gone os b x rises l (omega arith)) in
           omega (arith, without-length b os l)
 
 rows-more : (i : Order) (ds : List Match) (d : Match) → map (matchRow i) (ds ++ (d ∷ [])) ≡ map (matchRow i) ds ++ (matchRow i d ∷ [])

@@ -28,26 +28,31 @@ without-length b [] l = absurd (not-suc-le-zero l)
 without-length zero (o ∷ os) l = refl
 without-length (suc b) (o ∷ os) l = ap suc (without-length b os (omega arith))
 
--- under the number of the order at place b, an emptied order goes
-pub lessen-gone : (os : List Order) (b x : ℕ) → Numbered os → b < length os → getD os b noOrder .quantity ≤ x → lessen (getD os b noOrder .number) x os ≡ without b os
+gone : (os : List Order) (b x : ℕ) → Numbered os → b < length os → getD os b noOrder .quantity ≤ x → lessen (getD os b noOrder .number) x os ≡ without b os
 unfolding lessen without
-lessen-gone [] b x e l h = absurd (not-suc-le-zero l)
-lessen-gone (o ∷ os) zero x e l h = rw (eq-eqb (o .number) (o .number) refl, le-leb (o .quantity) x h)
-lessen-gone (o ∷ os) (suc b) x e l h =
+gone [] b x e l h = absurd (not-suc-le-zero l)
+gone (o ∷ os) zero x e l h = rw (eq-eqb (o .number) (o .number) refl, le-leb (o .quantity) x h)
+gone (o ∷ os) (suc b) x e l h =
     let u : o .number < getD os b noOrder .number = each-at (λ (p : Order). o .number < p .number) os b noOrder (e .0) (omega arith) in
     rw (ne-eqb (o .number) (getD os b noOrder .number) (omega arith))
-    (ap (λ (y : List Order). o ∷ y) (lessen-gone os b x (e .1) (omega arith) h))
+    (ap (λ (y : List Order). o ∷ y) (gone os b x (e .1) (omega arith) h))
 
--- and another keeps the rest
-pub lessen-kept : (os : List Order) (b x : ℕ) → Numbered os → b < length os → x < getD os b noOrder .quantity
-    → lessen (getD os b noOrder .number) x os ≡ set os b (less (getD os b noOrder) x)
+kept : (os : List Order) (b x : ℕ) → Numbered os → b < length os → x < getD os b noOrder .quantity → lessen (getD os b noOrder .number) x os ≡ set os b (less (getD os b noOrder) x)
 unfolding lessen
-lessen-kept [] b x e l h = absurd (not-suc-le-zero l)
-lessen-kept (o ∷ os) zero x e l h = rw (eq-eqb (o .number) (o .number) refl, lt-leb (o .quantity) x h)
-lessen-kept (o ∷ os) (suc b) x e l h =
+kept [] b x e l h = absurd (not-suc-le-zero l)
+kept (o ∷ os) zero x e l h = rw (eq-eqb (o .number) (o .number) refl, lt-leb (o .quantity) x h)
+kept (o ∷ os) (suc b) x e l h =
     let u : o .number < getD os b noOrder .number = each-at (λ (p : Order). o .number < p .number) os b noOrder (e .0) (omega arith) in
     rw (ne-eqb (o .number) (getD os b noOrder .number) (omega arith))
-    (ap (λ (y : List Order). o ∷ y) (lessen-kept os b x (e .1) (omega arith) h))
+    (ap (λ (y : List Order). o ∷ y) (kept os b x (e .1) (omega arith) h))
+
+-- under the number of the order at place b, an emptied order goes and another keeps the rest
+module _ (os : List Order) (b x : ℕ) (rises : rising (numbers os) ≡ true) (l : b < length os) where
+  pub lessen-gone : getD os b noOrder .quantity ≤ x → lessen (getD os b noOrder .number) x os ≡ without b os
+  lessen-gone h = gone os b x (rising-numbered os rises) l h
+
+  pub lessen-kept : x < getD os b noOrder .quantity → lessen (getD os b noOrder .number) x os ≡ set os b (less (getD os b noOrder) x)
+  lessen-kept h = kept os b x (rising-numbered os rises) l h
 
 -- numbers that rise rise after it
 pub lessen-rises : (n x : ℕ) (os : List Order) → rising (numbers os) ≡ true → rising (numbers (lessen n x os)) ≡ true
@@ -66,7 +71,7 @@ module _ (m m′ : List ℕ) (n k x : ℕ) (o : Order) (rises : rising (numbers 
       h
       ∙ ap (λ (j : ℕ). take k os ++ drop j os) (add-one k)
       ∙ without-is k os u
-      ∙ sym (lessen-gone os k x (rising-numbered os rises) u (omega arith))
+      ∙ sym (lessen-gone os k x rises u (omega arith))
       ∙ ap (λ (p : Order). lessen (p .number) x os) at
 
   pub off-kept : (rest : ℕ) → rest ≡ o .quantity - x → (rest ≡ 0 → ⊥) → ordersIn m′ n ≡ set (ordersIn m n) k (leaving (orderAt m k) rest) → ordersIn m′ n ≡ lessen (orderAt m k .number) x (ordersIn m n)
@@ -77,5 +82,5 @@ module _ (m m′ : List ℕ) (n k x : ℕ) (o : Order) (rises : rising (numbers 
       h
       ∙ ap (λ (y : ℕ). set os k (leaving (orderAt m k) y)) (er ∙ ap (λ (p : Order). p .quantity - x) eo)
       ∙ ap (λ (p : Order). set os k (less p x)) (sym at)
-      ∙ sym (lessen-kept os k x (rising-numbered os rises) u (omega arith))
+      ∙ sym (lessen-kept os k x rises u (omega arith))
       ∙ ap (λ (p : Order). lessen (p .number) x os) at
