@@ -23,3 +23,4 @@ pub mod TakeOffLaws
 pub mod MeetingLaws
 pub mod RollingLaws
 pub mod FiguresHold
+pub mod RollingFigure
