@@ -1,6 +1,6 @@
 -- The starred figures and the transcript hold: the definitions compute them.
 use mathlib.Core.Path.{refl}
-use Rattle.measures.specs.Lists.{sum, all}
+use Rattle.measures.specs.Lists.{holds, sum, all}
 use Rattle.measures.specs.Sharing.{parts}
 use Rattle.measures.proofs.FiguresHold.{figure1-holds}
 use Rattle.limits.specs.Limits.{hourLimit, termLimit, volumeLimit}
@@ -10,7 +10,7 @@ use Rattle.matching.specs.Rolling.{candidate, counterparts, matches, matchRow, 
 use Rattle.matching.specs.Clearing.{tradedAt, largest, clearedVolume, marginal, filled, fillsOf, endToEnd, rowsOfBid, overlapRows, afterFills, clearPeriod}
 use Rattle.matching.proofs.FiguresHold.{figure2-holds, figure3-holds, figure4-holds}
 use Rattle.book.specs.Trades.{traded, booked, rowsBooked}
-use Rattle.book.specs.Fit.{openOrders, openOffers, openRaising, openLowering, hourFits, hoursFit, termFits, volumeFits}
+use Rattle.book.specs.Fit.{openOrders, openOffers, openRaising, openLowering, hourFits, hoursFit, termFits, volumeFits, unitFits}
 use Rattle.book.specs.Sound.{headIn, unitIn, offerIn, orderIn, numbersDiffer, eachTwo, sound}
 use Rattle.book.specs.Refusals.{firstOf}
 use Rattle.book.specs.Opening.{openingRefusal}
@@ -24,15 +24,15 @@ use Rattle.book.specs.Calls.{answers}
 use Rattle.book.specs.Figures.{Figure5, Figure6, Figure7, Figure8, Transcript, figures, Hold}
 
 figure5-calls : Figure5
-unfolding sum all hourLimit termLimit volumeLimit openOrders openOffers openRaising openLowering hourFits hoursFit termFits volumeFits headIn unitIn offerIn orderIn rising numbersDiffer eachTwo sound firstOf enrolRefusal enrolment orderRefusal ordering answers
+unfolding holds sum all unitFits hourLimit termLimit volumeLimit openOrders openOffers openRaising openLowering hourFits hoursFit termFits volumeFits headIn unitIn offerIn orderIn rising numbersDiffer eachTwo sound firstOf enrolRefusal enrolment orderRefusal ordering answers
 figure5-calls = (figure5-holds, refl)
 
 figure6-calls : Figure6
-unfolding sum all hourLimit termLimit volumeLimit openOrders openOffers openRaising openLowering hourFits hoursFit termFits volumeFits headIn unitIn offerIn orderIn rising numbersDiffer eachTwo sound firstOf enrolRefusal enrolment orderRefusal ordering answers
+unfolding holds sum all unitFits hourLimit termLimit volumeLimit openOrders openOffers openRaising openLowering hourFits hoursFit termFits volumeFits headIn unitIn offerIn orderIn rising numbersDiffer eachTwo sound firstOf enrolRefusal enrolment orderRefusal ordering answers
 figure6-calls = (figure6-holds, refl)
 
 figure7-calls : Figure7
-unfolding sum all hourLimit termLimit volumeLimit openOrders openOffers openRaising openLowering hourFits hoursFit termFits volumeFits headIn unitIn offerIn orderIn rising numbersDiffer eachTwo sound firstOf enrolRefusal enrolment orderRefusal ordering answers parts traded booked rowsBooked offerRefusal offering takeRefusal takeRowsFrom takeRows lessEach offersLess taking closing
+unfolding holds sum all unitFits hourLimit termLimit volumeLimit openOrders openOffers openRaising openLowering hourFits hoursFit termFits volumeFits headIn unitIn offerIn orderIn rising numbersDiffer eachTwo sound firstOf enrolRefusal enrolment orderRefusal ordering answers parts traded booked rowsBooked offerRefusal offering takeRefusal takeRowsFrom takeRows lessEach offersLess taking closing
 figure7-calls = refl
 
 figure8-holds : Figure8
@@ -43,5 +43,5 @@ pub figures-hold : Hold figures
 figures-hold = (figure1-holds, (figure2-holds, (figure3-holds, (figure4-holds, (figure5-calls, (figure6-calls, (figure7-calls, (figure8-holds, tt))))))))
 
 pub transcript-holds : Transcript
-unfolding sum all hourLimit termLimit volumeLimit openOrders openOffers openRaising openLowering hourFits hoursFit termFits volumeFits headIn unitIn offerIn orderIn rising numbersDiffer eachTwo sound firstOf enrolRefusal enrolment orderRefusal ordering answers openingRefusal lessen bidAhead askAhead insert laid candidate counterparts matches matchRow afterMatches meet tradedAt largest clearedVolume clearPeriod clearFrom clearRefusal clearing traded booked rowsBooked waiting closing
+unfolding holds sum all unitFits hourLimit termLimit volumeLimit openOrders openOffers openRaising openLowering hourFits hoursFit termFits volumeFits headIn unitIn offerIn orderIn rising numbersDiffer eachTwo sound firstOf enrolRefusal enrolment orderRefusal ordering answers openingRefusal lessen bidAhead askAhead insert laid candidate counterparts matches matchRow afterMatches meet tradedAt largest clearedVolume clearPeriod clearFrom clearRefusal clearing traded booked rowsBooked waiting closing
 transcript-holds = (refl, refl)

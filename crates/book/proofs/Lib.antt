@@ -1,1 +1,5 @@
+pub mod RangeFacts
+pub mod NumberLaws
+pub mod PairLaws
+pub mod MadeLaws
 pub mod FiguresHold

@@ -6,13 +6,13 @@ use mathlib.Core.List.{List, [], _∷_}
 use lib.ListN.{length, getD}
 use lib.Dec.{eqb}
 use Rattle.measures.specs.Ranges.{between}
-use Rattle.measures.specs.Lists.{sumOf, sum}
+use Rattle.measures.specs.Lists.{Each, sumOf, sum}
 use Rattle.limits.specs.Units.{periods, generator}
 use Rattle.limits.specs.Limits.{hourOf, hourLimit, termLimit, volumeLimit}
 use Rattle.matching.specs.Orders.{Order as OpenOrder, Row}
 use Rattle.book.specs.Book.{Figures, Book, figuresOf, net}
 use Rattle.book.specs.Trades.{raises, lowers}
-use Rattle.book.specs.Opening.{fresh}
+use Rattle.book.specs.Opening.{fresh, openingRefusal}
 use Rattle.book.specs.Curve.{firstHalf, secondHalf, points}
 use Rattle.book.specs.Calls.{Call, outcome, answered, bookAfter}
 use Rattle.book.specs.Tally.{Member, Amounts, Tally, opened, tallied}
@@ -49,8 +49,8 @@ volumeOf t u = sum (periods (t .days)) (λ p. sold t u p + bought t u p)
 -- "any part, from none to all, of each open amount", by number and period
 pub record Part (t : Tally) : Type 0 where
   pub part : ℕ → ℕ → ℕ
-  pub ofOffers : (k : ℕ) → k < length (t .offers) → (p : ℕ) → part (getD (t .offers) k (record { number = 0; unit = 0; amounts = [] }) .number) p ≤ getD (getD (t .offers) k (record { number = 0; unit = 0; amounts = [] }) .amounts) p 0
-  pub ofOrders : (k : ℕ) → k < length (t .orders) → part (getD (t .orders) k (record { number = 0; unit = 0; direction = 0; period = 0; price = 0; quantity = 0 }) .number) (getD (t .orders) k (record { number = 0; unit = 0; direction = 0; period = 0; price = 0; quantity = 0 }) .period) ≤ getD (t .orders) k (record { number = 0; unit = 0; direction = 0; period = 0; price = 0; quantity = 0 }) .quantity
+  pub ofOffers : Each (λ (a : Amounts). (p : ℕ) → part (a .number) p ≤ getD (a .amounts) p 0) (t .offers)
+  pub ofOrders : Each (λ (o : OpenOrder). part (o .number) (o .period) ≤ o .quantity) (t .orders)
 
 -- "raising to the net, lowering off it": the parts of a unit's open amounts in a period
 unfoldable pub raisingPart : (t : Tally) → Part t → ℕ → ℕ → ℕ
@@ -102,5 +102,5 @@ tallyAfter t b (c ∷ cs) = tallyAfter (tallied t c (answered (outcome b c))) (o
 -- "One theorem over every list of calls from a newly opened book, counted from the handed-out rows by 01's tally"
 abbrev pub OverEveryList : Type 0
 OverEveryList =
-    (words days floor ceiling : ℕ) (cs : List Call) → Rattle.book.specs.Opening.openingRefusal words days floor ceiling ≡ 0
+    (words days floor ceiling : ℕ) (cs : List Call) → openingRefusal words days floor ceiling ≡ 0
     → Demand3 (tallyAfter (opened days) (fresh days floor ceiling) cs) (bookAfter (fresh days floor ceiling) cs)

@@ -4,7 +4,7 @@ use mathlib.Core.Bool.{Bool, cond, _&&_, _||_}
 use mathlib.Core.List.{List, [], _∷_}
 use lib.ListN.{getD}
 use lib.Dec.{eqb, leb}
-use Rattle.measures.specs.Lists.{sumOf, sum, all}
+use Rattle.measures.specs.Lists.{holds, sumOf, sum, all}
 use Rattle.limits.specs.Units.{periods}
 use Rattle.limits.specs.Limits.{hourOf, hourLimit, termLimit, volumeLimit}
 use Rattle.matching.specs.Orders.{Order as OpenOrder}
@@ -68,5 +68,5 @@ module _ (b : Book) (u : ℕ) (d : Declaration) where
       (volumeLimit (unitOf b u .kind) termOf)
 
 -- "all units fit so": every period, with nothing added
-abbrev pub unitFits : Book → ℕ → Bool
-unitFits b u = all (periods (b .days)) (hourFits b u nothing) && termFits b u nothing && volumeFits b u nothing
+unfoldable pub unitFits : Book → ℕ → Bool
+unitFits b u = holds (all (periods (b .days)) (hourFits b u nothing) ∷ termFits b u nothing ∷ volumeFits b u nothing ∷ [])

@@ -4,6 +4,8 @@ pub mod Fit
 pub mod Sound
 pub mod Refusals
 pub mod Opening
+pub mod Layout
+pub mod Readable
 pub mod Enrol
 pub mod Offer
 pub mod Take
@@ -14,6 +16,7 @@ pub mod Clear
 pub mod Close
 pub mod Curve
 pub mod Calls
+pub mod Contract
 pub mod Tally
 pub mod Demand3
 pub mod Figures

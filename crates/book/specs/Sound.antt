@@ -5,7 +5,7 @@ use mathlib.Core.List.{List, [], _∷_, map}
 use lib.ListN.{length}
 use lib.Dec.{eqb, leb, ltb}
 use Rattle.measures.specs.Ranges.{between, mostEnergy, mostPrice}
-use Rattle.measures.specs.Lists.{every, all}
+use Rattle.measures.specs.Lists.{holds, every, all}
 use Rattle.measures.specs.Sharing.{total}
 use Rattle.limits.specs.Units.{daysIn, periods, periodIn, kindIn, generator, capacityIn, assetIn}
 use Rattle.matching.specs.Orders.{Order as OpenOrder, buys, sells, rising, numbers}
@@ -23,13 +23,25 @@ energyIn q = between 1 mostEnergy q
 -- "every figure lies in its range": the book's own, a unit's, an offer's, an order's
 unfoldable pub headIn : Book → Bool
 headIn b =
-    daysIn (b .days) && pricesIn (b .floor) (b .ceiling) && leb (b .phase) rollingPhase && leb (b .given) mostNumbers
-    && leb (length (b .units)) mostUnits && leb (length (b .offers)) mostOffers && leb (length (b .orders)) mostOrders
+    holds
+    (daysIn (b .days)
+    ∷ pricesIn (b .floor) (b .ceiling)
+    ∷ leb (b .phase) rollingPhase
+    ∷ leb (b .given) mostNumbers
+    ∷ leb (length (b .units)) mostUnits
+    ∷ leb (length (b .offers)) mostOffers
+    ∷ leb (length (b .orders)) mostOrders
+    ∷ [])
 
 unfoldable pub unitIn : ℕ → Unit → Bool
 unitIn days u =
-    kindIn (u .kind) && capacityIn (u .capacity) && assetIn (u .asset)
-    && eqb (length (u .figures)) (periods days) && every (λ (f : Figures). leb (f .way) 2) (u .figures)
+    holds
+    (kindIn (u .kind)
+    ∷ capacityIn (u .capacity)
+    ∷ assetIn (u .asset)
+    ∷ eqb (length (u .figures)) (periods days)
+    ∷ every (λ (f : Figures). leb (f .way) 2) (u .figures)
+    ∷ [])
 
 -- "each open declaration names enrolled units of the side its call wants": an order any unit, a listing any unit, a
 -- bilateral offer a generator and a load
@@ -41,21 +53,35 @@ offerSides b o = eqb (o .partner) 0 || (known b (o .partner) && bilateralSides b
 
 unfoldable pub offerIn : Book → OpenOffer → Bool
 offerIn b o =
-    between 1 (b .given) (o .number) && known b (o .unit) && offerSides b o
-    && between (b .floor) (b .ceiling) (o .price) && leb (o .taken) 1
-    && eqb (length (o .amounts)) (periods (b .days)) && energyIn (total (o .amounts))
+    holds
+    (between 1 (b .given) (o .number)
+    ∷ known b (o .unit)
+    ∷ offerSides b o
+    ∷ between (b .floor) (b .ceiling) (o .price)
+    ∷ leb (o .taken) 1
+    ∷ eqb (length (o .amounts)) (periods (b .days))
+    ∷ energyIn (total (o .amounts))
+    ∷ [])
 
 unfoldable pub orderIn : Book → OpenOrder → Bool
 orderIn b o =
-    between 1 (b .given) (o .number) && known b (o .unit) && leb (o .direction) 1
-    && periodIn (b .days) (o .period) && between (b .floor) (b .ceiling) (o .price) && energyIn (o .quantity)
+    holds
+    (between 1 (b .given) (o .number)
+    ∷ known b (o .unit)
+    ∷ leb (o .direction) 1
+    ∷ periodIn (b .days) (o .period)
+    ∷ between (b .floor) (b .ceiling) (o .price)
+    ∷ energyIn (o .quantity)
+    ∷ [])
 
 -- "open numbers differ": each list's rise, and no offer has an order's
 unfoldable pub numbersDiffer : Book → Bool
 numbersDiffer b =
-    rising (map (λ (o : OpenOffer). o .number) (b .offers))
-    && rising (numbers (b .orders))
-    && every (λ (f : OpenOffer). every (λ (o : OpenOrder). not (eqb (f .number) (o .number))) (b .orders)) (b .offers)
+    holds
+    (rising (map (λ (o : OpenOffer). o .number) (b .offers))
+    ∷ rising (numbers (b .orders))
+    ∷ every (λ (f : OpenOffer). every (λ (o : OpenOrder). not (eqb (f .number) (o .number))) (b .orders)) (b .offers)
+    ∷ [])
 
 -- "no unit has open orders both ways in a period"
 abbrev pub oneWay : OpenOrder → OpenOrder → Bool
@@ -75,11 +101,13 @@ eachTwo f os = every (λ (a : OpenOrder). every (f a) os) os
 -- (No open figure is kept: each is summed where it is wanted.)
 unfoldable pub sound : Book → Bool
 sound b =
-    headIn b
-    && every (unitIn (b .days)) (b .units)
-    && every (offerIn b) (b .offers)
-    && every (orderIn b) (b .orders)
-    && numbersDiffer b
-    && eachTwo oneWay (b .orders)
-    && (not (eqb (b .phase) rollingPhase) || eachTwo apart (b .orders))
-    && all (length (b .units)) (λ k. unitFits b (k + 1))
+    holds
+    (headIn b
+    ∷ every (unitIn (b .days)) (b .units)
+    ∷ every (offerIn b) (b .offers)
+    ∷ every (orderIn b) (b .orders)
+    ∷ numbersDiffer b
+    ∷ eachTwo oneWay (b .orders)
+    ∷ (not (eqb (b .phase) rollingPhase) || eachTwo apart (b .orders))
+    ∷ all (length (b .units)) (λ k. unitFits b (k + 1))
+    ∷ [])

@@ -1,1 +1,10 @@
 // The book of a term: opening, the eight calls and the curve (paper 01).
+mod numbers;
+mod pairs;
+mod ranges;
+
+// What a call answers: its number and count of rows, or the refusal.
+pub enum Answer {
+    Done(u64, usize),
+    Refused(u64),
+}

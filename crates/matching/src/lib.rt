@@ -7,3 +7,4 @@ pub mod margins;
 pub mod orders;
 pub mod overlaps;
 pub mod rests;
+pub mod rolling;

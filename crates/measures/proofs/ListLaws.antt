@@ -1,15 +1,16 @@
 -- Laws of tables, sums and tests (specs/Lists.antt).
-use Prim.Native.Nat.{ℕ, zero, suc, _+_, _-_, _*_, _≤_, _<_}
+use Prim.Native.Nat.{ℕ, zero, suc, _+_, _-_, _*_, _≤_, _<_, min}
 use mathlib.Core.Path.{_≡_, refl, sym, ap, _∙_}
-use mathlib.Core.Bool.{Bool, true, false, cond, _&&_, _||_}
+use mathlib.Core.Bool.{Bool, true, false, cond, not, _&&_, _||_}
 use mathlib.Core.List.{List, [], _∷_, _++_}
 use native.Mathlib.Omega.{arith}
 use native.Mathlib.Nat.{not-suc-le-zero, add-zero, zero-add}
 use native.Mathlib.Numerals.{add-one}
 use native.Mathlib.Decide.{ℕ-discrete, decLt}
-use lib.ListN.{length, getD, take, drop, set, length-set}
-use lib.Seq.{ext-getD, getD-set-same, getD-set-other, drop-cons}
-use Rattle.measures.specs.Lists.{sumOf, every, keep, sum, all, tableFrom, table}
+use lib.ListN.{length, getD, take, drop, set, length-set, length-append, List·getD-append}
+use lib.Seq.{ext-getD, getD-set-same, getD-set-other, getD-at, drop-cons}
+use Rattle.measures.specs.Sharing.{total}
+use Rattle.measures.specs.Lists.{holds, sumOf, every, keep, sum, all, tableFrom, table}
 
 -- cases of a choice
 pub cond-true : {A : Type 0} (b : Bool) (x y : A) {z : A} → b ≡ true → x ≡ z → cond b x y ≡ z
@@ -25,6 +26,37 @@ cond-case P false x y h k = k refl
 -- no Bool is both
 pub both-ways : {X : Type 0} → true ≡ false → X
 both-ways e = let z : _≡_ {A = ℕ} 0 1 = cc in absurd (omega arith)
+
+-- a test that cannot hold fails
+pub false-by : (b : Bool) → (b ≡ true → ⊥) → b ≡ false
+false-by true h = absurd (h refl)
+false-by false h = refl
+
+pub true-by : (b : Bool) → (b ≡ false → ⊥) → b ≡ true
+true-by true h = refl
+true-by false h = absurd (h refl)
+
+pub not-both : (b : Bool) → b ≡ true → b ≡ false → ⊥
+not-both b e f = both-ways (sym e ∙ f)
+
+pub not-holds : (b : Bool) → not b ≡ true → b ≡ false
+not-holds true e = both-ways (sym e)
+not-holds false e = refl
+
+pub not-fails : (b : Bool) → b ≡ false → not b ≡ true
+not-fails b e = rw e
+
+-- a disjunction
+pub or-left : (a b : Bool) → a ≡ true → (a || b) ≡ true
+or-left a b e = rw e
+
+pub or-right : (a b : Bool) → b ≡ true → (a || b) ≡ true
+or-right true b e = refl
+or-right false b e = e
+
+pub or-other : (a b : Bool) → (a || b) ≡ true → a ≡ false → b ≡ true
+or-other true b e f = both-ways f
+or-other false b e f = e
 
 -- a conjunction and its halves
 pub and-true : (a b : Bool) → a ≡ true → b ≡ true → (a && b) ≡ true
@@ -44,6 +76,21 @@ and-left-false a b e = rw e
 pub and-right-false : (a b : Bool) → b ≡ false → (a && b) ≡ false
 and-right-false true b e = e
 and-right-false false b e = refl
+
+-- a list of conditions, as facts
+abbrev pub AllTrue : List Bool → Type 0
+AllTrue [] = Unit {0}
+AllTrue (c ∷ cs) = (c ≡ true) × AllTrue cs
+
+pub all-true : (cs : List Bool) → holds cs ≡ true → AllTrue cs
+unfolding holds
+all-true [] e = tt
+all-true (c ∷ cs) e = (and-left c (holds cs) e, all-true cs (and-right c (holds cs) e))
+
+pub holds-all : (cs : List Bool) → AllTrue cs → holds cs ≡ true
+unfolding holds
+holds-all [] t = refl
+holds-all (c ∷ cs) t = and-true c (holds cs) (t .0) (holds-all cs (t .1))
 
 -- a table is known by its elements
 module _ {A : Type 0} where
@@ -82,6 +129,17 @@ module _ {A : Type 0} where
           let l : i < length (table n f) = omega (arith, table-length n f) in
           rw q (e ∙ sym (getD-set-same (table n f) i v d l))
       at k hk (no q) = h k hk q ∙ sym (table-at n f k d hk) ∙ sym (getD-set-other (table n f) i k v d q)
+
+  -- one element more
+  pub table-more : (n : ℕ) (f : ℕ → A) → table (n + 1) f ≡ table n f ++ (f n ∷ [])
+  table-more n f = table-is (n + 1) f (table n f ++ (f n ∷ [])) (f 0) (length-append (table n f) (f n ∷ []) ∙ ap (λ (x : ℕ). x + 1) (table-length n f)) (λ k hk. at k hk (ℕ-discrete k n))
+    where
+      at : (k : ℕ) → k < n + 1 → Dec (k ≡ n) → f k ≡ getD (table n f ++ (f n ∷ [])) k (f 0)
+      at k hk (yes e) = rw e (sym (getD-at (table n f) (f n) [] (f 0) n (table-length n f)))
+      at k hk (no ne) =
+          let h : k < n = omega arith in
+          let l : k < length (table n f) = rw (table-length n f) h in
+          sym (table-at n f k (f 0) h) ∙ sym (List·getD-append (table n f) (f n ∷ []) (f 0) k l)
 
 -- tests over the numbers below a bound
 pub all-none : (f : ℕ → Bool) → all 0 f ≡ true
@@ -151,6 +209,20 @@ unfolding sum
 sum-add zero f g = refl
 sum-add (suc n) f g = let t = sum-add n f g in omega arith
 
+-- a shorter sum is no larger
+pub sum-prefix : (n k : ℕ) (f : ℕ → ℕ) → k ≤ n → sum k f ≤ sum n f
+unfolding sum
+sum-prefix zero k f h =
+    let e : k ≡ 0 = omega arith in
+    rw e (omega arith)
+sum-prefix (suc n) k f h = go (λ l. sum-prefix n k f l) (decLt n k)
+  where
+    go : (k ≤ n → sum k f ≤ sum n f) → Dec (n < k) → sum k f ≤ sum n f + f n
+    go ih (yes l) =
+        let e : k ≡ suc n = omega arith in
+        rw e (omega arith)
+    go ih (no l) = let t = ih (omega arith) in omega arith
+
 -- each term is at most the sum
 pub sum-at : (n : ℕ) (f : ℕ → ℕ) (i : ℕ) → i < n → f i ≤ sum n f
 unfolding sum
@@ -196,6 +268,17 @@ module _ {A : Type 0} where
   every-by f [] d h = refl
   every-by f (x ∷ xs) d h = and-true (f x) (every f xs) (h 0 (omega arith)) (every-by f xs d (λ i l. h (suc i) (omega arith)))
 
+  -- a test of each element of a table is one of each number
+  pub every-table : (f : A → Bool) (n : ℕ) (g : ℕ → A) → every f (table n g) ≡ all n (λ k. f (g k))
+  every-table f n g = go (all n (λ k. f (g k))) refl
+    where
+      go : (b : Bool) → all n (λ k. f (g k)) ≡ b → every f (table n g) ≡ all n (λ k. f (g k))
+      go true e =
+          every-by f (table n g) (g 0) (λ i l. let h : i < n = omega (arith, table-length n g) in rw (table-at n g i (g 0) h) (all-at n (λ k. f (g k)) i e h)) ∙ sym e
+      go false e =
+          false-by (every f (table n g)) (λ t. not-both (all n (λ k. f (g k)))
+          (all-by n (λ k. f (g k)) (λ i h. let l : i < length (table n g) = rw (table-length n g) h in rw (table-at n g i (g 0) h) at (every-at f (table n g) i (g 0) t l))) e) ∙ sym e
+
   pub keep-append : (f : A → Bool) (xs ys : List A) → keep f (xs ++ ys) ≡ keep f xs ++ keep f ys
   keep-append f [] ys = refl
   keep-append f (x ∷ xs) ys = go (f x) refl (keep-append f xs ys)
@@ -203,3 +286,36 @@ module _ {A : Type 0} where
       go : (b : Bool) → f x ≡ b → keep f (xs ++ ys) ≡ keep f xs ++ keep f ys → cond (f x) (x ∷ keep f (xs ++ ys)) (keep f (xs ++ ys)) ≡ cond (f x) (x ∷ keep f xs) (keep f xs) ++ keep f ys
       go true e ih = rw (e, ih)
       go false e ih = rw (e, ih)
+
+-- a table's sum is the sum over its numbers
+pub sumOf-table : {A : Type 0} (f : A → ℕ) (n : ℕ) (g : ℕ → A) → sumOf f (table n g) ≡ sum n (λ k. f (g k))
+unfolding sum tableFrom
+sumOf-table f zero g = refl
+sumOf-table f (suc n) g =
+    ap (λ (k : ℕ). sumOf f (table k g)) (sym (add-one n)) ∙ ap (sumOf f) (table-more n g) ∙ sumOf-append f (table n g) (g n ∷ [])
+    ∙ rw (sumOf-table f n g) (omega arith)
+
+pub total-sumOf : (l : List ℕ) → total l ≡ sumOf (λ x. x) l
+total-sumOf [] = refl
+total-sumOf (x ∷ l) = rw (total-sumOf l)
+
+pub total-table : (n : ℕ) (f : ℕ → ℕ) → total (table n f) ≡ sum n f
+total-table n f = total-sumOf (table n f) ∙ sumOf-table (λ x. x) n f
+
+-- a running sum with a largest value: the amount that passes it, one amount more, and the end
+module _ (most n p w : ℕ) (f : ℕ → ℕ) where
+  pub capped-over : p < n → w ≡ sum p f → most < w + f p → most + 1 ≡ min (total (table n f)) (most + 1)
+  capped-over h e over =
+      let t = total-table n f in
+      let s = sum-more p f in
+      let l = sum-prefix n (p + 1) f (omega arith) in
+      omega arith
+
+  pub capped-more : w ≡ sum p f → w + f p ≡ sum (p + 1) f
+  capped-more e = let s = sum-more p f in omega arith
+
+  pub capped-end : p ≡ n → w ≡ sum p f → w ≤ most → w ≡ min (total (table n f)) (most + 1)
+  capped-end e s l =
+      let t = total-table n f in
+      let q : sum p f ≡ sum n f = ap (λ (k : ℕ). sum k f) e in
+      omega arith

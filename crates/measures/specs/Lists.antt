@@ -3,6 +3,11 @@ use Prim.Native.Nat.{ℕ, zero, suc, _+_}
 use mathlib.Core.Bool.{Bool, true, false, cond, _&&_}
 use mathlib.Core.List.{List, [], _∷_}
 
+-- whether each of a list of conditions holds
+unfoldable pub holds : List Bool → Bool
+holds [] = true
+holds (c ∷ cs) = c && holds cs
+
 module _ {A : Type 0} where
   -- the sum of f over a list
   abbrev pub sumOf : (A → ℕ) → List A → ℕ
@@ -13,6 +18,11 @@ module _ {A : Type 0} where
   abbrev pub every : (A → Bool) → List A → Bool
   every f [] = true
   every f (x ∷ xs) = f x && every f xs
+
+  -- that P is so of each element
+  abbrev pub Each : (A → Type 0) → List A → Type 0
+  Each P [] = Unit {0}
+  Each P (x ∷ xs) = P x × Each P xs
 
   -- the elements of which f holds, in their order
   abbrev pub keep : (A → Bool) → List A → List A

@@ -1,0 +1,19 @@
+//! The second engine of Cenduxari: paper 01, "Term contracts for electricity", in plain Rust.
+//! It is written from the paper alone, so that the proved engine can be compared with it.
+
+pub mod book;
+pub mod calls;
+pub mod clearing;
+pub mod damage;
+pub mod fits;
+pub mod generate;
+pub mod limits;
+pub mod lists;
+pub mod manners;
+pub mod orders;
+pub mod random;
+pub mod rehearse;
+pub mod rooms;
+pub mod sharing;
+pub mod sound;
+pub mod tally;

@@ -1,0 +1,9 @@
+//! Trials of the proved functions: each is held to the second engine and to the paper's laws, on many inputs.
+//!
+//! A trial takes the function to try as an argument, so that the tests also see that wrong versions are found.
+
+pub mod exported;
+pub mod limits;
+pub mod plain;
+pub mod random;
+pub mod sharing;
