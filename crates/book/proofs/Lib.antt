@@ -1,2 +1,5 @@
 pub mod RangeFacts
 pub mod FiguresHold
+pub mod RemainLaws
+pub mod FitLaws
+pub mod SoundLaws
