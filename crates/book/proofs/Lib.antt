@@ -3,3 +3,11 @@ pub mod FiguresHold
 pub mod RemainLaws
 pub mod FitLaws
 pub mod SoundLaws
+pub mod RefusalLaws
+pub mod FormedLaws
+pub mod OpenLaws
+pub mod KeepLaws
+pub mod DeclareLaws
+pub mod OfferLaws
+pub mod OrderingLaws
+pub mod TradeLaws

@@ -44,14 +44,28 @@ module _ {A : Type 0} where
   every-append f (x ∷ xs) ys e h =
       and-true (f x) (every f (xs ++ ys)) (and-left (f x) (every f xs) e) (every-append f xs ys (and-right (f x) (every f xs) e) h)
 
+-- two tests of each element that give a third
+pub every-both : {A : Type 0} (f g h : A → Bool) → ((x : A) → f x ≡ true → g x ≡ true → h x ≡ true) → (l : List A) → every f l ≡ true → every g l ≡ true → every h l ≡ true
+every-both f g h k [] p q = refl
+every-both f g h k (x ∷ l) p q =
+    and-true (h x) (every h l) (k x (and-left (f x) (every f l) p) (and-left (g x) (every g l) q))
+    (every-both f g h k l (and-right (f x) (every f l) p) (and-right (g x) (every g l) q))
+
 -- a larger number behind numbers that rise
-pub rising-append : (ns : List ℕ) (n : ℕ) → rising ns ≡ true → Each (λ m. m < n) ns → rising (ns ++ (n ∷ [])) ≡ true
-unfolding rising
-rising-append [] n e h = refl
-rising-append (m ∷ ns) n e h =
-    and-true (every (ltb m) (ns ++ (n ∷ []))) (rising (ns ++ (n ∷ [])))
-    (every-append (ltb m) ns (n ∷ []) (and-left (every (ltb m) ns) (rising ns) e) (and-true (ltb m n) true (lt-ltb m n (h .0)) refl))
-    (rising-append ns n (and-right (every (ltb m) ns) (rising ns) e) (h .1))
+module _ {A : Type 0} (f : A → ℕ) where
+  above-append : (n : ℕ) (xs : List A) (y : A) → every (ltb n) (map f xs) ≡ true → n < f y → every (ltb n) (map f (xs ++ (y ∷ []))) ≡ true
+  above-append n [] y e h = and-true (ltb n (f y)) true (lt-ltb n (f y) h) refl
+  above-append n (x ∷ xs) y e h =
+      and-true (ltb n (f x)) (every (ltb n) (map f (xs ++ (y ∷ [])))) (and-left (ltb n (f x)) (every (ltb n) (map f xs)) e)
+      (above-append n xs y (and-right (ltb n (f x)) (every (ltb n) (map f xs)) e) h)
+
+  pub rising-append : (xs : List A) (y : A) → rising (map f xs) ≡ true → Each (λ (x : A). f x < f y) xs → rising (map f (xs ++ (y ∷ []))) ≡ true
+  unfolding rising
+  rising-append [] y e h = refl
+  rising-append (x ∷ xs) y e h =
+      and-true (every (ltb (f x)) (map f (xs ++ (y ∷ [])))) (rising (map f (xs ++ (y ∷ []))))
+      (above-append (f x) xs y (and-left (every (ltb (f x)) (map f xs)) (rising (map f xs)) e) (h .0))
+      (rising-append xs y (and-right (every (ltb (f x)) (map f xs)) (rising (map f xs)) e) (h .1))
 
 -- a list from which elements are gone, and in which each that is kept stands to the old one as R says
 pub data Remains {A : Type 0} (R : A → A → Type 0) : List A → List A → Type 0 where
