@@ -11,3 +11,6 @@ pub mod DeclareLaws
 pub mod OfferLaws
 pub mod OrderingLaws
 pub mod TradeLaws
+pub mod ExchangedLaws
+pub mod LeftLaws
+pub mod ClearedLaws
