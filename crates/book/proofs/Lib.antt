@@ -14,3 +14,4 @@ pub mod TradeLaws
 pub mod ExchangedLaws
 pub mod LeftLaws
 pub mod ClearedLaws
+pub mod RolledLaws
