@@ -15,3 +15,7 @@ pub mod ExchangedLaws
 pub mod LeftLaws
 pub mod ClearedLaws
 pub mod RolledLaws
+pub mod TakeLaws
+pub mod TakingLaws
+pub mod CallLaws
+pub mod SoundAfter
