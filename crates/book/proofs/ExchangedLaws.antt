@@ -1,28 +1,24 @@
 -- Rows that take off open orders what they trade leave a sound book.
-use Prim.Native.Nat.{ℕ, zero, suc, _+_, _-_, _≤_, _<_}
-use mathlib.Core.Path.{_≡_, refl, sym, ap, _∙_}
-use mathlib.Core.Bool.{Bool, true, false, cond, not, _&&_}
-use mathlib.Core.List.{List, [], _∷_, _++_}
+use Prim.Native.Nat.{ℕ, _+_, _-_, _≤_, _<_}
+use mathlib.Core.Path.{_≡_, refl, ap, _∙_}
+use mathlib.Core.Bool.{Bool, true, false, cond}
+use mathlib.Core.List.{List}
 use native.Mathlib.Omega.{arith}
-use lib.ListN.{length, getD, set}
+use lib.ListN.{length}
 use Rattle.measures.specs.Lists.{Each}
 use Rattle.measures.proofs.RangeLaws.{In}
 use Rattle.limits.specs.Units.{periods, generator}
-use Rattle.matching.specs.Orders.{Order as OpenOrder, Row, sells, buys, lessen, less}
-use Rattle.matching.proofs.EachLaws.{Each as EachOf}
+use Rattle.matching.specs.Orders.{Order as OpenOrder, Row, sells, buys}
 use Rattle.matching.proofs.ExchangeLaws.{Exchanged}
-use Rattle.book.specs.Book.{Figures, Unit, noUnit, OpenOffer, Book, rollingPhase, unitOf, figuresOf, withUnits, withOrders, inPhase}
-use Rattle.book.specs.Trades.{raises, lowers, unitTraded, booked, rowBooked, rowsBooked}
-use Rattle.book.specs.Fit.{openOrders, openOffers, openRaising, openLowering, nothing}
+use Rattle.book.specs.Book.{noUnit, Book, rollingPhase, unitOf, figuresOf, withUnits, withOrders, inPhase}
+use Rattle.book.specs.Trades.{raises, lowers, rowsBooked}
+use Rattle.book.specs.Fit.{openOrders, openRaising, openLowering, nothing}
 use Rattle.book.specs.Sound.{apart, eachTwo, sound}
 use Rattle.book.proofs.RemainLaws.{each-at, Remains, remains-all}
-use Rattle.book.proofs.FitLaws.{Fits, Moved, fits-after}
-use Rattle.book.proofs.SoundLaws.{UnitRanges, Formed, Sound, sound-holds}
+use Rattle.book.proofs.FitLaws.{Moved, fits-after}
+use Rattle.book.proofs.SoundLaws.{UnitRanges, Sound, sound-holds}
 use Rattle.book.proofs.FormedLaws.{LessOffer, LessOrder, same-offer, Remaining, formed-remaining}
-use Rattle.book.proofs.TradeLaws.{tradedBy, sold, bought, rowsRaise, rowsLower, Named, Kept, kept-rows, Grown, grown-rows}
-
-pub each-is : {A : Type 0} (P : A → Type 0) (l : List A) → EachOf P l → Each P l
-each-is P l e = e
+use Rattle.book.proofs.TradeLaws.{tradedBy, sold, bought, rowsRaise, rowsLower, Named, Kept, kept-rows, grown-rows}
 
 -- a unit's orders lose what it raises by the rows, and what it lowers
 module _ (os os′ : List OpenOrder) (rs : List Row) (x : Exchanged os os′ rs) (u p kind : ℕ) where

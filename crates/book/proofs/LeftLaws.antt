@@ -1,21 +1,23 @@
 -- What matching and clearing leave of the orders: each keeps all but its quantity.
-use Prim.Native.Nat.{ℕ, zero, suc, _+_, _-_, _≤_, _<_}
-use mathlib.Core.Path.{_≡_, refl, sym, ap, _∙_}
-use mathlib.Core.Bool.{Bool, true, false, cond, not, _&&_, _||_}
+use Prim.Native.Nat.{ℕ, _-_, _<_}
+use mathlib.Core.Path.{_≡_, refl, ap, _∙_}
+use mathlib.Core.Bool.{Bool, true, false, cond, not, _&&_}
 use mathlib.Core.List.{List, [], _∷_, _++_}
 use native.Mathlib.Omega.{arith}
-use native.Mathlib.Decide.{ℕ-discrete}
 use lib.Dec.{eqb, leb, ltb}
-use borrow.Author.Tests.{lt-ltb, ne-eqb, eqb-true, leb-false}
-use Rattle.measures.proofs.ListLaws.{or-left, or-right, and-left, and-right, not-fails}
-use Rattle.matching.specs.Orders.{Order as OpenOrder, sells, buys, leaving, less, lessen}
-use Rattle.matching.specs.Clearing.{Fill, Cleared, clearPeriod, afterFills}
-use Rattle.matching.specs.Rolling.{Match, counterparts, matches, meet}
+use borrow.Author.Tests.{lt-ltb, eq-eqb, eqb-true, leb-false}
+use Rattle.measures.specs.Lists.{Each, every}
+use Rattle.measures.proofs.RangeLaws.{In}
+use Rattle.measures.proofs.ListLaws.{or-left, or-right, or-other, and-true, and-left, and-right, not-fails}
+use Rattle.matching.specs.Orders.{Order as OpenOrder, Row, sells, buys, leaving, less, lessen}
+use Rattle.matching.specs.Clearing.{Fill, clearPeriod, afterFills}
+use Rattle.matching.specs.Rolling.{counterparts, matches, meet}
 use Rattle.matching.proofs.PeriodLaws.{bidFillsOf, askFillsOf, cleared-orders}
 use Rattle.matching.proofs.MetLaws.{fillsOf, matches-fill}
-use Rattle.book.specs.Sound.{apart}
-use Rattle.book.proofs.RemainLaws.{Remains, ended, gone, kept, remains-all}
+use Rattle.book.specs.Sound.{oneWay, apart, eachTwo}
+use Rattle.book.proofs.RemainLaws.{each-of, each-imp, Remains, ended, gone, kept, remains-all}
 use Rattle.book.proofs.FormedLaws.{LessOrder, same-order}
+use Rattle.book.proofs.TradeLaws.{Named}
 
 module _ {A : Type 0} (R : A → A → Type 0) where
   pub remains-then : ((x y z : A) → R x y → R y z → R x z) → {xs ys zs : List A} → Remains R xs ys → Remains R ys zs → Remains R xs zs
@@ -79,3 +81,23 @@ far-apart x y h = go (buys (x .direction) && sells (y .direction) && eqb (x .per
         (h (eqb-true _ _ (and-left (buys (x .direction)) (sells (y .direction)) i)) (eqb-true _ _ (and-right (buys (x .direction)) (sells (y .direction)) i))
         (eqb-true _ _ (and-right (buys (x .direction) && sells (y .direction)) (eqb (x .period) (y .period)) e))))
     go false e = or-left (not (buys (x .direction) && sells (y .direction) && eqb (x .period) (y .period))) (ltb (x .price) (y .price)) (not-fails (buys (x .direction) && sells (y .direction) && eqb (x .period) (y .period)) e)
+
+-- two orders of one unit and period go the same way
+abbrev pub SameWay : OpenOrder → OpenOrder → Type 0
+SameWay x y = x .unit ≡ y .unit → x .period ≡ y .period → x .direction ≡ y .direction
+
+pub one-way-same : (os : List OpenOrder) → eachTwo oneWay os ≡ true → Each (λ (x : OpenOrder). Each (SameWay x) os) os
+unfolding eachTwo
+one-way-same os e = each-of (λ (x : OpenOrder). every (oneWay x) os) (λ (x : OpenOrder). Each (SameWay x) os) (λ x h. each-of (oneWay x) (SameWay x) (same x) os h) os e
+  where
+    same : (x y : OpenOrder) → oneWay x y ≡ true → SameWay x y
+    same x y h u p =
+        let t = and-true (eqb (x .unit) (y .unit)) (eqb (x .period) (y .period)) (eq-eqb _ _ u) (eq-eqb _ _ p) in
+        eqb-true _ _ (or-other (not (eqb (x .unit) (y .unit) && eqb (x .period) (y .period))) (eqb (x .direction) (y .direction)) h (ap not t))
+
+-- a row is between two different units of n
+abbrev pub TwoUnits : ℕ → Row → Type 0
+TwoUnits n r = In 1 n (r .seller) × In 1 n (r .buyer) × (r .seller ≡ r .buyer → ⊥)
+
+pub two-named : (n : ℕ) (rs : List Row) → Each (TwoUnits n) rs → Each Named rs
+two-named n rs e = each-imp (TwoUnits n) Named (λ r h. (h .0 .0, h .1 .0)) rs e

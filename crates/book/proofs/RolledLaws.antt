@@ -1,38 +1,37 @@
 -- Order in the rolling phase leaves a sound book: as if it first only waited, and then traded.
-use Prim.Native.Nat.{ℕ, zero, suc, _+_, _-_, _≤_, _<_}
+use Prim.Native.Nat.{ℕ, _-_, _≤_, _<_}
 use mathlib.Core.Path.{_≡_, refl, sym, ap, _∙_}
 use mathlib.Core.Logic.{_⊎_, inl, inr}
-use mathlib.Core.Bool.{Bool, true, false, cond, not, _&&_}
+use mathlib.Core.Bool.{Bool, true, false, cond}
 use mathlib.Core.List.{List, [], _∷_, _++_, append-nil}
 use native.Mathlib.Omega.{arith}
 use native.Mathlib.Decide.{ℕ-discrete, decLt}
 use lib.ListN.{length, getD, set}
-use lib.Dec.{eqb, leb}
+use lib.Dec.{eqb}
 use borrow.Author.Tests.{eq-eqb, ne-eqb, le-leb}
-use Rattle.measures.specs.Lists.{Each, every}
-use Rattle.measures.proofs.RangeLaws.{In}
-use Rattle.measures.proofs.ListLaws.{and-true, not-both}
-use Rattle.matching.specs.Orders.{Order as OpenOrder, Row, sells, buys, leaving}
+use Rattle.measures.specs.Lists.{Each}
+use Rattle.measures.proofs.ListLaws.{not-both}
+use Rattle.matching.specs.Orders.{Order as OpenOrder, Row, leaving}
 use Rattle.matching.specs.Rolling.{Met, candidate, meet}
 use Rattle.matching.proofs.EachLaws.{each-map, has-each}
 use Rattle.matching.proofs.RollingLaws.{Sides, row-sides, traded-and-left, nothing-crosses-after}
 use Rattle.matching.proofs.ExchangeLaws.{isOf, openOf, Exchanged}
 use Rattle.matching.proofs.MetLaws.{met-exchanged}
-use Rattle.book.specs.Book.{Unit, noUnit, Book, callPhase, rollingPhase, unitOf, withUnits, withOrders, inPhase, numbered, nextNumber}
+use Rattle.book.specs.Book.{Unit, noUnit, Book, callPhase, rollingPhase, withUnits, withOrders, inPhase, numbered}
 use Rattle.book.specs.Trades.{unitTraded, booked, rowBooked, rowsBooked}
 use Rattle.book.specs.Fit.{Declaration, openRaising, openLowering, nothing}
 use Rattle.book.specs.Sound.{apart, eachTwo, sound}
 use Rattle.book.specs.Order.{orderDeclares, orderRefusal, newOrder, waiting, orderedInRolling, ordering}
-use Rattle.book.proofs.RemainLaws.{each-holds, each-imp, Remains, ended, gone, kept, remains-all}
+use Rattle.book.proofs.RemainLaws.{each-holds, Remains, ended, gone, kept, remains-all}
 use Rattle.book.proofs.FitLaws.{Fits}
-use Rattle.book.proofs.SoundLaws.{OrderRanges, Formed, Sound, sound-facts}
+use Rattle.book.proofs.SoundLaws.{OrderRanges, Sound, sound-facts}
 use Rattle.book.proofs.RefusalLaws.{decided-sound}
 use Rattle.book.proofs.FormedLaws.{LessOffer, LessOrder, same-offer, same-order, order-after, two-remain, formed-remaining}
-use Rattle.book.proofs.DeclareLaws.{withOrder, Beside, two-more, formed-order}
-use Rattle.book.proofs.OrderingLaws.{OrderPassed, order-passed, one-way-beside, order-fits}
-use Rattle.book.proofs.TradeLaws.{Named, kept-rows}
+use Rattle.book.proofs.DeclareLaws.{withOrder, two-more, formed-order}
+use Rattle.book.proofs.OrderingLaws.{Follows, OrderPassed, order-passed, one-way-beside, order-fits}
+use Rattle.book.proofs.TradeLaws.{kept-rows}
 use Rattle.book.proofs.ExchangedLaws.{exchanged-sound}
-use Rattle.book.proofs.LeftLaws.{Far, far-apart, remains-append, met-remain}
+use Rattle.book.proofs.LeftLaws.{Far, far-apart, remains-append, met-remain, TwoUnits, two-named}
 
 -- rows change the units alone, whatever else the book holds
 pub rows-units : (rs : List Row) (b c : Book) → b .units ≡ c .units → rowsBooked rs b .units ≡ rowsBooked rs c .units
@@ -112,11 +111,11 @@ module _ (b : Book) (u d p price q : ℕ) (s : Sound b) (a : OrderPassed b u d p
   abbrev incoming : OpenOrder
   incoming = newOrder b u d p price q
 
-  abbrev m : Met
-  m = meet incoming (b .orders)
+  abbrev met : Met
+  met = meet incoming (b .orders)
 
   abbrev left : List OpenOrder
-  left = m .orders ++ waiting (leaving incoming (m .left))
+  left = met .orders ++ waiting (leaving incoming (met .left))
 
   -- the book where the order only waits
   abbrev waited : Book
@@ -145,52 +144,59 @@ module _ (b : Book) (u d p price q : ℕ) (s : Sound b) (a : OrderPassed b u d p
   rolled-remains : Remains LessOrder left (waited .orders)
   rolled-remains =
       let t = traded-and-left incoming (b .orders) in
-      remains-append LessOrder (met-remain incoming (b .orders)) (waiting-remains incoming (m .left) (omega arith))
+      remains-append LessOrder (met-remain incoming (b .orders)) (waiting-remains incoming (met .left) (omega arith))
 
-  rolled-exchanged : Exchanged (waited .orders) left (m .rows)
-  rolled-exchanged = met-exchanged incoming (b .orders) (waiting (leaving incoming (m .left))) (s .formed .ordersRise) (a .ranges .direction) (waiting-open incoming (m .left))
+  rolled-exchanged : Exchanged (waited .orders) left (met .rows)
+  rolled-exchanged = met-exchanged incoming (b .orders) (waiting (leaving incoming (met .left))) (s .formed .ordersRise) (a .ranges .direction) (waiting-open incoming (met .left))
 
-  rolled-named : Each Named (m .rows)
-  rolled-named = each-map (Sides incoming (b .orders)) Named (m .rows) named (row-sides incoming (b .orders))
+  -- a row is between the incoming order's unit and another: none of its own orders goes the other way
+  pub rolled-two-units : Each (TwoUnits (length (b .units))) (met .rows)
+  rolled-two-units = each-map (Sides incoming (b .orders)) (TwoUnits (length (b .units))) (met .rows) two (row-sides incoming (b .orders))
     where
-      mine : 1 ≤ u
-      mine = a .ranges .unit .0
-
-      named : (r : Row) → Sides incoming (b .orders) r → Named r
-      named r x = go (x .incoming)
+      two : (r : Row) → Sides incoming (b .orders) r → TwoUnits (length (b .units)) r
+      two r x = go (x .incoming)
         where
-          other : 1 ≤ x .waiting .unit
-          other = has-each (λ (o : OpenOrder). 1 ≤ o .unit) (b .orders) (x .waiting) (each-imp (OrderRanges b) (λ (o : OpenOrder). 1 ≤ o .unit) (λ o r. r .unit .0) (b .orders) (s .formed .orders)) (x .waits)
+          waits : OrderRanges b (x .waiting)
+          waits = has-each (OrderRanges b) (b .orders) (x .waiting) (s .formed .orders) (x .waits)
 
-          go : ((x .sale ≡ x .waiting) × (x .buy ≡ incoming)) ⊎ ((x .sale ≡ incoming) × (x .buy ≡ x .waiting)) → Named r
-          go (inl w) = (rw (x .seller, w .0) other, rw (x .buyer, w .1) mine)
-          go (inr w) = (rw (x .seller, w .0) mine, rw (x .buyer, w .1) other)
+          follows : Follows u d p (x .waiting)
+          follows = has-each (Follows u d p) (b .orders) (x .waiting) (a .follows) (x .waits)
+
+          same-way : (y z : OpenOrder) → y ≡ x .waiting → z ≡ incoming → y .unit ≡ z .unit → y .period ≡ z .period → y .direction ≡ z .direction
+          same-way y z e f unit period =
+              ap (λ (o : OpenOrder). o .direction) e
+              ∙ follows (sym (ap (λ (o : OpenOrder). o .unit) e) ∙ unit ∙ ap (λ (o : OpenOrder). o .unit) f) (sym (ap (λ (o : OpenOrder). o .period) e) ∙ period ∙ ap (λ (o : OpenOrder). o .period) f)
+              ∙ sym (ap (λ (o : OpenOrder). o .direction) f)
+
+          go : ((x .sale ≡ x .waiting) × (x .buy ≡ incoming)) ⊎ ((x .sale ≡ incoming) × (x .buy ≡ x .waiting)) → TwoUnits (length (b .units)) r
+          go (inl w) = (rw (x .seller, w .0) (waits .unit), rw (x .buyer, w .1) (a .ranges .unit), λ e. let k = same-way (x .sale) (x .buy) (w .0) (w .1) (sym (x .seller) ∙ e ∙ x .buyer) (x .opposite .period) in let y = x .opposite in omega arith)
+          go (inr w) = (rw (x .seller, w .0) (a .ranges .unit), rw (x .buyer, w .1) (waits .unit), λ e. let k = same-way (x .buy) (x .sale) (w .1) (w .0) (sym (x .buyer) ∙ sym e ∙ x .seller) (sym (x .opposite .period)) in let y = x .opposite in omega arith)
 
   rolled-apart : b .phase ≡ rollingPhase → eachTwo apart left ≡ true
   rolled-apart r =
-      waiting-case incoming (m .left) (λ l. eachTwo apart (m .orders ++ l) ≡ true) (λ e. rw append-nil before)
+      waiting-case incoming (met .left) (λ l. eachTwo apart (met .orders ++ l) ≡ true) (λ e. rw append-nil before)
       (λ some.
       let h = nothing-crosses-after incoming (b .orders) (s .formed .ordersRise) some in
-      let o = leaving incoming (m .left) in
-      two-more apart (m .orders) o before
-      (each-holds (apart o) (λ x. candidate incoming x ≡ false) (λ x e. far-apart o x (far-behind incoming x e)) (m .orders) h)
-      (each-holds (λ x. apart x o) (λ x. candidate incoming x ≡ false) (λ x e. far-apart x o (far-before incoming x e)) (m .orders) h)
+      let o = leaving incoming (met .left) in
+      two-more apart (met .orders) o before
+      (each-holds (apart o) (λ x. candidate incoming x ≡ false) (λ x e. far-apart o x (far-behind incoming x e)) (met .orders) h)
+      (each-holds (λ x. apart x o) (λ x. candidate incoming x ≡ false) (λ x e. far-apart x o (far-before incoming x e)) (met .orders) h)
       (far-apart o o (λ buy sale same. absurd (omega arith))))
     where
-      before : eachTwo apart (m .orders) ≡ true
-      before = two-remain apart (λ x y k l. refl) (m .orders) (b .orders) (met-remain incoming (b .orders)) (s .formed .apart r)
+      before : eachTwo apart (met .orders) ≡ true
+      before = two-remain apart (λ x y k l. refl) (met .orders) (b .orders) (met-remain incoming (b .orders)) (s .formed .apart r)
 
   -- the same book, whether the order first waited or not
-  rolled-book : numbered (rowsBooked (m .rows) (withOrders b left)) ≡ inPhase (rowsBooked (m .rows) (withOrders waited left)) (b .phase)
+  rolled-book : numbered (rowsBooked (met .rows) (withOrders b left)) ≡ inPhase (rowsBooked (met .rows) (withOrders waited left)) (b .phase)
   rolled-book =
-      ap numbered (kept-rows (m .rows) (withOrders b left) .rest)
-      ∙ ap (λ (us : List Unit). numbered (withUnits (withOrders b left) us)) (rows-units (m .rows) (withOrders b left) (withOrders waited left) refl)
-      ∙ ap (λ (c : Book). inPhase c (b .phase)) (sym (kept-rows (m .rows) (withOrders waited left) .rest))
+      ap numbered (kept-rows (met .rows) (withOrders b left) .rest)
+      ∙ ap (λ (us : List Unit). numbered (withUnits (withOrders b left) us)) (rows-units (met .rows) (withOrders b left) (withOrders waited left) refl)
+      ∙ ap (λ (c : Book). inPhase c (b .phase)) (sym (kept-rows (met .rows) (withOrders waited left) .rest))
 
   pub rolled-sound : sound (orderedInRolling b incoming .book) ≡ true
   rolled-sound =
       ap sound rolled-book
-      ∙ exchanged-sound waited left (m .rows) (b .phase) waited-sound rolled-remains rolled-exchanged rolled-named (s .formed .head .phase) rolled-apart
+      ∙ exchanged-sound waited left (met .rows) (b .phase) waited-sound rolled-remains rolled-exchanged (two-named (length (b .units)) (met .rows) rolled-two-units) (s .formed .head .phase) rolled-apart
 
 -- "Rolling phase: it meets opposite orders of its period"
 pub ordering-in-rolling-sound : (b : Book) (u d p price q lent : ℕ) → (b .phase ≡ callPhase → ⊥) → sound b ≡ true → sound (ordering b u d p price q lent .book) ≡ true

@@ -1,19 +1,18 @@
 -- Orders lose what rows trade: for each unit and period, on each side.
-use Prim.Native.Nat.{ℕ, _+_, _-_, _<_, _≤_}
-use mathlib.Core.Path.{_≡_, refl, sym, ap, ap₂, _∙_}
-use mathlib.Core.Bool.{Bool, true, false, cond, not, _&&_}
-use mathlib.Core.List.{List, [], _∷_, _++_}
+use Prim.Native.Nat.{ℕ, _+_}
+use mathlib.Core.Path.{_≡_, refl, sym, ap, _∙_}
+use mathlib.Core.Bool.{Bool, true, false, cond, _&&_}
+use mathlib.Core.List.{List, [], _++_}
 use native.Mathlib.Omega.{arith}
 use native.Mathlib.Decide.{ℕ-discrete}
 use lib.Dec.{eqb}
 use borrow.Author.Tests.{eq-eqb, ne-eqb, eqb-true}
 use Rattle.measures.specs.Lists.{sumOf, keep}
-use Rattle.measures.proofs.ListLaws.{sumOf-append, and-right, and-left-false, and-right-false}
-use Rattle.matching.specs.Orders.{Order, Row, sells, buys, quantities, numbers, rising, leaving}
+use Rattle.measures.proofs.ListLaws.{sumOf-append, and-right, and-right-false}
+use Rattle.matching.specs.Orders.{Order, Row, sells, buys, quantities, numbers, rising}
 use Rattle.matching.specs.Clearing.{clearPeriod}
-use Rattle.matching.proofs.EachLaws.{Each, each-map, each-all, keep-sum, keep-ext}
+use Rattle.matching.proofs.EachLaws.{Each, each-map, each-all, keep-sum}
 use Rattle.matching.proofs.SumLaws.{sumOf-ext, sumOf-zero}
-use Rattle.matching.proofs.PeriodLaws.{isBid, isAsk}
 use Rattle.matching.proofs.ClearingLaws.{rows-at-price}
 use Rattle.matching.proofs.RestLaws.{others-stay, bids-less-rows, asks-less-rows}
 

@@ -1,21 +1,21 @@
 -- What an incoming order trades comes off the waiting orders and off itself, unit by unit.
 use Prim.Native.Nat.{ℕ, _+_, _-_, _<_, _≤_, min}
 use mathlib.Core.Path.{_≡_, refl, sym, ap, ap₂, _∙_}
-use mathlib.Core.Bool.{Bool, true, false, cond, not, _&&_}
+use mathlib.Core.Bool.{Bool, true, false, cond, _&&_}
 use mathlib.Core.List.{List, [], _∷_, _++_, map}
 use native.Mathlib.Omega.{arith}
 use lib.Dec.{eqb, leb}
 use native.Mathlib.Decide.{ℕ-discrete}
 use borrow.Author.Tests.{eq-eqb, ne-eqb, eqb-true}
 use Rattle.measures.specs.Lists.{sumOf, keep}
-use Rattle.measures.proofs.ListLaws.{cond-case, cond-false, and-left, and-right, sumOf-append}
-use Rattle.matching.specs.Orders.{Order, Row, sells, buys, quantities, numbers, rising, leaving, laid}
+use Rattle.measures.proofs.ListLaws.{cond-case, and-left, and-right, sumOf-append}
+use Rattle.matching.specs.Orders.{Order, Row, sells, buys, numbers, rising, leaving}
 use Rattle.matching.specs.Rolling.{Match, candidate, aheadFor, counterparts, matches, matchRow, afterMatches, meet}
 use Rattle.matching.specs.Clearing.{Fill, afterFills}
-use Rattle.matching.proofs.EachLaws.{Each, Has, Pairs, each-map, each-both, each-keep, kept, has-self, pairs-map, pairs-keep, keep-sum}
+use Rattle.matching.proofs.EachLaws.{Each, Has, Pairs, each-map, each-keep, kept, has-self, pairs-map, pairs-keep, keep-sum}
 use Rattle.matching.proofs.SumLaws.{sumOf-ext, sumOf-zero, sumOf-when}
 use Rattle.matching.proofs.LaidLaws.{laid-each, laid-pairs}
-use Rattle.matching.proofs.FillLaws.{Fits, amounts}
+use Rattle.matching.proofs.FillLaws.{Fits}
 use Rattle.matching.proofs.LessenLaws.{Numbered, rising-numbered}
 use Rattle.matching.proofs.AfterLaws.{Due, after-open}
 use Rattle.matching.proofs.SideLaws.{Apart}
