@@ -8,14 +8,34 @@ use native.Mathlib.Decide.{ℕ-discrete}
 use Rattle.book.specs.Book.{Book, callPhase, rollingPhase}
 use Rattle.book.specs.Sound.{sound}
 use Rattle.book.specs.Opening.{fresh, openingRefusal}
-use Rattle.book.specs.Order.{ordering}
-use Rattle.book.specs.Clear.{clearing}
+use Rattle.book.specs.Refusals.{firstOf, unsound}
+use Rattle.book.specs.Enrol.{enrolRefusal, enrolment}
+use Rattle.book.specs.Offer.{offerRefusal, offering}
+use Rattle.book.specs.Take.{takeRefusal, taking}
+use Rattle.book.specs.Withdraw.{withdrawRefusal, withdrawal}
+use Rattle.book.specs.Order.{orderRefusal, ordering}
+use Rattle.book.specs.Cancel.{cancelRefusal, cancellation}
+use Rattle.book.specs.Clear.{clearRefusal, clearing}
+use Rattle.book.specs.Close.{closing}
 use Rattle.book.specs.Calls.{Call, enrol, offer, take, withdraw, order, cancel, clear, close, outcome, bookAfter}
+use Rattle.book.proofs.RefusalLaws.{not-refused, first-passed}
 use Rattle.book.proofs.SoundLaws.{sound-facts}
 use Rattle.book.proofs.KeepLaws.{fresh-sound, enrolment-sound, withdrawal-sound, cancellation-sound, closing-sound}
 use Rattle.book.proofs.OfferLaws.{offering-sound}
 use Rattle.book.proofs.OrderingLaws.{ordering-in-call-sound}
 use Rattle.book.proofs.TakingLaws.{taking-sound}
+
+-- a call that is not refused was made on a sound book
+pub was-sound : (b : Book) (c : Call) → outcome b c .refusal ≡ 0 → sound b ≡ true
+unfolding enrolment offering taking withdrawal ordering cancellation clearing closing enrolRefusal offerRefusal takeRefusal withdrawRefusal orderRefusal cancelRefusal clearRefusal
+was-sound b (enrol kind capacity asset) z = first-passed b _ (not-refused (enrolRefusal b kind capacity asset) b _ z)
+was-sound b (offer unit partner price amounts) z = first-passed b _ (not-refused (offerRefusal b unit partner price amounts) b _ z)
+was-sound b (take unit number quantity lent) z = first-passed b _ (not-refused (takeRefusal b unit number quantity lent) b _ z)
+was-sound b (withdraw unit number) z = first-passed b _ (not-refused (withdrawRefusal b unit number) b _ z)
+was-sound b (order unit direction period price quantity lent) z = first-passed b _ (not-refused (orderRefusal b unit direction period price quantity lent) b _ z)
+was-sound b (cancel unit number) z = first-passed b _ (not-refused (cancelRefusal b unit number) b _ z)
+was-sound b (clear lent) z = first-passed b _ (not-refused (clearRefusal b lent) b _ z)
+was-sound b close z = first-passed b [] (not-refused (firstOf (unsound b ∷ [])) b _ z)
 
 -- two laws are still to come: order in the rolling phase, and clear
 module _
