@@ -70,7 +70,9 @@ cleared-next n p os c =
 -- the rows of a period are between the units of its asks and of its bids, which go other ways
 rows-two-units : (n p : ℕ) (os : List OpenOrder) → ClearedTo n p os → Each (TwoUnits n) (clearPeriod p os .rows)
 rows-two-units n p os c =
-    each-map (λ (r : Row). AskOf p os (r .price) (r .seller) × BidOf p os (r .price) (r .buyer)) (TwoUnits n) (clearPeriod p os .rows) (λ r h. (unit (h .0 .order) (h .0 .stands) (h .0 .unit), unit (h .1 .order) (h .1 .stands) (h .1 .unit), other r (h .0) (h .1))) (row-sides p os)
+    each-map (λ (r : Row). AskOf p os (r .price) (r .seller) × BidOf p os (r .price) (r .buyer)) (TwoUnits n) (clearPeriod p os .rows)
+    (λ r h. (unit (h .0 .order) (h .0 .stands) (h .0 .unit), unit (h .1 .order) (h .1 .stands) (h .1 .unit), other r (h .0) (h .1)))
+    (row-sides p os)
   where
     unit : (o : OpenOrder) {u : ℕ} → Has o os → o .unit ≡ u → In 1 n u
     unit o m e = rw e at (has-each (λ (o : OpenOrder). In 1 n (o .unit)) os o (c .units) m)

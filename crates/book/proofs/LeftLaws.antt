@@ -80,7 +80,9 @@ far-apart x y h = go (buys (x .direction) && sells (y .direction) && eqb (x .per
         (lt-ltb (x .price) (y .price)
         (h (eqb-true _ _ (and-left (buys (x .direction)) (sells (y .direction)) i)) (eqb-true _ _ (and-right (buys (x .direction)) (sells (y .direction)) i))
         (eqb-true _ _ (and-right (buys (x .direction) && sells (y .direction)) (eqb (x .period) (y .period)) e))))
-    go false e = or-left (not (buys (x .direction) && sells (y .direction) && eqb (x .period) (y .period))) (ltb (x .price) (y .price)) (not-fails (buys (x .direction) && sells (y .direction) && eqb (x .period) (y .period)) e)
+    go false e =
+        or-left (not (buys (x .direction) && sells (y .direction) && eqb (x .period) (y .period))) (ltb (x .price) (y .price))
+        (not-fails (buys (x .direction) && sells (y .direction) && eqb (x .period) (y .period)) e)
 
 -- two orders of one unit and period go the same way
 abbrev pub SameWay : OpenOrder → OpenOrder → Type 0

@@ -39,7 +39,9 @@ unfolding rowsBooked booked
 rows-units [] b c e = e
 rows-units (r ∷ rs) b c e = rows-units rs (rowBooked r b) (rowBooked r c) (one 1 (r .buyer) (one 0 (r .seller) e))
   where
-    one : (d v : ℕ) {xs ys : List Unit} → xs ≡ ys → set xs (v - 1) (unitTraded (r .way) d (r .period) (r .quantity) (getD xs (v - 1) noUnit)) ≡ set ys (v - 1) (unitTraded (r .way) d (r .period) (r .quantity) (getD ys (v - 1) noUnit))
+    one : (d v : ℕ) {xs ys : List Unit} → xs ≡ ys
+        → set xs (v - 1) (unitTraded (r .way) d (r .period) (r .quantity) (getD xs (v - 1) noUnit))
+        ≡ set ys (v - 1) (unitTraded (r .way) d (r .period) (r .quantity) (getD ys (v - 1) noUnit))
     one d v e = ap (λ (us : List Unit). set us (v - 1) (unitTraded (r .way) d (r .period) (r .quantity) (getD us (v - 1) noUnit))) e
 
 -- limits do not look at the phase
@@ -82,7 +84,10 @@ module _ (i x : OpenOrder) (e : candidate i x ≡ false) where
     where
       go : Dec (x .price < i .price) → x .price < i .price
       go (yes l) = l
-      go (no l) = absurd (not-both (candidate i x) (rw (eq-eqb (x .period) (i .period) same, ne-eqb (i .direction) 1 (omega arith), eq-eqb (i .direction) 0 sale, eq-eqb (x .direction) 1 buy) (le-leb (i .price) (x .price) (omega arith))) e)
+      go (no l) =
+          absurd
+          (not-both (candidate i x)
+          (rw (eq-eqb (x .period) (i .period) same, ne-eqb (i .direction) 1 (omega arith), eq-eqb (i .direction) 0 sale, eq-eqb (x .direction) 1 buy) (le-leb (i .price) (x .price) (omega arith))) e)
 
 -- what waits of an order
 module _ (o : OpenOrder) (left : ℕ) where
@@ -169,8 +174,16 @@ module _ (b : Book) (u d p price q : ℕ) (s : Sound b) (a : OrderPassed b u d p
               ∙ sym (ap (λ (o : OpenOrder). o .direction) f)
 
           go : ((x .sale ≡ x .waiting) × (x .buy ≡ incoming)) ⊎ ((x .sale ≡ incoming) × (x .buy ≡ x .waiting)) → TwoUnits (length (b .units)) r
-          go (inl w) = (rw (x .seller, w .0) (waits .unit), rw (x .buyer, w .1) (a .ranges .unit), λ e. let k = same-way (x .sale) (x .buy) (w .0) (w .1) (sym (x .seller) ∙ e ∙ x .buyer) (x .opposite .period) in let y = x .opposite in omega arith)
-          go (inr w) = (rw (x .seller, w .0) (a .ranges .unit), rw (x .buyer, w .1) (waits .unit), λ e. let k = same-way (x .buy) (x .sale) (w .1) (w .0) (sym (x .buyer) ∙ sym e ∙ x .seller) (sym (x .opposite .period)) in let y = x .opposite in omega arith)
+          go (inl w) = (
+            rw (x .seller, w .0) (waits .unit),
+            rw (x .buyer, w .1) (a .ranges .unit),
+            λ e. let k = same-way (x .sale) (x .buy) (w .0) (w .1) (sym (x .seller) ∙ e ∙ x .buyer) (x .opposite .period) in let y = x .opposite in omega arith,
+          )
+          go (inr w) = (
+            rw (x .seller, w .0) (a .ranges .unit),
+            rw (x .buyer, w .1) (waits .unit),
+            λ e. let k = same-way (x .buy) (x .sale) (w .1) (w .0) (sym (x .buyer) ∙ sym e ∙ x .seller) (sym (x .opposite .period)) in let y = x .opposite in omega arith,
+          )
 
   rolled-apart : b .phase ≡ rollingPhase → eachTwo apart left ≡ true
   rolled-apart r =

@@ -90,7 +90,8 @@ module _ (i : Order) (os : List Order) where
       rw (matches-fill met os) (omega arith)
 
 -- a sum over rows is one over matches
-rows-fills : (i : Order) (P : Order → Type 0) (w : Row → ℕ) (k : Fill → ℕ) → ((d : Match) → P (d .order) → w (matchRow i d) ≡ k (fillOf d)) → (ms : List Match) → Each (λ f. P (f .order)) (fillsOf ms) → sumOf w (map (matchRow i) ms) ≡ sumOf k (fillsOf ms)
+rows-fills : (i : Order) (P : Order → Type 0) (w : Row → ℕ) (k : Fill → ℕ) → ((d : Match) → P (d .order) → w (matchRow i d) ≡ k (fillOf d))
+    → (ms : List Match) → Each (λ f. P (f .order)) (fillsOf ms) → sumOf w (map (matchRow i) ms) ≡ sumOf k (fillsOf ms)
 rows-fills i P w k h [] e = refl
 rows-fills i P w k h (d ∷ ms) e = ap₂ (λ (a b : ℕ). a + b) (h d (e .0)) (rows-fills i P w k h ms (e .1))
 
@@ -152,7 +153,8 @@ module _ (i : Order) (os : List Order) (n : Numbered os) (f : ℕ → Bool) (par
   waiting-side out h k =
       let a = met-open i os n (isOf f u p) (λ o q. refl) in
       let t : tradedOf party u p (map (matchRow i) (met i os)) ≡ sumOf (λ (x : Fill). cond (isOf f u p (x .order)) (x .amount) 0) (fillsOf (met i os)) =
-      rows-fills i (λ o. candidate i o ≡ true) (λ (r : Row). cond (eqb (party r) u && eqb (r .period) p) (r .quantity) 0) (λ (x : Fill). cond (isOf f u p (x .order)) (x .amount) 0) same (met i os) (met-each i os (λ o. candidate i o ≡ true) (λ o c. c)) in
+      rows-fills i (λ o. candidate i o ≡ true) (λ (r : Row). cond (eqb (party r) u && eqb (r .period) p) (r .quantity) 0) (λ (x : Fill). cond (isOf f u p (x .order)) (x .amount) 0) same
+      (met i os) (met-each i os (λ o. candidate i o ≡ true) (λ o c. c)) in
       rw (never (eqb (i .unit) u) (eqb (i .period) p) (f (i .direction)) out, t) (omega arith)
     where
       same : (d : Match) → candidate i (d .order) ≡ true → cond (eqb (party (matchRow i d)) u && eqb (matchRow i d .period) p) (matchRow i d .quantity) 0 ≡ cond (isOf f u p (d .order)) (d .quantity) 0
