@@ -28,5 +28,7 @@ pub mod CounterpartLaws
 pub mod TakeOffLaws
 pub mod MeetingLaws
 pub mod RollingLaws
+pub mod ExchangeLaws
+pub mod MetLaws
 pub mod FiguresHold
 pub mod RollingFigure
