@@ -2,6 +2,8 @@ pub mod RangeFacts
 pub mod NumberLaws
 pub mod PairLaws
 pub mod MadeLaws
+pub mod OpeningLaws
+pub mod CurveLaws
 pub mod FiguresHold
 pub mod RemainLaws
 pub mod FitLaws

@@ -2,14 +2,15 @@
 use Prim.Native.Nat.{ℕ, _+_, _*_}
 use mathlib.Core.Path.{_≡_}
 use mathlib.Core.Bool.{Bool, cond, _&&_}
-use mathlib.Core.List.{List, [], _∷_}
+use mathlib.Core.List.{List, [], _∷_, _++_}
 use lib.ListN.{length, drop}
 use Rattle.matching.specs.Memory.{written}
 use Rattle.book.specs.declared.Answer.{Answer}
 use Rattle.book.specs.declared.Answer.the-variants.{Done, Refused}
 use Rattle.book.specs.Book.{Book}
 use Rattle.book.specs.Sound.{sound}
-use Rattle.book.specs.Opening.{bookWords}
+use Rattle.book.specs.Opening.{bookWords, fresh, openingRefusal}
+use Rattle.book.specs.Curve.{Drawn, curve}
 use Rattle.book.specs.Layout.{word, decode, enough}
 use Rattle.book.specs.Refusals.{Outcome}
 use Rattle.book.specs.Calls.{Call, outcome}
@@ -43,3 +44,21 @@ pub record Made (m rows : List ℕ) (c : Call) (a : Answer) (m′ rows′ : List
   -- "Memory past that length is never changed."
   pub past : drop (bookWords (word m 0)) m′ ≡ drop (bookWords (word m 0)) m
   pub long : length m′ ≡ length m
+
+-- what opening promises: m is the memory at entry, m′ at exit
+pub record Opened (m : List ℕ) (days floor ceiling : ℕ) (a : Answer) (m′ : List ℕ) : Type 0 where
+  pub answer : toldBy a ≡ record { refusal = openingRefusal (length m) days floor ceiling; number = 0; count = 0 }
+  pub refused : (openingRefusal (length m) days floor ceiling ≡ 0 → ⊥) → m′ ≡ m
+  pub accepted : openingRefusal (length m) days floor ceiling ≡ 0 → decode m′ ≡ fresh days floor ceiling
+  pub past : drop (bookWords days) m′ ≡ drop (bookWords days) m
+  pub long : length m′ ≡ length m
+
+-- what the curve gives on memory
+unfoldable pub curveOn : List ℕ → ℕ → ℕ → ℕ → Drawn
+curveOn m u day lent = cond (enough m) (curve (decode m) u day lent) (record { refusal = 1; points = [] })
+
+-- what the curve promises: pts are the lent numbers at entry, pts′ at exit; "memory past the 48 is kept"
+pub record Curved (m pts : List ℕ) (u day : ℕ) (a : Answer) (pts′ : List ℕ) : Type 0 where
+  pub answer : toldBy a ≡ record { refusal = curveOn m u day (length pts) .refusal; number = 0; count = 0 }
+  pub refused : (curveOn m u day (length pts) .refusal ≡ 0 → ⊥) → pts′ ≡ pts
+  pub accepted : curveOn m u day (length pts) .refusal ≡ 0 → pts′ ≡ curveOn m u day (length pts) .points ++ drop 48 pts

@@ -12,7 +12,7 @@ use lib.Dec.{leb}
 use Rattle.measures.specs.Lists.{table}
 use Rattle.limits.specs.Units.{periods}
 use Rattle.matching.specs.Memory.{ordersIn}
-use Rattle.book.specs.Book.{Figures, Unit, OpenOffer, Book}
+use Rattle.book.specs.Book.{Figures, Unit, OpenOffer, Book, net}
 use Rattle.book.specs.Opening.{bookWords}
 
 abbrev pub word : List ℕ → ℕ → ℕ
@@ -68,3 +68,7 @@ decode m =
 -- "memory too short": whether the memory has the words that its days ask for
 abbrev pub enough : List ℕ → Bool
 enough m = leb (bookWords (word m 0)) (length m)
+
+-- the net of the unit at place k in period p
+abbrev pub netIn : List ℕ → ℕ → ℕ → ℕ
+netIn m k p = net (figuresAt m k p)

@@ -1,6 +1,6 @@
 -- Opening a book (paper 01, "Units of measure and the book").
 use Prim.Native.Nat.{ℕ, _+_, _*_}
-use mathlib.Core.Bool.{Bool, _&&_}
+use mathlib.Core.Bool.{Bool, cond, _&&_}
 use mathlib.Core.List.{List, [], _∷_}
 use lib.Dec.{ltb}
 use Rattle.limits.specs.Units.{daysIn}
@@ -12,6 +12,10 @@ use Rattle.book.specs.Refusals.{Check, check, firstOf, badOpening}
 -- units' figures of 5 words and 8 offers' amounts.
 abbrev pub bookWords : ℕ → ℕ
 bookWords days = 1_776 + 7_872 * days
+
+-- what the library publishes: 0 for days that no book has
+unfoldable pub wordsFor : ℕ → ℕ
+wordsFor days = cond (daysIn days) (bookWords days) 0
 
 -- "A fresh book has no units and no open declaration, is on its first trading day and in the call phase."
 abbrev pub fresh : ℕ → ℕ → ℕ → Book

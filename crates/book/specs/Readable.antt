@@ -1,12 +1,12 @@
 -- What the functions that read a book's memory ask of it: that its head is in range, so that each place lies in the memory.
-use Prim.Native.Nat.{ℕ, _+_, _*_, _≤_}
+use Prim.Native.Nat.{ℕ, _+_, _*_, _≤_, _<_}
 use mathlib.Core.Path.{_≡_}
 use mathlib.Core.Bool.{Bool, true, false, not, _&&_, _||_}
 use mathlib.Core.List.{List, [], _∷_, map}
 use lib.ListN.{length, getD}
 use lib.Dec.{eqb, leb}
 use Rattle.measures.specs.Lists.{holds, every, all}
-use Rattle.limits.specs.Units.{mostDays, periods, kindIn, capacityIn, assetIn}
+use Rattle.limits.specs.Units.{mostDays, mostCapacity, periods, kindIn, capacityIn, assetIn}
 use Rattle.matching.specs.Orders.{Order as OpenOrder}
 use Rattle.book.specs.Book.{Figures, OpenOffer, Book, rollingPhase, known, unitOf}
 use Rattle.book.specs.Fit.{Declaration, hourFits, termFits, volumeFits}
@@ -81,3 +81,8 @@ pairFits phase a b = oneWay a b && (not (eqb phase rollingPhase) || (apart a b &
 
 unfoldable pub pairsFit : ℕ → List OpenOrder → Bool
 pairsFit phase os = eachTwo oneWay os && (not (eqb phase rollingPhase) || eachTwo apart os)
+
+-- that the figures of the unit at place k come to a net in every period
+pub record Netted (m : List ℕ) (k : ℕ) : Type 0 where
+  pub held : (p : ℕ) → p < periods (word m 0) → word m (1776 + 328 * p + 5 * k) + word m (1777 + 328 * p + 5 * k) ≤ mostCapacity
+  pub lowered : (p : ℕ) → p < periods (word m 0) → word m (1778 + 328 * p + 5 * k) ≤ word m (1776 + 328 * p + 5 * k)
