@@ -1,2 +1,4 @@
 pub mod RangeFacts
+pub mod ShareLaws
+pub mod PeriodLaws
 pub mod FiguresHold

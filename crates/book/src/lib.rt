@@ -1,4 +1,5 @@
 // The book of a term: opening, the eight calls and the curve (paper 01).
+mod fits;
 mod ranges;
 
 // What a call answers: its number and count of rows, or the refusal.
