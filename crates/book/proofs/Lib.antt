@@ -1,4 +1,6 @@
 pub mod RangeFacts
 pub mod ShareLaws
 pub mod PeriodLaws
+pub mod JoinLaws
+pub mod FitLaws
 pub mod FiguresHold

@@ -1,23 +1,22 @@
 -- The tests of a period, the limits over the term, and the pass over the periods, of a unit in memory.
-use Prim.Native.Nat.{ℕ, suc, _+_, _-_, _*_, _≤_, _<_, min}
+use Prim.Native.Nat.{ℕ, _+_, _-_, _*_, _≤_, _<_, min}
 use mathlib.Core.Path.{_≡_, refl, sym, ap, _∙_}
-use mathlib.Core.Bool.{Bool, true, false, cond, not, _&&_}
-use mathlib.Core.List.{List, [], _∷_}
+use mathlib.Core.Bool.{Bool, true, false, not}
+use mathlib.Core.List.{List}
 use native.Mathlib.Omega.{arith}
 use lib.ListN.{getD}
 use lib.Dec.{leb}
 use borrow.Author.Tests.{le-leb, lt-leb, leb-true}
 use Rattle.measures.specs.Lists.{sum, all}
-use Rattle.measures.proofs.RangeLaws.{In}
-use Rattle.measures.proofs.ListLaws.{both-ways, false-by, not-both, and-true, and-left, and-right, all-none, all-more, all-at, all-fails, sum-none, sum-more}
+use Rattle.measures.proofs.ListLaws.{false-by, not-both, and-left, and-right, all-none, all-more, all-at, all-fails, sum-none, sum-more}
 use Rattle.limits.specs.Limits.{Answer, given, refused, hourOf, hourLimit, limitsAt}
 use Rattle.limits.specs.declared.Limits.{Limits}
 use Rattle.limits.specs.Answers.{answerOf}
 use Rattle.limits.proofs.LimitLaws.{all-in, hour-most, term-most, volume-most}
 use Rattle.book.specs.Refusals.{firstOf}
 use Rattle.book.specs.Layout.{word}
-use Rattle.book.specs.Readable.{Readable, Ranged, unitFieldsIn}
-use Rattle.book.specs.Fitting.{wayHolds, hourHolds, termPart, volumePart, termAt, volumeAt, periodMisfit, Came}
+use Rattle.book.specs.Readable.{Ranged, unitFieldsIn}
+use Rattle.book.specs.Fitting.{wayHolds, hourHolds, termAt, volumeAt, periodMisfit, Came}
 use Rattle.book.proofs.RangeFacts.{UnitFields, unit-facts}
 
 -- the fields of a unit in a memory that is in range

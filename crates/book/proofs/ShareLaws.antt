@@ -1,26 +1,23 @@
 -- Amounts added by period: none, one more, and what an order and an offer in memory add.
-use Prim.Native.Nat.{ℕ, suc, _+_, _-_, _*_, _≤_, _<_, min}
+use Prim.Native.Nat.{ℕ, _+_, _-_, _*_, _≤_, _<_}
 use mathlib.Core.Path.{_≡_, refl, sym, ap, _∙_}
-use mathlib.Core.Bool.{Bool, true, false, cond, not, _&&_}
-use mathlib.Core.List.{List, [], _∷_}
+use mathlib.Core.Bool.{not, _&&_}
+use mathlib.Core.List.{List}
 use native.Mathlib.Omega.{arith}
 use native.Mathlib.Nat.{add-zero}
 use native.Mathlib.Decide.{ℕ-discrete, decLt}
 use lib.ListN.{length, getD, set, length-set}
 use lib.Seq.{getD-set-same, getD-set-other}
-use lib.Dec.{eqb, leb}
-use borrow.Author.Tests.{eq-eqb, ne-eqb, eqb-true}
+use lib.Dec.{eqb}
+use borrow.Author.Tests.{eq-eqb, ne-eqb}
 use Rattle.measures.specs.Ranges.{mostEnergy}
-use Rattle.measures.specs.Lists.{sum, sumOf, all, table}
-use Rattle.measures.specs.Sharing.{total}
-use Rattle.measures.proofs.ListLaws.{and-left-false, and-right-false, all-at, sum-none, sum-more, sum-ext, sum-at, sumOf-table, table-at, total-table}
+use Rattle.measures.specs.Lists.{sum}
+use Rattle.measures.proofs.ListLaws.{and-right-false, all-at, sum-none, sum-more, sum-at, total-table}
 use Rattle.limits.specs.Units.{periods}
-use Rattle.matching.specs.Memory.{orderAt, ordersIn}
-use Rattle.book.specs.Fit.{openOrders, openOffers}
-use Rattle.book.specs.Layout.{word, amountAt, offerAt, decode, ordersPart}
-use Rattle.book.specs.Readable.{Readable, Ranged}
-use Rattle.book.specs.Fitting.{Below, Added, orderShare, offerShare}
-use Rattle.book.proofs.RangeFacts.{OrderWords, order-facts, order-word, orders-every, OfferWords, offer-facts, offers-every}
+use Rattle.book.specs.Layout.{word, amountAt}
+use Rattle.book.specs.Readable.{Ranged}
+use Rattle.book.specs.Fitting.{Added, orderShare, offerShare}
+use Rattle.book.proofs.RangeFacts.{OrderWords, order-facts, orders-every, OfferWords, offer-facts, offers-every}
 
 -- what stands in a memory that is in range
 pub order-words : (m : List ℕ) (k : ℕ) → Ranged m → k < word m 7 → OrderWords m k

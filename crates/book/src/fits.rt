@@ -1,20 +1,22 @@
 // Whether a unit fits its limits, with what it has open and a declaration added: paper 01, "Limits".
+use crate::ranges::is_generator;
 use limits::Limits;
 use limits::Term;
 use limits::Unit;
 use limits::unit_limits;
 use measures::Energy;
 ghost use mathlib.Core.Path.{_≡_};
-ghost use mathlib.Core.List.{List};
-ghost use Prim.Native.Nat.{ℕ, _+_, _*_, _-_, _<_, _≤_, min};
-ghost use lib.ListN.{length, getD};
+ghost use mathlib.Core.Bool.{cond};
+ghost use Prim.Native.Nat.{_+_, _*_, _-_, _<_, _≤_, min};
+ghost use lib.ListN.{length};
 ghost use Rattle.measures.specs.Ranges.{mostEnergy};
 ghost use Rattle.measures.specs.Lists.{sum};
-ghost use Rattle.limits.specs.Units.{periods};
+ghost use Rattle.limits.specs.Units.{periods, generator};
 ghost use Rattle.limits.specs.Limits.{hourOf, hourLimit};
+ghost use Rattle.book.specs.Book.{unitOf};
 ghost use Rattle.book.specs.Layout.{word, decode};
 ghost use Rattle.book.specs.Readable.{Ranged, Fitted, declared, small};
-ghost use Rattle.book.specs.Fitting.{Below, Added, orderShare, offerShare, wayHolds, hourHolds, termPart, volumePart, termAt, volumeAt, periodMisfit, UnitCame};
+ghost use Rattle.book.specs.Fitting.{Below, Added, orderShare, offerShare, wayHolds, hourHolds, termAt, volumeAt, periodMisfit, UnitCame};
 
 // What the order at place k has open of a unit in one direction goes to its period.
 fn add_order(book: &[u64], unit: u64, way: u64, k: usize, totals: &mut [u64])
@@ -195,4 +197,29 @@ fn fit_of(book: &[u64], k: usize, raising: &[u64], lowering: &[u64]) -> u64
         return 21;
     }
     0
+}
+
+// The direction that raises a unit: 0 of a generator, 1 of a load.
+fn raising_way(book: &[u64], unit: u64) -> u64
+    requires { ⌜ (Ranged (now book)) × (1 ≤ unit) × (unit ≤ word (now book) 5) ⌝ }
+    ensures { λ r. ⌜ (r ≤ 1) × (r ≡ cond (generator (unitOf (decode (now (book .entry))) unit .kind)) 0 1) ⌝ }
+{
+    if is_generator(book, unit) {
+        return 0;
+    }
+    1
+}
+
+// What a unit comes to with a declaration lent as amounts by period: 19, 20 or 21 for what does not fit, or 0; 1 is for a
+// direction out of range. The amounts are then those with what the unit has open.
+pub fn misfit(book: &[u64], unit: u64, raising: &mut [u64], lowering: &mut [u64]) -> u64
+    requires { ⌜ (Ranged (now book)) × (1 ≤ unit) × (unit ≤ word (now book) 5) ⌝ }
+    requires { ⌜ (length (now raising) ≡ 744) × (length (now lowering) ≡ 744) × (small (now raising)) × (small (now lowering)) ⌝ }
+    ensures { λ r. ⌜ Fitted (decode (now (book .entry))) unit (declared (now (raising .entry)) (now (lowering .entry))) r ⌝ }
+{
+    let way = raising_way(book, unit);
+    add_offers(book, unit, raising);
+    add_orders(book, unit, way, raising);
+    add_orders(book, unit, 1 - way, lowering);
+    fit_of(book, unit as usize - 1, raising, lowering)
 }

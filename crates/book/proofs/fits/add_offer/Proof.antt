@@ -1,5 +1,5 @@
 -- `add_offer`: another unit's offer adds nothing, and of the unit's own each period passed has its amount added.
-use Prim.Native.Nat.{ℕ, _≤_, _+_, _-_, _*_}
+use Prim.Native.Nat.{_≤_, _-_, _*_}
 use native.Mathlib.Omega.{arith}
 use Rattle.book.specs.Layout.{word, amountAt}
 use Rattle.book.proofs.ShareLaws.{amount-small, added-none, Adding, adding-none, adding-more, adding-ends, offer-other, offer-own}

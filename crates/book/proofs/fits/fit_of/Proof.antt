@@ -1,5 +1,5 @@
 -- `fit_of`: the periods passed fit and have their sums; a period that does not fit, or a sum past its limit, decides.
-use Prim.Native.Nat.{ℕ, _≤_, _+_, _-_, _*_}
+use Prim.Native.Nat.{_≤_, _+_, _-_, _*_}
 use mathlib.Core.Path.{_≡_}
 use mathlib.Core.Bool.{true}
 use native.Mathlib.Omega.{arith}
