@@ -2,5 +2,5 @@ pub mod RangeFacts
 pub mod ShareLaws
 pub mod PeriodLaws
 pub mod JoinLaws
-pub mod FitLaws
+pub mod MisfitLaws
 pub mod FiguresHold
