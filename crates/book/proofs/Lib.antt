@@ -4,6 +4,10 @@ pub mod PairLaws
 pub mod MadeLaws
 pub mod OpeningLaws
 pub mod CurveLaws
+pub mod ShareLaws
+pub mod PeriodLaws
+pub mod JoinLaws
+pub mod MisfitLaws
 pub mod FiguresHold
 pub mod RemainLaws
 pub mod FitLaws
