@@ -1,3 +1,17 @@
 pub mod OrderLaws
 pub mod RowLaws
+pub mod FitLaws
+pub mod EachLaws
+pub mod LaidLaws
+pub mod AheadLaws
+pub mod VolumeLaws
+pub mod WalkLaws
+pub mod MarginLaws
+pub mod FillLaws
+pub mod SumLaws
+pub mod OverlapLaws
+pub mod CandidateLaws
+pub mod CounterpartLaws
+pub mod TakeOffLaws
+pub mod MeetingLaws
 pub mod FiguresHold

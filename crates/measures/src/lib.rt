@@ -1,8 +1,8 @@
 // Energy and price, and sharing an amount: paper 01, "Units of measure and the book" and "Sharing an amount".
 ghost use mathlib.Core.Path.{_≡_};
 ghost use mathlib.Core.List.{_++_};
-ghost use Prim.Native.Nat.{ℕ, _+_, _*_, _/_, _≤_, _<_, min};
-ghost use lib.Dec.{leb};
+ghost use Prim.Native.Nat.{ℕ, _+_, _*_, _-_, _/_, _≤_, _<_, min};
+ghost use lib.Dec.{leb, eqb};
 ghost use lib.ListN.{length, drop};
 ghost use Rattle.measures.specs.Ranges.{mostEnergy, mostPrice};
 ghost use Rattle.measures.specs.Sharing.{total, parts as partsOf, sharing, Is, Shareable};
@@ -47,6 +47,24 @@ impl Energy {
         ensures { λ r. ⌜ r .0 ≡ min (self .0) (other .0) ⌝ }
     {
         if self.0 < other.0 { self } else { other }
+    }
+
+    // What is left of this when `other` is taken off: nothing, where that is more.
+    pub fn minus(self, other: Energy) -> Energy
+        ensures { λ r. ⌜ r .0 ≡ self .0 - other .0 ⌝ }
+    {
+        if self.0 < other.0 {
+            Energy(0)
+        } else {
+            Energy(self.0 - other.0)
+        }
+    }
+
+    // Whether this is nothing.
+    pub fn is_zero(self) -> bool
+        ensures { λ r. ⌜ r ≡ eqb (self .0) 0 ⌝ }
+    {
+        self.0 == 0
     }
 }
 

@@ -1,0 +1,65 @@
+// Whether lent orders and rows can be matched and cleared.
+use crate::orders::Order;
+use measures::Energy;
+ghost use mathlib.Core.Path.{_≡_};
+ghost use Prim.Native.Nat.{_*_, _≤_};
+ghost use lib.ListN.{length};
+ghost use lib.Dec.{leb};
+ghost use Rattle.measures.specs.Ranges.{mostEnergy};
+ghost use Rattle.matching.specs.Orders.{rising, numbers, quantities};
+ghost use Rattle.matching.specs.Memory.{ordersIn};
+ghost use Rattle.matching.specs.Answers.{fit};
+
+// Whether the numbers of the first n orders rise: each is above the one before it.
+fn numbers_rise(orders: &[u64], n: usize) -> bool
+    requires { ⌜ (6 * n ≤ length (now orders)) × (n ≤ 256) ⌝ }
+    ensures { λ r. ⌜ r ≡ rising (numbers (ordersIn (now (orders .entry)) n)) ⌝ }
+{
+    let mut k: usize = 1;
+    while k < n {
+        let number = orders[6 * k];
+        let before = orders[6 * k - 6];
+        if number <= before {
+            return false;
+        }
+        k += 1;
+    }
+    true
+}
+
+// Whether the first n orders have at most Energy::MOST open together.
+fn quantities_fit(orders: &[u64], n: usize) -> bool
+    requires { ⌜ (6 * n ≤ length (now orders)) × (n ≤ 256) ⌝ }
+    ensures { λ r. ⌜ r ≡ leb (quantities (ordersIn (now (orders .entry)) n)) mostEnergy ⌝ }
+{
+    let mut sum: u64 = 0;
+    let mut k: usize = 0;
+    while k < n {
+        let q = orders[6 * k + 5];
+        if q > Energy::MOST - sum {
+            return false;
+        }
+        sum += q;
+        k += 1;
+    }
+    true
+}
+
+// Whether the first n orders can be matched and cleared, with these rows lent.
+pub fn fits(orders: &[u64], n: usize, rows: &[u64]) -> bool
+    ensures { λ r. ⌜ r ≡ fit (now (orders .entry)) n (now (rows .entry)) ⌝ }
+{
+    if n > Order::MOST {
+        return false;
+    }
+    if orders.len() < 6 * n {
+        return false;
+    }
+    if rows.len() < 6 * n {
+        return false;
+    }
+    if !numbers_rise(orders, n) {
+        return false;
+    }
+    quantities_fit(orders, n)
+}
