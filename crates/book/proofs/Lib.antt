@@ -4,3 +4,6 @@ pub mod AgreeLaws
 pub mod StandingLaws
 pub mod PartLaws
 pub mod DemandLaws
+pub mod BookedLaws
+pub mod AcceptedLaws
+pub mod WaitingCallLaws

@@ -1,0 +1,82 @@
+-- Accepted and refused calls, and what both tally and book do at an accepted one.
+use Prim.Native.Nat.{ℕ, _+_, _-_, _≤_, _<_}
+use mathlib.Core.Path.{_≡_, refl, sym, ap, _∙_}
+use mathlib.Core.Bool.{Bool, true, false, cond, not, _&&_}
+use mathlib.Core.List.{List, [], _∷_, _++_, map}
+use native.Mathlib.Omega.{arith}
+use borrow.Author.Tests.{eqb-true, eqb-false, eq-eqb, ne-eqb, not-true}
+use lib.ListN.{length}
+use lib.Dec.{eqb}
+use Rattle.measures.specs.Lists.{keep, every}
+use Rattle.measures.proofs.RangeLaws.{In}
+use Rattle.measures.proofs.ListLaws.{and-left, and-right}
+use Rattle.limits.specs.Units.{periods}
+use Rattle.matching.specs.Orders.{Order as OpenOrder, Row}
+use Rattle.matching.proofs.EachLaws.{Each, each-append}
+use Rattle.book.specs.Book.{Unit as BookUnit, OpenOffer, Book, unitOf, withOffers, withOrders}
+use Rattle.book.specs.Trades.{rowsBooked}
+use Rattle.book.specs.Refusals.{Outcome, Check, firstOf, decided}
+use Rattle.book.specs.Calls.{Call, outcome, Answer, answered}
+use Rattle.book.specs.Tally.{Amounts, Tally, accounted, tallied}
+use Rattle.book.proofs.AgreeLaws.{member, amountsOf, remains, Parties, Agree}
+use Rattle.book.proofs.StandingLaws.{Standing}
+use Rattle.book.proofs.BookedLaws.{rows-kept, rows-keep, rows-figured, count-kept}
+
+-- a refusal of 0 means that no check applied, and the outcome is the call's own
+pub decided-is : (r : ℕ) (b : Book) (o : Outcome) → decided r b o .refusal ≡ 0 → (r ≡ 0) × (decided r b o ≡ o)
+decided-is r b o e = go (eqb r 0) refl e
+  where
+    go : (c : Bool) → eqb r 0 ≡ c → cond c o (record { refusal = r; number = 0; rows = []; book = b }) .refusal ≡ 0 → (r ≡ 0) × (cond c o (record { refusal = r; number = 0; rows = []; book = b }) ≡ o)
+    go true f z = (eqb-true r 0 f, refl)
+    go false f z = absurd (eqb-false r 0 f z)
+
+pub refused-is : (r : ℕ) (b : Book) (o : Outcome) → o .refusal ≡ 0 → (decided r b o .refusal ≡ 0 → ⊥) → decided r b o .book ≡ b
+refused-is r b o z n = go (eqb r 0) n
+  where
+    go : (c : Bool) → (cond c o (record { refusal = r; number = 0; rows = []; book = b }) .refusal ≡ 0 → ⊥) → cond c o (record { refusal = r; number = 0; rows = []; book = b }) .book ≡ b
+    go true m = absurd (m z)
+    go false m = refl
+
+abbrev pub Passed : List Check → Type 0
+Passed [] = Unit {0}
+Passed (c ∷ cs) = (c .applies ≡ false) × Passed cs
+
+pub passed : (cs : List Check) → every (λ c. not (eqb (c .number) 0)) cs ≡ true → firstOf cs ≡ 0 → Passed cs
+unfolding firstOf
+passed [] h e = tt
+passed (c ∷ cs) h e = go (c .applies) refl e (λ z. passed cs (and-right (not (eqb (c .number) 0)) (every (λ c. not (eqb (c .number) 0)) cs) h) z)
+  where
+    go : (x : Bool) → c .applies ≡ x → cond x (c .number) (firstOf cs) ≡ 0 → (firstOf cs ≡ 0 → Passed cs) → (c .applies ≡ false) × Passed cs
+    go true f z ih = absurd (eqb-false (c .number) 0 (not-true (eqb (c .number) 0) (and-left (not (eqb (c .number) 0)) (every (λ c. not (eqb (c .number) 0)) cs) h)) z)
+    go false f z ih = (f, ih z)
+
+-- an accepted call is accounted for
+pub accepted-agree : (t : Tally) (b : Book) (c : Call) (o : Outcome) → outcome b c ≡ o → o .refusal ≡ 0 → Agree (accounted t c (answered o)) (o .book) → Agree (tallied t c (answered (outcome b c))) (outcome b c .book)
+accepted-agree t b c o e z a = rw e (rw (eq-eqb (o .refusal) 0 z) a)
+
+-- a refused call changes nothing
+pub refused-agree : (t : Tally) (b : Book) (c : Call) → (outcome b c .refusal ≡ 0 → ⊥) → tallied t c (answered (outcome b c)) ≡ t
+refused-agree t b c n = rw (ne-eqb (outcome b c .refusal) 0 n)
+
+-- other numbers and another phase
+pub agree-head : (t : Tally) (b : Book) → Agree t b → (phase given : ℕ)
+    → Agree t (record { days = b .days; floor = b .floor; ceiling = b .ceiling; phase = phase; given = given; units = b .units; offers = b .offers; orders = b .orders })
+agree-head t b a phase given =
+    record { days = a .days; units = a .units; offers = a .offers; orders = a .orders; parties = a .parties; figures = a .figures }
+
+-- other open amounts, then rows
+module _ (t : Tally) (b : Book) (a : Agree t b) (w : Standing b) where
+  pub agree-changed : (rs : List Row) (tos : List Amounts) (bos : List OpenOffer) (tor bor : List OpenOrder)
+      → Each (Parties (length (b .units))) rs → keep remains tos ≡ map amountsOf bos → tor ≡ bor
+      → Agree (record { days = t .days; units = t .units; rows = t .rows ++ rs; offers = tos; orders = tor }) (rowsBooked rs (withOrders (withOffers b bos) bor))
+  agree-changed rs tos bos tor bor h e f =
+      let b₁ = withOrders (withOffers b bos) bor in
+      let n : length (rowsBooked rs b₁ .units) ≡ length (b .units) = count-kept b₁ (rowsBooked rs b₁) (rows-kept (λ (x : BookUnit). x .kind) (λ w d p q x. refl) rs b₁) in
+      record {
+        days = a .days ∙ sym (rows-keep (λ (x : Book). x .days) (λ b us. refl) rs b₁);
+        units = a .units ∙ sym (rows-kept member (λ w d p q x. refl) rs b₁);
+        offers = e ∙ ap (map amountsOf) (sym (rows-keep (λ (x : Book). x .offers) (λ b us. refl) rs b₁));
+        orders = f ∙ sym (rows-keep (λ (x : Book). x .orders) (λ b us. refl) rs b₁);
+        parties = rw n (each-append (Parties (length (b .units))) (t .rows) rs (a .parties) h);
+        figures = rows-figured (t .rows) rs b₁ (w .long) h (a .figures);
+      }
