@@ -7,3 +7,5 @@ pub mod DemandLaws
 pub mod BookedLaws
 pub mod AcceptedLaws
 pub mod WaitingCallLaws
+pub mod TakeTallyLaws
+pub mod ClearTallyLaws
