@@ -9,3 +9,5 @@ pub mod AcceptedLaws
 pub mod WaitingCallLaws
 pub mod TakeTallyLaws
 pub mod ClearTallyLaws
+pub mod MatchTallyLaws
+pub mod OrderTallyLaws
