@@ -11,3 +11,17 @@ pub mod TakeTallyLaws
 pub mod ClearTallyLaws
 pub mod MatchTallyLaws
 pub mod OrderTallyLaws
+pub mod RemainLaws
+pub mod FitLaws
+pub mod SoundLaws
+pub mod RefusalLaws
+pub mod FormedLaws
+pub mod OpenLaws
+pub mod KeepLaws
+pub mod DeclareLaws
+pub mod OfferLaws
+pub mod OrderingLaws
+pub mod TradeLaws
+pub mod TakeLaws
+pub mod TakingLaws
+pub mod ListsLaws
