@@ -1,26 +1,23 @@
 -- Accepted and refused calls, and what both tally and book do at an accepted one.
-use Prim.Native.Nat.{ℕ, _+_, _-_, _≤_, _<_}
+use Prim.Native.Nat.{ℕ}
 use mathlib.Core.Path.{_≡_, refl, sym, ap, _∙_}
-use mathlib.Core.Bool.{Bool, true, false, cond, not, _&&_}
+use mathlib.Core.Bool.{Bool, true, false, cond}
 use mathlib.Core.List.{List, [], _∷_, _++_, map}
-use native.Mathlib.Omega.{arith}
-use borrow.Author.Tests.{eqb-true, eqb-false, eq-eqb, ne-eqb, not-true}
+use borrow.Author.Tests.{eqb-true, eqb-false, eq-eqb, ne-eqb}
 use lib.ListN.{length}
 use lib.Dec.{eqb}
-use Rattle.measures.specs.Lists.{keep, every}
-use Rattle.measures.proofs.RangeLaws.{In}
-use Rattle.measures.proofs.ListLaws.{and-left, and-right}
-use Rattle.limits.specs.Units.{periods}
+use Rattle.measures.specs.Lists.{keep}
 use Rattle.matching.specs.Orders.{Order as OpenOrder, Row}
 use Rattle.matching.proofs.EachLaws.{Each, each-append}
-use Rattle.book.specs.Book.{Unit as BookUnit, OpenOffer, Book, unitOf, withOffers, withOrders}
+use Rattle.book.specs.Book.{OpenOffer, Book, withOffers, withOrders}
 use Rattle.book.specs.Trades.{rowsBooked}
-use Rattle.book.specs.Refusals.{Outcome, Check, firstOf, decided}
-use Rattle.book.specs.Calls.{Call, outcome, Answer, answered}
+use Rattle.book.specs.Refusals.{Outcome, decided}
+use Rattle.book.specs.Calls.{Call, outcome, answered}
 use Rattle.book.specs.Tally.{Amounts, Tally, accounted, tallied}
-use Rattle.book.proofs.AgreeLaws.{member, amountsOf, remains, Parties, Agree}
+use Rattle.book.proofs.AgreeLaws.{amountsOf, remains, Parties, Agree}
 use Rattle.book.proofs.StandingLaws.{Standing}
-use Rattle.book.proofs.BookedLaws.{rows-kept, rows-keep, rows-figured, count-kept}
+use Rattle.book.proofs.TradeLaws.{kept-rows}
+use Rattle.book.proofs.BookedLaws.{members-kept, rows-figured}
 
 -- a refusal of 0 means that no check applied, and the outcome is the call's own
 pub decided-is : (r : ℕ) (b : Book) (o : Outcome) → decided r b o .refusal ≡ 0 → (r ≡ 0) × (decided r b o ≡ o)
@@ -36,19 +33,6 @@ refused-is r b o z n = go (eqb r 0) n
     go : (c : Bool) → (cond c o (record { refusal = r; number = 0; rows = []; book = b }) .refusal ≡ 0 → ⊥) → cond c o (record { refusal = r; number = 0; rows = []; book = b }) .book ≡ b
     go true m = absurd (m z)
     go false m = refl
-
-abbrev pub Passed : List Check → Type 0
-Passed [] = Unit {0}
-Passed (c ∷ cs) = (c .applies ≡ false) × Passed cs
-
-pub passed : (cs : List Check) → every (λ c. not (eqb (c .number) 0)) cs ≡ true → firstOf cs ≡ 0 → Passed cs
-unfolding firstOf
-passed [] h e = tt
-passed (c ∷ cs) h e = go (c .applies) refl e (λ z. passed cs (and-right (not (eqb (c .number) 0)) (every (λ c. not (eqb (c .number) 0)) cs) h) z)
-  where
-    go : (x : Bool) → c .applies ≡ x → cond x (c .number) (firstOf cs) ≡ 0 → (firstOf cs ≡ 0 → Passed cs) → (c .applies ≡ false) × Passed cs
-    go true f z ih = absurd (eqb-false (c .number) 0 (not-true (eqb (c .number) 0) (and-left (not (eqb (c .number) 0)) (every (λ c. not (eqb (c .number) 0)) cs) h)) z)
-    go false f z ih = (f, ih z)
 
 -- an accepted call is accounted for
 pub accepted-agree : (t : Tally) (b : Book) (c : Call) (o : Outcome) → outcome b c ≡ o → o .refusal ≡ 0 → Agree (accounted t c (answered o)) (o .book) → Agree (tallied t c (answered (outcome b c))) (outcome b c .book)
@@ -71,12 +55,13 @@ module _ (t : Tally) (b : Book) (a : Agree t b) (w : Standing b) where
       → Agree (record { days = t .days; units = t .units; rows = t .rows ++ rs; offers = tos; orders = tor }) (rowsBooked rs (withOrders (withOffers b bos) bor))
   agree-changed rs tos bos tor bor h e f =
       let b₁ = withOrders (withOffers b bos) bor in
-      let n : length (rowsBooked rs b₁ .units) ≡ length (b .units) = count-kept b₁ (rowsBooked rs b₁) (rows-kept (λ (x : BookUnit). x .kind) (λ w d p q x. refl) rs b₁) in
+      let b′ = rowsBooked rs b₁ in
+      let k = kept-rows rs b₁ in
       record {
-        days = a .days ∙ sym (rows-keep (λ (x : Book). x .days) (λ b us. refl) rs b₁);
-        units = a .units ∙ sym (rows-kept member (λ w d p q x. refl) rs b₁);
-        offers = e ∙ ap (map amountsOf) (sym (rows-keep (λ (x : Book). x .offers) (λ b us. refl) rs b₁));
-        orders = f ∙ sym (rows-keep (λ (x : Book). x .orders) (λ b us. refl) rs b₁);
-        parties = rw n (each-append (Parties (length (b .units))) (t .rows) rs (a .parties) h);
+        days = a .days ∙ sym (ap (λ (x : Book). x .days) (k .rest));
+        units = a .units ∙ sym (members-kept b₁ b′ k);
+        offers = e ∙ ap (map amountsOf) (sym (ap (λ (x : Book). x .offers) (k .rest)));
+        orders = f ∙ sym (ap (λ (x : Book). x .orders) (k .rest));
+        parties = rw (k .count) (each-append (Parties (length (b .units))) (t .rows) rs (a .parties) h);
         figures = rows-figured (t .rows) rs b₁ (w .long) h (a .figures);
       }

@@ -1,16 +1,16 @@
 -- A tally and the book that the same calls left, side by side.
-use Prim.Native.Nat.{ℕ, _+_, _-_, _≤_, _<_}
-use mathlib.Core.Path.{_≡_, refl, sym, ap, _∙_}
+use Prim.Native.Nat.{ℕ, _+_, _-_, _<_}
+use mathlib.Core.Path.{_≡_, refl, ap, _∙_}
 use mathlib.Core.Bool.{Bool, true, cond, not, _&&_}
 use mathlib.Core.List.{List, [], _∷_, map}
 use native.Mathlib.Omega.{arith}
-use lib.ListN.{length, getD, length-map, List·getD-map}
+use lib.ListN.{length, length-map, List·getD-map}
 use lib.Dec.{eqb}
 use Rattle.measures.specs.Lists.{keep, sumOf}
 use Rattle.measures.specs.Sharing.{total}
 use Rattle.measures.proofs.RangeLaws.{In, within}
 use Rattle.limits.specs.Units.{periods, generator}
-use Rattle.matching.specs.Orders.{Order as OpenOrder, Row}
+use Rattle.matching.specs.Orders.{Row}
 use Rattle.matching.proofs.EachLaws.{Each}
 use Rattle.book.specs.Book.{Figures, Unit, noUnit, OpenOffer, Book, unitOf, figuresOf}
 use Rattle.book.specs.Opening.{fresh}

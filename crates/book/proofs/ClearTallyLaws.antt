@@ -1,8 +1,8 @@
 -- Tally and book agree after clear.
-use Prim.Native.Nat.{ℕ, zero, suc, _+_, _-_, _≤_, _<_}
-use mathlib.Core.Path.{_≡_, refl, sym, ap, ap₂, _∙_}
-use mathlib.Core.Bool.{Bool, true, false, cond, _&&_}
-use mathlib.Core.List.{List, [], _∷_, _++_, map}
+use Prim.Native.Nat.{ℕ, zero, suc, _-_}
+use mathlib.Core.Path.{_≡_, refl, ap₂}
+use mathlib.Core.Bool.{Bool, _&&_}
+use mathlib.Core.List.{List, [], _∷_, map}
 use lib.ListN.{length}
 use lib.Dec.{eqb, leb, ltb}
 use Rattle.measures.specs.Lists.{keep}
@@ -10,20 +10,21 @@ use Rattle.measures.specs.Sharing.{parts}
 use Rattle.measures.proofs.RangeLaws.{In}
 use Rattle.measures.proofs.ListLaws.{cond-case}
 use Rattle.limits.specs.Units.{periods}
-use Rattle.matching.specs.Orders.{Order as OpenOrder, Row, buys, sells, quantities, less, lessen, bidAhead, askAhead, bids, asks}
-use Rattle.matching.specs.Clearing.{clearedVolume, marginal, clearingPrice, Fill, filled, fillsOf, bidFills, askFills, endToEnd, overlapRows, afterFills, Cleared, clearPeriod}
+use Rattle.matching.specs.Orders.{Order as OpenOrder, buys, sells, quantities, less, lessen, bidAhead, askAhead, bids, asks}
+use Rattle.matching.specs.Clearing.{clearedVolume, marginal, clearingPrice, Fill, filled, fillsOf, bidFills, askFills, endToEnd, afterFills, Cleared, clearPeriod}
 use Rattle.matching.proofs.EachLaws.{Each, each-map, each-append, each-keep}
 use Rattle.matching.proofs.LaidLaws.{laid-each}
 use Rattle.matching.proofs.FillLaws.{filled-each}
 use Rattle.matching.proofs.OverlapLaws.{rows-each, spans-each}
 use Rattle.book.specs.Book.{Book, rollingPhase, withOrders, inPhase}
 use Rattle.book.specs.Trades.{rowsBooked}
-use Rattle.book.specs.Refusals.{Outcome, decided, accepted}
+use Rattle.book.specs.Refusals.{accepted}
 use Rattle.book.specs.Clear.{clearRefusal, clearFrom, clearing}
-use Rattle.book.specs.Calls.{Call, clear, outcome, answered}
+use Rattle.book.specs.Calls.{clear, outcome, answered}
 use Rattle.book.specs.Tally.{Tally, accounted, tallied}
 use Rattle.book.proofs.AgreeLaws.{Parties, Agree}
-use Rattle.book.proofs.StandingLaws.{Standing, OrderStands}
+use Rattle.book.proofs.StandingLaws.{Standing}
+use Rattle.book.proofs.SoundLaws.{OrderRanges}
 use Rattle.book.proofs.AcceptedLaws.{decided-is, accepted-agree, agree-head, agree-changed}
 
 -- what holds of each order and of what it has left holds after some is taken off
@@ -92,6 +93,6 @@ module _ (t : Tally) (b : Book) (a : Agree t b) (w : Standing b) where
       let o = accepted 0 (c .rows) (inPhase (rowsBooked (c .rows) (withOrders b (c .orders))) rollingPhase) in
       let d = decided-is (clearRefusal b lent) b o e in
       let f : c′ .orders ≡ c .orders = ap₂ (λ (k : ℕ) (l : List OpenOrder). clearFrom 0 (periods k) l .orders) (a .days) (a .orders) in
-      let owned = each-map (OrderStands b) (Owned (length (b .units))) (b .orders) (λ o s. s .unit) (w .orders) in
+      let owned = each-map (OrderRanges b) (Owned (length (b .units))) (b .orders) (λ o s. s .unit) (w .orders) in
       accepted-agree t b (clear lent) o (d .1) refl
       (agree-head _ _ (agree-changed t b a w (c .rows) (t .offers) (b .offers) (c′ .orders) (c .orders) (clear-parties (length (b .units)) (periods (b .days)) 0 (b .orders) owned) (a .offers) f) rollingPhase _)

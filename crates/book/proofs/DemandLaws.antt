@@ -1,8 +1,8 @@
 -- Demand 3 of a tally and a sound book that agree.
-use Prim.Native.Nat.{ℕ, zero, suc, _+_, _-_, _*_, _/_, _≤_, _<_}
+use Prim.Native.Nat.{ℕ, zero, suc, _+_, _-_, _*_, _≤_, _<_}
 use mathlib.Core.Path.{_≡_, refl, sym, ap, _∙_}
 use mathlib.Core.Bool.{Bool, true, false, cond, not, _&&_}
-use mathlib.Core.List.{List, [], _∷_, map}
+use mathlib.Core.List.{[], _∷_}
 use native.Mathlib.Omega.{arith}
 use native.Mathlib.Nat.{le-trans}
 use lib.ListN.{length, getD}
@@ -11,19 +11,20 @@ use Rattle.measures.specs.Lists.{keep, sumOf, sum}
 use Rattle.measures.proofs.RangeLaws.{In}
 use Rattle.measures.proofs.ListLaws.{sum-ext, sum-add, sum-mono}
 use Rattle.limits.specs.Units.{periods, generator}
-use Rattle.limits.specs.Limits.{hourOf, hourLimit, termLimit, volumeLimit}
-use Rattle.matching.specs.Orders.{Order as OpenOrder, Row}
+use Rattle.matching.specs.Orders.{Order as OpenOrder}
 use Rattle.matching.proofs.EachLaws.{each-map}
-use Rattle.book.specs.Book.{Figures, OpenOffer, Book, unitOf, figuresOf, net}
+use Rattle.book.specs.Book.{OpenOffer, Book, unitOf, figuresOf, net}
 use Rattle.book.specs.Trades.{raises, lowers}
-use Rattle.book.specs.Fit.{openOrders, openOffers, openRaising, openLowering}
+use Rattle.book.specs.Fit.{nothing, openOrders, openOffers, openRaising, openLowering}
 use Rattle.book.specs.Sound.{sound}
 use Rattle.book.specs.Curve.{firstHalf, secondHalf, pointsFrom, points}
-use Rattle.book.specs.Tally.{Member, Amounts, Tally}
-use Rattle.book.specs.Demand3.{memberOf, enrolled, sold, bought, raisedBy, loweredBy, netOf, volumeOf, Part, raisingPart, loweringPart, netsOf, Bounded, Demand3}
-use Rattle.book.proofs.AgreeLaws.{member, amountsOf, remains, soldIn, boughtIn, Figured, Agree, member-of, units-count, enrolled-in}
-use Rattle.book.proofs.StandingLaws.{Fits, Standing, standing}
-use Rattle.book.proofs.PartLaws.{sumOf-map, left, offers-part, orders-part, countedFor, parties-sum}
+use Rattle.book.specs.Tally.{Member, Tally}
+use Rattle.book.specs.Demand3.{memberOf, sold, bought, raisedBy, loweredBy, netOf, volumeOf, Part, raisingPart, loweringPart, netsOf, Bounded, Demand3}
+use Rattle.book.proofs.AgreeLaws.{member, amountsOf, remains, Agree, member-of, units-count, enrolled-in}
+use Rattle.book.proofs.StandingLaws.{Standing, standing}
+use Rattle.book.proofs.FitLaws.{raisedTo, volumeTo}
+use Rattle.book.proofs.MapLaws.{sumOf-map}
+use Rattle.book.proofs.PartLaws.{left, offers-part, orders-part, parties-sum}
 
 -- the curve's points, two a period
 pub points-at : (b : Book) (u p n h : ℕ) → h < n
@@ -54,7 +55,7 @@ module _ (t : Tally) (b : Book) (a : Agree t b) (w : Standing b) where
 
   -- lowering never passes held
   low : (u p : ℕ) → In 1 (length (b .units)) u → p < periods (t .days) → figuresOf b u p .lowered + openLowering b u p ≤ figuresOf b u p .held
-  low u p h l = w .fits u h .lowering p (rw (a .days) at l)
+  low u p h l = let k = w .fits u h .lowering p (rw (a .days) at l) in omega arith
 
   same-net : (u p : ℕ) → In 1 (length (b .units)) u → p < periods (t .days) → net (figuresOf b u p) ≡ netOf t u p
   same-net u p h l = let e = at-unit u p h l in let k = low u p h l in omega arith
@@ -113,7 +114,7 @@ module _ (t : Tally) (b : Book) (a : Agree t b) (w : Standing b) where
         omega arith
 
     net-within : (p : ℕ) → p < periods (t .days)
-        → raisedBy t u p + raisingPart t x u p - (loweredBy t u p + loweringPart t x u p) ≤ figuresOf b u p .held + (figuresOf b u p .raised + openRaising b u p)
+        → raisedBy t u p + raisingPart t x u p - (loweredBy t u p + loweringPart t x u p) ≤ raisedTo b u nothing p
     net-within p l =
         let e = at-unit u p h l in
         let g = raising-part x u p in
@@ -124,17 +125,17 @@ module _ (t : Tally) (b : Book) (a : Agree t b) (w : Standing b) where
 
     volume-within :
         volumeOf t u + sum (periods (t .days)) (λ p. raisingPart t x u p + loweringPart t x u p)
-        ≤ sum (periods (t .days)) (λ p. figuresOf b u p .volume + (openRaising b u p + openLowering b u p))
+        ≤ sum (periods (t .days)) (volumeTo b u nothing)
     volume-within =
         let s = sum-add (periods (t .days)) (λ p. sold t u p + bought t u p) (λ p. raisingPart t x u p + loweringPart t x u p) in
-        let m = sum-mono (periods (t .days)) (λ p. sold t u p + bought t u p + (raisingPart t x u p + loweringPart t x u p)) (λ p. figuresOf b u p .volume + (openRaising b u p + openLowering b u p)) (λ p l. let e = at-unit u p h l in let r = raising-part x u p in let g = lowering-part x u p in omega arith) in
+        let m = sum-mono (periods (t .days)) (λ p. sold t u p + bought t u p + (raisingPart t x u p + loweringPart t x u p)) (volumeTo b u nothing) (λ p l. let e = at-unit u p h l in let r = raising-part x u p in let g = lowering-part x u p in omega arith) in
         omega arith
 
     bounded : Bounded t x u
     bounded =
         record {
           atLeastNone = none-below;
-          withinHour = λ p l. le-trans (net-within p l) (rw same-member (w .fits u h .hour p (rw (a .days) at l)));
+          withinHour = λ p l. le-trans (net-within p l) (rw same-member (w .fits u h .raising p (rw (a .days) at l)));
           withinTerm = le-trans (sum-mono (periods (t .days)) _ _ net-within) (rw (same-member, a .days) (w .fits u h .term));
           withinVolume = le-trans volume-within (rw (same-member, a .days) (w .fits u h .volume));
         }

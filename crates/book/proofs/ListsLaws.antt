@@ -1,6 +1,5 @@
 -- Demand 3 over lists of calls.
-use Prim.Native.Nat.{ℕ}
-use mathlib.Core.Path.{_≡_, refl, sym, ap, _∙_}
+use mathlib.Core.Path.{_≡_, refl}
 use mathlib.Core.Bool.{true, cond, not}
 use mathlib.Core.List.{List, [], _∷_}
 use native.Mathlib.Decide.{ℕ-discrete}
@@ -12,8 +11,8 @@ use Rattle.limits.specs.Units.{periods}
 use Rattle.book.specs.Book.{Book, callPhase, rollingPhase, offerOf, withOffers, withOrders, inPhase, nextNumber}
 use Rattle.book.specs.Trades.{rowsBooked}
 use Rattle.book.specs.Sound.{sound}
-use Rattle.book.specs.Refusals.{Outcome, firstOf, decided, accepted, unsound}
-use Rattle.book.specs.Opening.{fresh, openingRefusal}
+use Rattle.book.specs.Refusals.{Outcome, firstOf, accepted, unsound}
+use Rattle.book.specs.Opening.{fresh}
 use Rattle.book.specs.Enrol.{enrolRefusal, enrolment}
 use Rattle.book.specs.Enrol.{enrolled as withUnit}
 use Rattle.book.specs.Offer.{offerRefusal, offered, offering}

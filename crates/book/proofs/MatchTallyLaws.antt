@@ -1,40 +1,29 @@
 -- A match's row names the first order of its unit, period and price.
-use Prim.Native.Nat.{ℕ, zero, suc, _+_, _-_, _≤_, _<_, min}
+use Prim.Native.Nat.{ℕ, _-_, _≤_, _<_, min}
 use mathlib.Core.Path.{_≡_, refl, sym, ap, ap₂, _∙_}
-use mathlib.Core.Logic.{_⊎_, inl, inr}
-use mathlib.Core.Bool.{Bool, true, false, cond, not, _&&_, _||_}
-use mathlib.Core.List.{List, [], _∷_, _++_, map}
+use mathlib.Core.Logic.{inl, inr}
+use mathlib.Core.Bool.{Bool, true, false, cond, _&&_}
+use mathlib.Core.List.{List, [], _∷_}
 use native.Mathlib.Omega.{arith}
-use native.Mathlib.Decide.{ℕ-discrete, decLt}
-use borrow.Author.Tests.{eqb-true, eqb-false, eq-eqb, ne-eqb, le-leb, lt-leb, lt-ltb, ltb-true, not-true}
-use lib.ListN.{length, getD}
+use borrow.Author.Tests.{eq-eqb, ne-eqb, lt-leb, lt-ltb, ltb-true}
 use lib.Dec.{eqb, leb, ltb}
 use Rattle.measures.specs.Lists.{keep, every}
 use Rattle.measures.proofs.ListLaws.{both-ways, and-left, and-right}
-use Rattle.matching.specs.Orders.{Order as OpenOrder, Row, sells, buys, less, lessen, rising, numbers, insert, laid}
-use Rattle.matching.specs.Memory.{noOrder}
-use Rattle.matching.specs.Rolling.{candidate, aheadFor, counterparts, Match, matches, matchRow, afterMatches}
-use Rattle.matching.proofs.EachLaws.{Each, Has, each-map, each-both, each-keep, each-has, has-each, has-self, kept}
+use Rattle.matching.specs.Orders.{Order as OpenOrder, less, lessen, rising, numbers, insert, laid}
+use Rattle.matching.specs.Rolling.{candidate, aheadFor, counterparts}
+use Rattle.matching.proofs.EachLaws.{Each, Has, each-map, each-keep, has-each, kept}
 use Rattle.matching.proofs.LaidLaws.{laid-each}
 use Rattle.matching.proofs.CandidateLaws.{ahead-equal}
-use Rattle.matching.proofs.CounterpartLaws.{without, best, Picked, none, some, picked}
-use Rattle.matching.proofs.TakeOffLaws.{lessen-gone, lessen-rises}
-use Rattle.matching.proofs.MeetingLaws.{matches-spent, matches-more}
-use Rattle.book.specs.Sound.{oneWay}
-use Rattle.book.specs.Tally.{orderLessened, otherUnit, orderTallied}
-use Rattle.book.proofs.StandingLaws.{every-each}
-
-each-unmapped : {A B : Type 0} (P : B → Type 0) (f : A → B) (l : List A) → Each P (map f l) → Each (λ x. P (f x)) l
-each-unmapped P f [] h = tt
-each-unmapped P f (x ∷ l) h = (h .0, each-unmapped P f l (h .1))
+use Rattle.book.specs.Tally.{orderLessened}
+use Rattle.book.proofs.MapLaws.{each-unmap}
+use Rattle.book.proofs.RemainLaws.{each-of}
 
 -- the first number of a rising list is below the others
 rise-first : (o : OpenOrder) (os : List OpenOrder) → rising (numbers (o ∷ os)) ≡ true → Each (λ (y : OpenOrder). o .number < y .number) os
 unfolding rising
 rise-first o os e =
-    each-unmapped (λ n. o .number < n) (λ (y : OpenOrder). y .number) os
-    (each-map (λ n. ltb (o .number) n ≡ true) (λ n. o .number < n) (numbers os) (λ n h. ltb-true (o .number) n h)
-    (every-each (ltb (o .number)) (numbers os) (and-left (every (ltb (o .number)) (numbers os)) (rising (numbers os)) e)))
+    each-unmap (λ n. o .number < n) (λ (y : OpenOrder). y .number) os
+    (each-of (ltb (o .number)) (λ n. o .number < n) (λ n h. ltb-true (o .number) n h) (numbers os) (and-left (every (ltb (o .number)) (numbers os)) (rising (numbers os)) e))
 
 rise-rest : (o : OpenOrder) (os : List OpenOrder) → rising (numbers (o ∷ os)) ≡ true → rising (numbers os) ≡ true
 unfolding rising

@@ -1,37 +1,37 @@
 -- Tally and book agree after an order.
 use Prim.Native.Nat.{ℕ, zero, suc, _+_, _-_, _≤_, _<_, min}
 use mathlib.Core.Path.{_≡_, refl, sym, ap, ap₂, _∙_}
-use mathlib.Core.Logic.{_⊎_, inl, inr}
-use mathlib.Core.Bool.{Bool, true, false, cond, not, _&&_, _||_}
+use mathlib.Core.Bool.{Bool, true, false, cond, _&&_}
 use mathlib.Core.List.{List, [], _∷_, _++_, map}
 use native.Mathlib.Omega.{arith}
 use native.Mathlib.Decide.{ℕ-discrete, decLt}
-use borrow.Author.Tests.{eqb-true, eqb-false, eq-eqb, ne-eqb, not-true, not-false}
+use borrow.Author.Tests.{eqb-true, eq-eqb, ne-eqb, not-false}
 use lib.ListN.{length, getD}
 use lib.Dec.{eqb, leb}
 use Rattle.measures.specs.Ranges.{mostEnergy}
-use Rattle.measures.specs.Lists.{keep, sumOf}
+use Rattle.measures.specs.Lists.{sumOf}
 use Rattle.measures.proofs.RangeLaws.{In, within}
-use Rattle.measures.proofs.ListLaws.{both-ways, cond-case, and-left, and-right}
+use Rattle.measures.proofs.ListLaws.{both-ways, cond-case, and-left}
 use Rattle.matching.specs.Orders.{Order as OpenOrder, Row, sells, buys, leaving, lessen, rising, numbers}
 use Rattle.matching.specs.Memory.{noOrder}
-use Rattle.matching.specs.Rolling.{candidate, counterparts, Match, matches, matchRow, afterMatches, Met, meet}
+use Rattle.matching.specs.Rolling.{candidate, counterparts, Match, matches, matchRow, afterMatches, meet}
 use Rattle.matching.proofs.EachLaws.{Each, Has, each-map, each-all, each-both, has-each, has-self}
 use Rattle.matching.proofs.SumLaws.{sumOf-ext}
 use Rattle.matching.proofs.CounterpartLaws.{without, best, Picked, none, some, picked}
 use Rattle.matching.proofs.TakeOffLaws.{lessen-gone, lessen-rises}
 use Rattle.matching.proofs.MeetingLaws.{match, matches-none, matches-spent, matches-more}
-use Rattle.book.specs.Book.{Book, callPhase, withOrders, nextNumber, numbered}
+use Rattle.book.specs.Book.{Book, callPhase, nextNumber}
 use Rattle.book.specs.Trades.{rowsBooked}
-use Rattle.book.specs.Sound.{oneWay, energyIn}
-use Rattle.book.specs.Refusals.{Outcome, firstOf, decided, accepted}
+use Rattle.book.specs.Sound.{oneWay}
 use Rattle.book.specs.Order.{orderRefusal, newOrder, waiting, orderedInCall, orderedInRolling, ordering}
 use Rattle.book.specs.Calls.{Call, order, outcome, answered}
 use Rattle.book.specs.Tally.{Tally, orderLessened, otherUnit, orderTallied, orderLeft, accounted, tallied}
 use Rattle.book.proofs.AgreeLaws.{Parties, Agree}
-use Rattle.book.proofs.StandingLaws.{Standing, OrderStands}
-use Rattle.book.proofs.PartLaws.{sumOf-map}
-use Rattle.book.proofs.AcceptedLaws.{decided-is, passed, accepted-agree, agree-head, agree-changed}
+use Rattle.book.proofs.StandingLaws.{Standing}
+use Rattle.book.proofs.SoundLaws.{OrderRanges}
+use Rattle.book.proofs.MapLaws.{sumOf-map}
+use Rattle.book.proofs.RefusalLaws.{none-applies}
+use Rattle.book.proofs.AcceptedLaws.{decided-is, accepted-agree, agree-head, agree-changed}
 use Rattle.book.proofs.MatchTallyLaws.{alike, first-lessened, counterparts-each, counterparts-are, laid-lowest}
 
 -- orders as a sound book has them
@@ -186,7 +186,7 @@ module _ (t : Tally) (b : Book) (a : Agree t b) (w : Standing b) (unit direction
   lined =
       record {
         rises = w .ordersRise;
-        some = each-map (OrderStands b) (λ (o : OpenOrder). 0 < o .quantity) (b .orders) (λ o s. s .some) (w .orders);
+        some = each-map (OrderRanges b) (λ (o : OpenOrder). 0 < o .quantity) (b .orders) (λ o s. s .energy .0) (w .orders);
         oneWays = w .oneWays;
       }
 
@@ -209,7 +209,7 @@ module _ (t : Tally) (b : Book) (a : Agree t b) (w : Standing b) (unit direction
       let bor = afterMatches ms (b .orders) ++ waiting (leaving incoming (quantity - sumOf (λ (m : Match). m .quantity) ms)) in
       let f : tor ≡ bor =
       ap₂ (λ (x y : List OpenOrder). x ++ y) (ap (orderTallied direction rs) (a .orders) ∙ rolled incoming (counterparts incoming (b .orders)) (b .orders) quantity refl lined) (left-waits incoming ms) in
-      let owned = each-map (OrderStands b) (λ (o : OpenOrder). In 1 (length (b .units)) (o .unit)) (b .orders) (λ o s. s .unit) (w .orders) in
+      let owned = each-map (OrderRanges b) (λ (o : OpenOrder). In 1 (length (b .units)) (o .unit)) (b .orders) (λ o s. s .unit) (w .orders) in
       let named = matches-each (λ (o : OpenOrder). In 1 (length (b .units)) (o .unit)) quantity (counterparts incoming (b .orders)) (counterparts-each incoming (λ (o : OpenOrder). In 1 (length (b .units)) (o .unit)) (b .orders) owned) in
       accepted-agree t b this (orderedInRolling b incoming) e refl
       (agree-head _ _ (agree-changed t b a w rs (t .offers) (b .offers) tor bor (match-parties (length (b .units)) incoming ms h named) (a .offers) f) _ _)
@@ -218,7 +218,7 @@ module _ (t : Tally) (b : Book) (a : Agree t b) (w : Standing b) (unit direction
   unfolding ordering orderRefusal
   agree-order e =
       let d = decided-is (orderRefusal b unit direction period price quantity lent) b (cond (eqb (b .phase) callPhase) (orderedInCall b incoming) (orderedInRolling b incoming)) e in
-      let c = passed _ refl (d .0) in
+      let c = none-applies _ (omega arith) (d .0) in
       let h : In 1 (length (b .units)) unit = within 1 (length (b .units)) unit (not-false _ (c .1 .0)) in
       let q : In 1 mostEnergy quantity = within 1 mostEnergy quantity (not-false _ (c .1 .1 .1 .1 .0)) in
       go (eqb (b .phase) callPhase) h (q .0) (d .1)

@@ -1,26 +1,21 @@
 -- Parts of open amounts, and what the rows of enrolled units come to over all units.
-use Prim.Native.Nat.{ℕ, zero, suc, _+_, _-_, _*_, _≤_, _<_}
-use mathlib.Core.Path.{_≡_, refl, sym, ap, _∙_}
-use mathlib.Core.Bool.{Bool, true, false, cond, not, _&&_}
-use mathlib.Core.List.{List, [], _∷_, map}
+use Prim.Native.Nat.{ℕ, zero, suc, _+_, _-_, _≤_, _<_}
+use mathlib.Core.Path.{_≡_, refl, sym}
+use mathlib.Core.Bool.{Bool, true, false, cond, _&&_}
+use mathlib.Core.List.{List, [], _∷_}
 use native.Mathlib.Omega.{arith}
 use borrow.Author.Tests.{eqb-true, eq-eqb, ne-eqb, not-false}
-use lib.ListN.{length, getD}
+use lib.ListN.{getD}
 use lib.Dec.{eqb}
 use Rattle.measures.specs.Lists.{keep, sumOf, sum}
 use Rattle.measures.specs.Lists.{Each as EachOf}
 use Rattle.measures.specs.Sharing.{total}
 use Rattle.measures.proofs.RangeLaws.{In}
-use Rattle.measures.proofs.ListLaws.{cond-case, sum-ext, sum-add, sum-change}
+use Rattle.measures.proofs.ListLaws.{cond-case, sum-add, sum-change}
 use Rattle.matching.specs.Orders.{Order as OpenOrder, Row}
 use Rattle.matching.proofs.EachLaws.{Each}
-use Rattle.book.specs.Book.{OpenOffer}
 use Rattle.book.specs.Tally.{Amounts}
-use Rattle.book.proofs.AgreeLaws.{amountsOf, remains}
-
-pub sumOf-map : {A B : Type 0} (f : B → ℕ) (g : A → B) (l : List A) → sumOf f (map g l) ≡ sumOf (λ x. f (g x)) l
-sumOf-map f g [] = refl
-sumOf-map f g (x ∷ l) = ap (λ (n : ℕ). f (g x) + n) (sumOf-map f g l)
+use Rattle.book.proofs.AgreeLaws.{remains}
 
 -- no amount is over the total
 pub at-most-total : (l : List ℕ) (p : ℕ) → getD l p 0 ≤ total l

@@ -1,15 +1,15 @@
 -- Tally and book agree after a take.
 use Prim.Native.Nat.{ℕ, zero, suc, _+_, _-_, _≤_, _<_}
 use mathlib.Core.Path.{_≡_, refl, sym, ap, ap₂, _∙_}
-use mathlib.Core.Bool.{Bool, true, false, cond, not, _&&_}
+use mathlib.Core.Bool.{Bool, true, false, cond}
 use mathlib.Core.List.{List, [], _∷_, _++_, map, append-assoc}
 use native.Mathlib.Omega.{arith}
-use borrow.Author.Tests.{eqb-true, eqb-false, eq-eqb, ne-eqb, ltb-true, not-true, not-false}
+use borrow.Author.Tests.{eqb-true, eq-eqb, ne-eqb, ltb-true, not-false}
 use lib.ListN.{length, getD, set, length-append}
 use lib.Seq.{getD-at, set-at}
 use lib.Dec.{eqb, ltb}
 use Rattle.measures.specs.Lists.{keep, every}
-use Rattle.measures.specs.Sharing.{total, parts}
+use Rattle.measures.specs.Sharing.{total}
 use Rattle.measures.proofs.SharingLaws.{parts-length}
 use Rattle.measures.proofs.RangeLaws.{In, within}
 use Rattle.measures.proofs.ListLaws.{cond-case, and-left, and-right}
@@ -18,13 +18,16 @@ use Rattle.matching.specs.Orders.{Row, rising}
 use Rattle.matching.proofs.EachLaws.{Each, each-map, each-keep, each-at, kept}
 use Rattle.book.specs.Book.{OpenOffer, noOffer, Book, unitOf, offersOf, offerOf, withOffers}
 use Rattle.book.specs.Trades.{rowsBooked}
-use Rattle.book.specs.Refusals.{Outcome, firstOf, decided, accepted}
+use Rattle.book.specs.Refusals.{accepted}
 use Rattle.book.specs.Take.{takenParts, takeRefusal, takeRowsFrom, wayOf, takeRows, lessEach, offerLess, offersLess, taking}
-use Rattle.book.specs.Calls.{Call, take, outcome, answered}
+use Rattle.book.specs.Calls.{take, outcome, answered}
 use Rattle.book.specs.Tally.{Amounts, Tally, lessAt, offerLessened, takeTallied, accounted, tallied}
 use Rattle.book.proofs.AgreeLaws.{amountsOf, remains, Parties, Agree}
-use Rattle.book.proofs.StandingLaws.{Standing, OfferStands}
-use Rattle.book.proofs.AcceptedLaws.{decided-is, passed, accepted-agree, agree-changed}
+use Rattle.book.proofs.StandingLaws.{Standing}
+use Rattle.book.proofs.SoundLaws.{OfferRanges}
+use Rattle.book.proofs.MapLaws.{each-unmap}
+use Rattle.book.proofs.RefusalLaws.{none-applies}
+use Rattle.book.proofs.AcceptedLaws.{decided-is, accepted-agree, agree-changed}
 
 -- amounts after rows, each taken off in its period
 unfoldable amountsLess : List Row → List ℕ → List ℕ
@@ -184,10 +187,6 @@ take-less b o u ps l h =
     (λ e. rows-less [] l ps 0 (wayOf o) (o .unit) u (o .price) refl h)
     (λ e. rows-less [] l ps 0 (wayOf o) u (o .unit) (o .price) refl h)
 
-each-unmap : {A B : Type 0} (P : B → Type 0) (f : A → B) (l : List A) → Each P (map f l) → Each (λ x. P (f x)) l
-each-unmap P f [] h = tt
-each-unmap P f (x ∷ l) h = (h .0, each-unmap P f l (h .1))
-
 module _ (t : Tally) (b : Book) (a : Agree t b) (w : Standing b) where
   something-left : Each (λ (o : OpenOffer). remains (amountsOf o) ≡ true) (b .offers)
   something-left = each-unmap (λ x. remains x ≡ true) amountsOf (b .offers) (rw (a .offers) at (kept remains (t .offers)))
@@ -201,17 +200,17 @@ module _ (t : Tally) (b : Book) (a : Agree t b) (w : Standing b) where
       let rs = takeRows b of unit ps in
       let o = accepted 0 rs (rowsBooked rs (withOffers b (offersLess number ps (b .offers)))) in
       let d = decided-is (takeRefusal b unit number quantity lent) b o e in
-      let c = passed _ refl (d .0) in
+      let c = none-applies _ (omega arith) (d .0) in
       let hu : In 1 (length (b .units)) unit = within 1 (length (b .units)) unit (not-false _ (c .1 .0)) in
       let some : 0 < length (offersOf b number) = ltb-true _ _ (not-false _ (c .1 .1 .1 .1 .0)) in
-      let st : OfferStands b of = each-at (OfferStands b) (offersOf b number) 0 noOffer (each-keep (OfferStands b) (λ o. eqb (o .number) number) (b .offers) (w .offers)) some in
-      let lp : length ps ≡ periods (b .days) = parts-length quantity (of .amounts) ∙ st .long in
+      let st : OfferRanges b of = each-at (OfferRanges b) (offersOf b number) 0 noOffer (each-keep (OfferRanges b) (λ o. eqb (o .number) number) (b .offers) (w .offers)) some in
+      let lp : length ps ≡ periods (b .days) = parts-length quantity (of .amounts) ∙ st .amounts in
       let f : keep remains (takeTallied number rs (t .offers)) ≡ map amountsOf (offersLess number ps (b .offers)) =
       ap (keep remains) (take-tallied number rs (t .offers))
       ∙ still-remain number rs (t .offers)
       ∙ ap (λ (l : List Amounts). keep remains (map (taken number rs) l)) (a .offers)
       ∙ offers-less number rs ps (take-less b of unit ps) (b .offers) (w .offersRise) something-left
-      (each-map (OfferStands b) (λ o. length (o .amounts) ≡ length ps) (b .offers) (λ o s. s .long ∙ sym lp) (w .offers)) in
+      (each-map (OfferRanges b) (λ o. length (o .amounts) ≡ length ps) (b .offers) (λ o s. s .amounts ∙ sym lp) (w .offers)) in
       accepted-agree t b (take unit number quantity lent) o (d .1) refl
       (agree-changed t b a w rs (takeTallied number rs (t .offers)) (offersLess number ps (b .offers)) (t .orders) (b .orders)
       (take-parties (length (b .units)) b of unit ps (st .unit) hu) f (a .orders))

@@ -1,19 +1,19 @@
 -- Tally and book agree after the calls that make no rows: enrol, offer, withdraw, cancel, close.
-use Prim.Native.Nat.{ℕ, zero, suc, _+_, _-_, _≤_, _<_}
+use Prim.Native.Nat.{ℕ, _+_, _-_, _≤_, _<_}
 use mathlib.Core.Path.{_≡_, refl, sym, ap, ap₂, _∙_}
 use mathlib.Core.Bool.{Bool, true, false, cond, not, _&&_}
 use mathlib.Core.List.{List, [], _∷_, _++_, map, append-nil}
 use native.Mathlib.Omega.{arith}
 use native.Mathlib.Decide.{decLt}
-use borrow.Author.Tests.{eqb-true, eqb-false, eq-eqb, ne-eqb, not-true, not-false}
-use lib.ListN.{length, getD, length-append, length-map, List·getD-append, List·getD-map, getD-replicate}
+use borrow.Author.Tests.{ne-eqb, not-false}
+use lib.ListN.{length, length-append, length-map, List·getD-append, List·getD-map, getD-replicate}
 use lib.Seq.{getD-at}
 use lib.Dec.{eqb}
 use Rattle.measures.specs.Ranges.{mostEnergy}
-use Rattle.measures.specs.Lists.{keep, sumOf}
+use Rattle.measures.specs.Lists.{keep}
 use Rattle.measures.specs.Sharing.{total}
 use Rattle.measures.proofs.RangeLaws.{In, within}
-use Rattle.measures.proofs.ListLaws.{and-left, and-right, keep-append}
+use Rattle.measures.proofs.ListLaws.{and-right, keep-append}
 use Rattle.limits.specs.Units.{periods, generator}
 use Rattle.matching.specs.Orders.{Order as OpenOrder, Row}
 use Rattle.matching.proofs.EachLaws.{Each, each-map}
@@ -21,22 +21,20 @@ use Rattle.matching.proofs.SumLaws.{sumOf-zero}
 use Rattle.book.specs.Book.{Figures, noFigures, Unit, noUnit, OpenOffer, Book, unitOf, figuresOf, withUnits, withOffers, withOrders, noTrades, nextNumber, net}
 use Rattle.book.specs.Trades.{rowsBooked}
 use Rattle.book.specs.Sound.{energyIn}
-use Rattle.book.specs.Refusals.{Outcome, Check, firstOf, decided, accepted, unsound}
+use Rattle.book.specs.Refusals.{firstOf, accepted, unsound}
 use Rattle.book.specs.Enrol.{enrolRefusal, enrolment}
 use Rattle.book.specs.Enrol.{enrolled as withUnit}
 use Rattle.book.specs.Offer.{offerRefusal, offered, offering}
 use Rattle.book.specs.Withdraw.{withdrawRefusal, withdrawal}
 use Rattle.book.specs.Cancel.{cancelRefusal, cancellation}
 use Rattle.book.specs.Close.{dayOver, unitDayOver, dayClosed, closing}
-use Rattle.book.specs.Calls.{Call, enrol, offer, withdraw, cancel, close, outcome, answered}
+use Rattle.book.specs.Calls.{enrol, offer, withdraw, cancel, close, outcome, answered}
 use Rattle.book.specs.Tally.{Member, Amounts, Tally, accounted, tallied}
 use Rattle.book.proofs.AgreeLaws.{member, amountsOf, remains, soldIn, boughtIn, Figured, AllFigured, Parties, Agree}
 use Rattle.book.proofs.StandingLaws.{Standing}
-use Rattle.book.proofs.AcceptedLaws.{decided-is, passed, accepted-agree, agree-head, agree-changed}
-
-pub map-join : {A B : Type 0} (f : A → B) (xs ys : List A) → map f (xs ++ ys) ≡ map f xs ++ map f ys
-map-join f [] ys = refl
-map-join f (x ∷ xs) ys = ap (λ l. f x ∷ l) (map-join f xs ys)
+use Rattle.book.proofs.MapLaws.{map-join, keep-keep, keep-map}
+use Rattle.book.proofs.RefusalLaws.{none-applies}
+use Rattle.book.proofs.AcceptedLaws.{decided-is, accepted-agree, agree-head, agree-changed}
 
 -- a unit that no row names has traded nothing
 figured-none : (kind s d : ℕ) → s ≡ 0 → d ≡ 0 → Figured kind s d noFigures
@@ -86,24 +84,6 @@ kept-one x e = rw e
 right-amounts : (b : Book) (amounts : List ℕ) → (eqb (length amounts) (periods (b .days)) && energyIn (total amounts)) ≡ true → 1 ≤ total amounts
 right-amounts b amounts e = within 1 mostEnergy (total amounts) (and-right (eqb (length amounts) (periods (b .days))) (energyIn (total amounts)) e) .0
 
-pub keep-keep : {A : Type 0} (f g : A → Bool) (l : List A) → keep f (keep g l) ≡ keep g (keep f l)
-keep-keep f g [] = refl
-keep-keep f g (x ∷ l) = go (f x) (g x) refl refl (keep-keep f g l)
-  where
-    go : (y z : Bool) → f x ≡ y → g x ≡ z → keep f (keep g l) ≡ keep g (keep f l) → keep f (cond z (x ∷ keep g l) (keep g l)) ≡ keep g (cond y (x ∷ keep f l) (keep f l))
-    go true true e h ih = rw (e, h, ih)
-    go true false e h ih = rw (h, ih)
-    go false true e h ih = rw (e, ih)
-    go false false e h ih = ih
-
-pub keep-map : {A B : Type 0} (f : B → Bool) (g : A → B) (l : List A) → keep f (map g l) ≡ map g (keep (λ x. f (g x)) l)
-keep-map f g [] = refl
-keep-map f g (x ∷ l) = go (f (g x)) (keep-map f g l)
-  where
-    go : (y : Bool) → keep f (map g l) ≡ map g (keep (λ x. f (g x)) l) → cond y (g x ∷ keep f (map g l)) (keep f (map g l)) ≡ map g (cond y (x ∷ keep (λ x. f (g x)) l) (keep (λ x. f (g x)) l))
-    go true ih = ap (λ m. g x ∷ m) ih
-    go false ih = ih
-
 -- "held becomes net"
 over : (kind s d : ℕ) (f : Figures) → f .lowered ≤ f .held → Figured kind s d f → Figured kind s d (dayOver f)
 over kind s d f l x = let n = x .net in record { net = omega arith; volume = x .volume }
@@ -137,7 +117,7 @@ module _ (t : Tally) (b : Book) (a : Agree t b) (w : Standing b) where
       let o = accepted (nextNumber b) [] (offered b unit partner price amounts) in
       let x : OpenOffer = record { number = nextNumber b; unit = unit; partner = partner; price = price; taken = 0; amounts = amounts } in
       let d = decided-is (offerRefusal b unit partner price amounts) b o e in
-      let c = passed _ refl (d .0) in
+      let c = none-applies _ (omega arith) (d .0) in
       let q = right-amounts b amounts (not-false _ (c .1 .1 .1 .1 .0)) in
       let f : keep remains (t .offers ++ (amountsOf x ∷ [])) ≡ map amountsOf (b .offers ++ (x ∷ [])) =
       keep-append remains (t .offers) (amountsOf x ∷ [])
