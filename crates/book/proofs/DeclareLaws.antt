@@ -1,23 +1,22 @@
 -- A book with one offer or one order more.
-use Prim.Native.Nat.{ℕ, _+_, _≤_, _<_}
-use mathlib.Core.Path.{_≡_, refl, sym, ap, _∙_}
-use mathlib.Core.Bool.{Bool, true, false, cond, not, _&&_, _||_}
-use mathlib.Core.List.{List, [], _∷_, _++_, map}
+use Prim.Native.Nat.{ℕ, _≤_, _<_}
+use mathlib.Core.Path.{_≡_, refl}
+use mathlib.Core.Bool.{Bool, true, not}
+use mathlib.Core.List.{List, [], _∷_, _++_}
 use native.Mathlib.Omega.{arith}
 use native.Mathlib.Decide.{ℕ-discrete}
 use lib.ListN.{length, length-append}
 use lib.Dec.{eqb}
-use borrow.Author.Tests.{eq-eqb, ne-eqb, eqb-false}
+use borrow.Author.Tests.{eq-eqb, ne-eqb}
 use Rattle.measures.specs.Lists.{every, Each}
-use Rattle.measures.proofs.RangeLaws.{In}
-use Rattle.measures.proofs.ListLaws.{and-true, and-left-false, and-right-false, or-left, or-right, not-fails}
-use Rattle.matching.specs.Orders.{Order as OpenOrder, numbers}
+use Rattle.measures.proofs.ListLaws.{and-true, not-fails}
+use Rattle.matching.specs.Orders.{Order as OpenOrder}
 use Rattle.book.specs.Book.{OpenOffer, Book, rollingPhase, mostOffers, mostOrders, mostNumbers, unitOf, withOffers, withOrders, nextNumber, numbered}
 use Rattle.book.specs.Trades.{raises, lowers}
 use Rattle.book.specs.Fit.{openRaising, openLowering, Declaration}
 use Rattle.book.specs.Sound.{oneWay, apart, eachTwo}
-use Rattle.book.proofs.RemainLaws.{each-of, each-holds, each-imp, each-append, every-append, every-both, rising-append}
-use Rattle.book.proofs.SoundLaws.{HeadRanges, OfferRanges, OrderRanges, numbersApart, Formed}
+use Rattle.book.proofs.RemainLaws.{each-holds, each-imp, each-append, every-append, every-both, rising-append}
+use Rattle.book.proofs.SoundLaws.{HeadRanges, OfferRanges, OrderRanges, otherNumber, Formed}
 use Rattle.book.proofs.FitLaws.{Moved}
 use Rattle.book.proofs.OpenLaws.{offerOpens, orderOpens, offers-more, orders-more}
 use Rattle.book.proofs.FormedLaws.{same-offer, same-order, Names, offer-after, order-after}
@@ -30,9 +29,9 @@ abbrev pub withOrder : Book → OpenOrder → Book
 withOrder b o = numbered (withOrders b (b .orders ++ (o ∷ [])))
 
 -- a new number is not that of an order or an offer
-new-offer-differs : (b : Book) (n : ℕ) → n ≡ nextNumber b → Each (OrderRanges b) (b .orders) → every (λ (o : OpenOrder). not (eqb n (o .number))) (b .orders) ≡ true
+new-offer-differs : (b : Book) (n : ℕ) → n ≡ nextNumber b → Each (OrderRanges b) (b .orders) → every (otherNumber n) (b .orders) ≡ true
 new-offer-differs b n e h =
-    each-holds (λ (o : OpenOrder). not (eqb n (o .number))) (OrderRanges b)
+    each-holds (otherNumber n) (OrderRanges b)
     (λ o r. let i = r .number in not-fails (eqb n (o .number)) (ne-eqb n (o .number) (omega arith))) (b .orders) h
 
 new-order-differs : (b : Book) (n : ℕ) → n ≡ nextNumber b → Each (OfferRanges b) (b .offers) → every (λ (f : OpenOffer). not (eqb (f .number) n)) (b .offers) ≡ true
@@ -40,16 +39,23 @@ new-order-differs b n e h =
     each-holds (λ (f : OpenOffer). not (eqb (f .number) n)) (OfferRanges b)
     (λ f r. let i = r .number in not-fails (eqb (f .number) n) (ne-eqb (f .number) n (omega arith))) (b .offers) h
 
-pub formed-offer : (b : Book) (o : OpenOffer) → Formed b → OfferRanges (withOffer b o) o → o .number ≡ nextNumber b → length (b .offers) < mostOffers → b .given < mostNumbers → Formed (withOffer b o)
+pub formed-offer : (b : Book) (o : OpenOffer) → Formed b → OfferRanges (withOffer b o) o → o .number ≡ nextNumber b → length (b .offers) < mostOffers
+    → b .given < mostNumbers → Formed (withOffer b o)
 formed-offer b o f r e few left =
     record {
       head = head;
       units = f .units;
-      offers = each-append (OfferRanges (withOffer b o)) (b .offers) (o ∷ []) (each-imp (OfferRanges b) (OfferRanges (withOffer b o)) (λ x t. offer-after b (withOffer b o) names x x (same-offer x) t) (b .offers) (f .offers)) (r, tt);
+      offers =
+          each-append (OfferRanges (withOffer b o)) (b .offers) (o ∷ [])
+          (each-imp (OfferRanges b) (OfferRanges (withOffer b o)) (λ x t. offer-after b (withOffer b o) names x x (same-offer x) t) (b .offers) (f .offers)) (r, tt);
       orders = each-imp (OrderRanges b) (OrderRanges (withOffer b o)) (λ x t. order-after b (withOffer b o) names x x (same-order x) t) (b .orders) (f .orders);
-      offersRise = rising-append (λ (x : OpenOffer). x .number) (b .offers) o (f .offersRise) (each-imp (OfferRanges b) (λ (x : OpenOffer). x .number < o .number) (λ x t. let i = t .number in omega arith) (b .offers) (f .offers));
+      offersRise =
+          rising-append (λ (x : OpenOffer). x .number) (b .offers) o (f .offersRise)
+          (each-imp (OfferRanges b) (λ (x : OpenOffer). x .number < o .number) (λ x t. let i = t .number in omega arith) (b .offers) (f .offers));
       ordersRise = f .ordersRise;
-      differ = every-append (λ (x : OpenOffer). every (λ (y : OpenOrder). not (eqb (x .number) (y .number))) (b .orders)) (b .offers) (o ∷ []) (f .differ) (and-true (every (λ (y : OpenOrder). not (eqb (o .number) (y .number))) (b .orders)) true (new-offer-differs b (o .number) e (f .orders)) refl);
+      differ =
+          every-append (λ (x : OpenOffer). every (otherNumber (x .number)) (b .orders)) (b .offers) (o ∷ []) (f .differ)
+          (and-true (every (otherNumber (o .number)) (b .orders)) true (new-offer-differs b (o .number) e (f .orders)) refl);
       oneWay = f .oneWay;
       apart = f .apart;
     }
@@ -64,7 +70,8 @@ formed-offer b o f r e few left =
         record { days = h .days; prices = h .prices; ceiling = h .ceiling; phase = h .phase; given = omega arith; units = h .units; offers = omega arith; orders = h .orders }
 
 -- a test of each two orders, with one order more
-pub two-more : (f : OpenOrder → OpenOrder → Bool) (os : List OpenOrder) (o : OpenOrder) → eachTwo f os ≡ true → every (f o) os ≡ true → every (λ a. f a o) os ≡ true → f o o ≡ true → eachTwo f (os ++ (o ∷ [])) ≡ true
+pub two-more : (f : OpenOrder → OpenOrder → Bool) (os : List OpenOrder) (o : OpenOrder) → eachTwo f os ≡ true → every (f o) os ≡ true → every (λ a. f a o) os ≡ true
+    → f o o ≡ true → eachTwo f (os ++ (o ∷ [])) ≡ true
 unfolding eachTwo
 two-more f os o e to from self =
     every-append (λ a. every (f a) (os ++ (o ∷ []))) os (o ∷ [])
@@ -77,18 +84,24 @@ pub record Beside (f : OpenOrder → OpenOrder → Bool) (o : OpenOrder) (os : L
   pub from : every (λ a. f a o) os ≡ true
   pub self : f o o ≡ true
 
-pub formed-order : (b : Book) (o : OpenOrder) → Formed b → OrderRanges (withOrder b o) o → o .number ≡ nextNumber b → length (b .orders) < mostOrders → b .given < mostNumbers → Beside oneWay o (b .orders) → (b .phase ≡ rollingPhase → Beside apart o (b .orders)) → Formed (withOrder b o)
+pub formed-order : (b : Book) (o : OpenOrder) → Formed b → OrderRanges (withOrder b o) o → o .number ≡ nextNumber b → length (b .orders) < mostOrders
+    → b .given < mostNumbers → Beside oneWay o (b .orders) → (b .phase ≡ rollingPhase → Beside apart o (b .orders)) → Formed (withOrder b o)
 formed-order b o f r e few left way cross =
     record {
       head = head;
       units = f .units;
       offers = each-imp (OfferRanges b) (OfferRanges (withOrder b o)) (λ x t. offer-after b (withOrder b o) names x x (same-offer x) t) (b .offers) (f .offers);
-      orders = each-append (OrderRanges (withOrder b o)) (b .orders) (o ∷ []) (each-imp (OrderRanges b) (OrderRanges (withOrder b o)) (λ x t. order-after b (withOrder b o) names x x (same-order x) t) (b .orders) (f .orders)) (r, tt);
+      orders =
+          each-append (OrderRanges (withOrder b o)) (b .orders) (o ∷ [])
+          (each-imp (OrderRanges b) (OrderRanges (withOrder b o)) (λ x t. order-after b (withOrder b o) names x x (same-order x) t) (b .orders) (f .orders)) (r, tt);
       offersRise = f .offersRise;
-      ordersRise = rising-append (λ (x : OpenOrder). x .number) (b .orders) o (f .ordersRise) (each-imp (OrderRanges b) (λ (x : OpenOrder). x .number < o .number) (λ x t. let i = t .number in omega arith) (b .orders) (f .orders));
+      ordersRise =
+          rising-append (λ (x : OpenOrder). x .number) (b .orders) o (f .ordersRise)
+          (each-imp (OrderRanges b) (λ (x : OpenOrder). x .number < o .number) (λ x t. let i = t .number in omega arith) (b .orders) (f .orders));
       differ =
-          every-both (λ (x : OpenOffer). every (λ (y : OpenOrder). not (eqb (x .number) (y .number))) (b .orders)) (λ (x : OpenOffer). not (eqb (x .number) (o .number))) (λ (x : OpenOffer). every (λ (y : OpenOrder). not (eqb (x .number) (y .number))) (b .orders ++ (o ∷ [])))
-          (λ x p q. every-append (λ (y : OpenOrder). not (eqb (x .number) (y .number))) (b .orders) (o ∷ []) p (and-true (not (eqb (x .number) (o .number))) true q refl))
+          every-both (λ (x : OpenOffer). every (otherNumber (x .number)) (b .orders)) (λ (x : OpenOffer). otherNumber (x .number) o)
+          (λ (x : OpenOffer). every (otherNumber (x .number)) (b .orders ++ (o ∷ [])))
+          (λ x p q. every-append (otherNumber (x .number)) (b .orders) (o ∷ []) p (and-true (not (eqb (x .number) (o .number))) true q refl))
           (b .offers) (f .differ) (new-order-differs b (o .number) e (f .offers));
       oneWay = two-more oneWay (b .orders) o (f .oneWay) (way .to) (way .from) (way .self);
       apart = λ p. two-more apart (b .orders) o (f .apart p) (cross p .to) (cross p .from) (cross p .self);
@@ -108,9 +121,9 @@ pub same-way : (x y : OpenOrder) → (x .unit ≡ y .unit → x .period ≡ y .p
 same-way x y h = go (ℕ-discrete (x .unit) (y .unit)) (ℕ-discrete (x .period) (y .period))
   where
     go : Dec (x .unit ≡ y .unit) → Dec (x .period ≡ y .period) → oneWay x y ≡ true
-    go (yes u) (yes p) = or-right (not (eqb (x .unit) (y .unit) && eqb (x .period) (y .period))) (eqb (x .direction) (y .direction)) (eq-eqb _ _ (h u p))
-    go (yes u) (no p) = or-left (not (eqb (x .unit) (y .unit) && eqb (x .period) (y .period))) (eqb (x .direction) (y .direction)) (not-fails (eqb (x .unit) (y .unit) && eqb (x .period) (y .period)) (and-right-false (eqb (x .unit) (y .unit)) (eqb (x .period) (y .period)) (ne-eqb _ _ p)))
-    go (no u) d = or-left (not (eqb (x .unit) (y .unit) && eqb (x .period) (y .period))) (eqb (x .direction) (y .direction)) (not-fails (eqb (x .unit) (y .unit) && eqb (x .period) (y .period)) (and-left-false (eqb (x .unit) (y .unit)) (eqb (x .period) (y .period)) (ne-eqb _ _ u)))
+    go (yes u) (yes p) = rw (eq-eqb (x .unit) (y .unit) u, eq-eqb (x .period) (y .period) p, eq-eqb (x .direction) (y .direction) (h u p))
+    go (yes u) (no p) = rw (eq-eqb (x .unit) (y .unit) u, ne-eqb (x .period) (y .period) p)
+    go (no u) d = rw (ne-eqb (x .unit) (y .unit) u)
 
 -- what each unit then has declared
 module _ (b : Book) (v : ℕ) (d : Declaration) where
@@ -127,7 +140,8 @@ module _ (b : Book) (v : ℕ) (d : Declaration) where
         volume = λ p l. omega (arith, offers-more v p (b .offers) o, h p);
       }
 
-  pub moved-order : (o : OpenOrder) → ((p : ℕ) → orderOpens (raises (unitOf b v .kind)) v p o ≤ d .raising p) → ((p : ℕ) → orderOpens (lowers (unitOf b v .kind)) v p o ≤ d .lowering p) → Moved b (withOrder b o) v d
+  pub moved-order : (o : OpenOrder) → ((p : ℕ) → orderOpens (raises (unitOf b v .kind)) v p o ≤ d .raising p)
+      → ((p : ℕ) → orderOpens (lowers (unitOf b v .kind)) v p o ≤ d .lowering p) → Moved b (withOrder b o) v d
   unfolding openRaising openLowering
   moved-order o h g =
       record {

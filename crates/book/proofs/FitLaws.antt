@@ -1,18 +1,17 @@
 -- What "fits" says, and when a unit still fits after a call (specs/Fit.antt).
 use Prim.Native.Nat.{ℕ, _+_, _≤_, _<_}
-use mathlib.Core.Path.{_≡_, refl, sym, ap, _∙_}
-use mathlib.Core.Bool.{Bool, true, false, _&&_, _||_}
-use mathlib.Core.List.{List, [], _∷_}
+use mathlib.Core.Path.{_≡_, refl, ap}
+use mathlib.Core.Bool.{Bool, true, false, _||_}
 use native.Mathlib.Omega.{arith}
 use native.Mathlib.Nat.{le-trans}
 use lib.Dec.{eqb, leb}
-use borrow.Author.Tests.{leb-true, le-leb, eqb-true, eqb-false}
-use Rattle.measures.specs.Lists.{holds, sum, all}
+use borrow.Author.Tests.{leb-true, le-leb, eqb-true}
+use Rattle.measures.specs.Lists.{holds, sum}
 use Rattle.measures.proofs.ListLaws.{and-true, and-left, and-right, or-other, all-true, holds-all, all-at, all-by, sum-mono}
 use Rattle.limits.specs.Units.{periods}
 use Rattle.limits.specs.Limits.{hourOf, hourLimit, termLimit, volumeLimit}
-use Rattle.book.specs.Book.{Figures, Unit, Book, unitOf, figuresOf}
-use Rattle.book.specs.Fit.{Declaration, nothing, openRaising, openLowering, raisingToday, loweringToday, hourFits, hoursFit, termOf, termFits, volumeFits, unitFits}
+use Rattle.book.specs.Book.{Book, unitOf, figuresOf}
+use Rattle.book.specs.Fit.{Declaration, nothing, openRaising, openLowering, raisingToday, loweringToday, hourFits, hoursFit, termFits, volumeFits, unitFits}
 
 -- the figures that the limits bound, with a declaration added
 module _ (b : Book) (u : ℕ) (d : Declaration) (p : ℕ) where

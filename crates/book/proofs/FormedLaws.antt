@@ -1,23 +1,19 @@
 -- When offers and orders stay in their ranges, and a book keeps its form.
-use Prim.Native.Nat.{ℕ, _+_, _≤_, _<_}
-use mathlib.Core.Path.{_≡_, refl, sym, ap, _∙_}
-use mathlib.Core.Bool.{Bool, true, false, cond, not, _&&_, _||_}
-use mathlib.Core.List.{List, [], _∷_, _++_, map}
+use Prim.Native.Nat.{ℕ, _≤_, _<_}
+use mathlib.Core.Path.{_≡_, refl, ap, _∙_}
+use mathlib.Core.Bool.{Bool, true, not}
+use mathlib.Core.List.{List}
 use native.Mathlib.Omega.{arith}
-use lib.ListN.{length, getD, length-append}
-use lib.Dec.{eqb, ltb}
-use borrow.Author.Tests.{ne-eqb}
-use Rattle.measures.specs.Ranges.{mostEnergy}
+use lib.ListN.{length, getD}
 use Rattle.measures.specs.Lists.{every, Each}
 use Rattle.measures.specs.Sharing.{total}
 use Rattle.measures.proofs.RangeLaws.{In}
-use Rattle.measures.proofs.ListLaws.{not-fails}
-use Rattle.limits.specs.Units.{periods, generator}
-use Rattle.matching.specs.Orders.{Order as OpenOrder, leaving, rising, numbers}
-use Rattle.book.specs.Book.{Unit, OpenOffer, Book, rollingPhase, mostUnits, mostOffers, mostOrders, mostNumbers, unitOf}
+use Rattle.limits.specs.Units.{generator}
+use Rattle.matching.specs.Orders.{Order as OpenOrder, leaving, numbers}
+use Rattle.book.specs.Book.{OpenOffer, Book, rollingPhase, mostUnits, mostNumbers, unitOf}
 use Rattle.book.specs.Sound.{oneWay, apart, eachTwo}
-use Rattle.book.proofs.RemainLaws.{each-of, each-holds, each-imp, each-append, every-append, rising-append, Remains, remains-each, remains-every, remains-length, remains-rising}
-use Rattle.book.proofs.SoundLaws.{HeadRanges, UnitRanges, Sides, OfferRanges, OrderRanges, numbersApart, Formed}
+use Rattle.book.proofs.RemainLaws.{Remains, remains-each, remains-every, remains-length, remains-rising}
+use Rattle.book.proofs.SoundLaws.{HeadRanges, UnitRanges, Sides, OfferRanges, OrderRanges, otherNumber, numbersApart, Formed}
 
 -- an offer with other amounts left
 abbrev pub offerLeaving : OpenOffer → ℕ → List ℕ → OpenOffer
@@ -105,15 +101,16 @@ two-remain f same xs ys t e =
     outer x y l h = remains-every LessOrder (f y) (f x) (inner x y l) xs ys t h
 
 -- numbers that differ still do
-pub differ-remain : (fs gs : List OpenOffer) (os ps : List OpenOrder) → Remains LessOffer fs gs → Remains LessOrder os ps → numbersApart gs ps ≡ true → numbersApart fs os ≡ true
+pub differ-remain : (fs gs : List OpenOffer) (os ps : List OpenOrder) → Remains LessOffer fs gs → Remains LessOrder os ps → numbersApart gs ps ≡ true
+    → numbersApart fs os ≡ true
 differ-remain fs gs os ps s t e =
-    remains-every LessOffer (λ g. every (λ (o : OpenOrder). not (eqb (g .number) (o .number))) ps) (λ f. every (λ (o : OpenOrder). not (eqb (f .number) (o .number))) os) outer fs gs s e
+    remains-every LessOffer (λ g. every (otherNumber (g .number)) ps) (λ f. every (otherNumber (f .number)) os) outer fs gs s e
   where
-    inner : (f g : OpenOffer) → LessOffer f g → (o p : OpenOrder) → LessOrder o p → not (eqb (g .number) (p .number)) ≡ true → not (eqb (f .number) (o .number)) ≡ true
+    inner : (f g : OpenOffer) → LessOffer f g → (o p : OpenOrder) → LessOrder o p → otherNumber (g .number) p ≡ true → otherNumber (f .number) o ≡ true
     inner f g l o p k h = rw (l .is, k .is) h
 
-    outer : (f g : OpenOffer) → LessOffer f g → every (λ (o : OpenOrder). not (eqb (g .number) (o .number))) ps ≡ true → every (λ (o : OpenOrder). not (eqb (f .number) (o .number))) os ≡ true
-    outer f g l h = remains-every LessOrder (λ (o : OpenOrder). not (eqb (g .number) (o .number))) (λ (o : OpenOrder). not (eqb (f .number) (o .number))) (inner f g l) os ps t h
+    outer : (f g : OpenOffer) → LessOffer f g → every (otherNumber (g .number)) ps ≡ true → every (otherNumber (f .number)) os ≡ true
+    outer f g l h = remains-every LessOrder (otherNumber (g .number)) (otherNumber (f .number)) (inner f g l) os ps t h
 
 -- a book whose offers and orders are what remains of those of b
 pub record Remaining (b b′ : Book) : Type 0 where

@@ -1,24 +1,22 @@
 -- Opening, enrol, withdraw, cancel and close leave a sound book.
-use Prim.Native.Nat.{ℕ, zero, suc, _+_, _-_, _≤_, _<_}
-use mathlib.Core.Path.{_≡_, refl, sym, ap, _∙_}
-use mathlib.Core.Bool.{Bool, true, false, cond, not, _&&_}
-use mathlib.Core.List.{List, [], _∷_, _++_, map}
+use Prim.Native.Nat.{ℕ, _+_, _-_, _≤_, _<_}
+use mathlib.Core.Path.{_≡_, refl, ap, _∙_}
+use mathlib.Core.Bool.{true, not, _&&_}
+use mathlib.Core.List.{List, [], _∷_, map}
 use native.Mathlib.Omega.{arith}
 use native.Mathlib.Decide.{decLe}
-use lib.ListN.{length, getD, replicate, length-append, length-replicate, getD-replicate, List·getD-append, length-map, List·getD-map}
+use lib.ListN.{length, getD, length-append, length-replicate, getD-replicate, List·getD-append, length-map, List·getD-map}
 use lib.Seq.{getD-at}
-use lib.Dec.{eqb, leb, ltb}
+use lib.Dec.{eqb, leb}
 use borrow.Author.Tests.{leb-true, leb-false, not-false}
 use Rattle.measures.specs.Ranges.{mostPrice, mostEnergy}
-use Rattle.measures.specs.Lists.{Each, keep, sum}
+use Rattle.measures.specs.Lists.{Each}
 use Rattle.measures.proofs.RangeLaws.{In, within}
 use Rattle.measures.proofs.ListLaws.{and-left, and-right}
-use Rattle.limits.specs.Units.{mostDays, mostCapacity, daysIn, periods, kindIn, capacityIn, assetIn}
-use Rattle.limits.specs.Limits.{volumeLimit}
+use Rattle.limits.specs.Units.{mostDays, mostCapacity, daysIn, periods, capacityIn, assetIn}
 use Rattle.matching.specs.Orders.{Order as OpenOrder, rising}
 use Rattle.book.specs.Book.{Figures, noFigures, Unit, noUnit, OpenOffer, Book, mostUnits, unitOf, figuresOf, withOffers, withOrders, noTrades}
 use Rattle.book.specs.Fit.{openOrders, openOffers, openRaising, openLowering, nothing}
-use Rattle.book.specs.Trades.{raises, lowers}
 use Rattle.book.specs.Sound.{pricesIn, apart, eachTwo, sound}
 use Rattle.book.specs.Refusals.{firstOf, accepted, unsound, badOpening, badKind, badSize, unitsFull}
 use Rattle.book.specs.Opening.{fresh, tooShort, openingRefusal}
@@ -27,8 +25,8 @@ use Rattle.book.specs.Withdraw.{withdrawRefusal, withdrawal}
 use Rattle.book.specs.Cancel.{cancelRefusal, cancellation}
 use Rattle.book.specs.Close.{dayOver, unitDayOver, dayClosed, closing}
 use Rattle.book.proofs.RemainLaws.{each-by, each-append, each-imp, Remains, remains-all, remains-keep}
-use Rattle.book.proofs.FitLaws.{raisedTo, volumeTo, Fits, Moved, fits-after}
-use Rattle.book.proofs.SoundLaws.{HeadRanges, UnitRanges, OfferRanges, OrderRanges, Formed, Sound, sound-facts, sound-holds}
+use Rattle.book.proofs.FitLaws.{Fits, Moved, fits-after}
+use Rattle.book.proofs.SoundLaws.{UnitRanges, OfferRanges, OrderRanges, Formed, Sound, sound-facts, sound-holds}
 use Rattle.book.proofs.RefusalLaws.{NoneApplies, none-applies, decided-sound}
 use Rattle.book.proofs.FormedLaws.{LessOffer, LessOrder, same-offer, same-order, Names, two-remain, Remaining, formed-remaining}
 use Rattle.book.proofs.OpenLaws.{moved-remaining, idle-fits}
@@ -65,7 +63,8 @@ fresh-sound words days floor ceiling e =
     })
 
 -- declarations that go or lessen leave a sound book
-pub fewer-sound : (b : Book) (fs : List OpenOffer) (os : List OpenOrder) → Remains LessOffer fs (b .offers) → Remains LessOrder os (b .orders) → sound b ≡ true → sound (withOrders (withOffers b fs) os) ≡ true
+pub fewer-sound : (b : Book) (fs : List OpenOffer) (os : List OpenOrder) → Remains LessOffer fs (b .offers) → Remains LessOrder os (b .orders) → sound b ≡ true
+    → sound (withOrders (withOffers b fs) os) ≡ true
 fewer-sound b fs os p q e =
     sound-holds after (record {
       formed = formed-remaining b after left (s .formed);
@@ -179,8 +178,11 @@ module _ (b : Book) (kind capacity asset : ℕ) where
                 given = f .head .given;
                 most = omega (arith, one-more);
                 units =
-                    each-append (UnitRanges (b .days)) (b .units) (newcomer ∷ []) (f .units)
-                    (newcomer-ranges (within 1 4 kind (not-false _ (passed .1 .0))) (within 1 mostCapacity capacity (and-left (capacityIn capacity) (assetIn asset) sizes)) (leb-true _ _ (and-right (capacityIn capacity) (assetIn asset) sizes)), tt);
+                    each-append (UnitRanges (b .days)) (b .units) (newcomer ∷ []) (f .units) (
+                      newcomer-ranges (within 1 4 kind (not-false _ (passed .1 .0))) (within 1 mostCapacity capacity (and-left (capacityIn capacity) (assetIn asset) sizes))
+                          (leb-true _ _ (and-right (capacityIn capacity) (assetIn asset) sizes)),
+                      tt,
+                    );
                 offers = remains-all LessOffer same-offer (b .offers);
                 orders = remains-all LessOrder same-order (b .orders);
                 apart = f .apart;

@@ -13,6 +13,7 @@ pub mod OrderingLaws
 pub mod TradeLaws
 pub mod TakeLaws
 pub mod TakingLaws
+pub mod CallLaws
 pub mod MapLaws
 pub mod AgreeLaws
 pub mod StandingLaws

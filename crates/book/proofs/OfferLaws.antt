@@ -1,11 +1,11 @@
 -- Offer leaves a sound book.
-use Prim.Native.Nat.{ℕ, _+_, _≤_, _<_}
-use mathlib.Core.Path.{_≡_, refl, sym, ap, _∙_}
-use mathlib.Core.Bool.{Bool, true, false, cond, not, _&&_}
+use Prim.Native.Nat.{ℕ, _<_}
+use mathlib.Core.Path.{_≡_, refl}
+use mathlib.Core.Bool.{true, not, _&&_}
 use mathlib.Core.List.{List, [], _∷_}
 use native.Mathlib.Omega.{arith}
 use native.Mathlib.Decide.{ℕ-discrete}
-use lib.ListN.{length, getD}
+use lib.ListN.{length}
 use lib.Dec.{eqb}
 use borrow.Author.Tests.{leb-false, eqb-true, eq-eqb, ne-eqb, not-false}
 use Rattle.measures.specs.Ranges.{mostEnergy}
@@ -17,11 +17,10 @@ use Rattle.book.specs.Book.{OpenOffer, Book, mostOffers, mostNumbers, kn
 use Rattle.book.specs.Fit.{Declaration, nothing}
 use Rattle.book.specs.Sound.{energyIn, bilateralSides, sound}
 use Rattle.book.specs.Refusals.{accepted, unsound, unknownUnit, unknownPartner, badPrice, badAmounts, wrongPartner, offersFull, numbersUsed, hourMisfit, termMisfit, volumeMisfit}
-use Rattle.book.specs.Offer.{raisingAmounts, offerRefusal, offered, offering}
+use Rattle.book.specs.Offer.{raisingAmounts, offerRefusal, offering}
 use Rattle.book.proofs.FitLaws.{Fits, fits-with, fits-after}
 use Rattle.book.proofs.SoundLaws.{Sides, OfferRanges, Sound, sound-facts, sound-holds}
 use Rattle.book.proofs.RefusalLaws.{NoneApplies, none-applies, decided-sound, second-passed}
-use Rattle.book.proofs.OpenLaws.{offerOpens}
 use Rattle.book.proofs.DeclareLaws.{withOffer, formed-offer, moved-offer}
 
 module _ (b : Book) (unit partner price : ℕ) (amounts : List ℕ) where
@@ -55,7 +54,12 @@ module _ (b : Book) (unit partner price : ℕ) (amounts : List ℕ) where
             (not-false _ (t .1 .1 .1 .1 .1 .1 .1 .1 .1 .1 .0));
       }
     where
-      t : NoneApplies (unsound b ∷ unknownUnit b unit ∷ unknownPartner b partner ∷ badPrice b price ∷ badAmounts b amounts ∷ wrongPartner b unit partner ∷ offersFull b ∷ numbersUsed b ∷ hourMisfit b unit (raisingAmounts amounts) ∷ termMisfit b unit (raisingAmounts amounts) ∷ volumeMisfit b unit (raisingAmounts amounts) ∷ [])
+      d : Declaration
+      d = raisingAmounts amounts
+
+      t : NoneApplies
+          (unsound b ∷ unknownUnit b unit ∷ unknownPartner b partner ∷ badPrice b price ∷ badAmounts b amounts ∷ wrongPartner b unit partner
+          ∷ offersFull b ∷ numbersUsed b ∷ hourMisfit b unit d ∷ termMisfit b unit d ∷ volumeMisfit b unit d ∷ [])
       t = none-applies _ (omega arith) z
 
       named : In 1 (length (b .units)) unit
@@ -90,5 +94,7 @@ module _ (b : Book) (unit partner price : ℕ) (amounts : List ℕ) where
           }
         where
           fit : (v : ℕ) → In 1 (length (b .units)) v → Dec (unit ≡ v) → Fits (withOffer b newOffer) v nothing
-          fit v i (yes q) = fits-after b (withOffer b newOffer) v (raisingAmounts amounts) (moved-offer b v (raisingAmounts amounts) newOffer (λ p. rw (eq-eqb unit v q) (omega arith))) (rw q at (a .fits))
+          fit v i (yes q) =
+              fits-after b (withOffer b newOffer) v (raisingAmounts amounts)
+              (moved-offer b v (raisingAmounts amounts) newOffer (λ p. rw (eq-eqb unit v q) (omega arith))) (rw q at (a .fits))
           fit v i (no q) = fits-after b (withOffer b newOffer) v nothing (moved-offer b v nothing newOffer (λ p. rw (ne-eqb unit v q) (omega arith))) (s .fits v i)

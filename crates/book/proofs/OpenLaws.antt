@@ -1,13 +1,13 @@
 -- What stands open of a unit in a period, when declarations go, lessen or come (specs/Fit.antt).
 use Prim.Native.Nat.{ℕ, zero, suc, _+_, _≤_, _<_}
-use mathlib.Core.Path.{_≡_, refl, sym, ap, _∙_}
+use mathlib.Core.Path.{_≡_, refl, ap}
 use mathlib.Core.Bool.{Bool, true, false, cond, _&&_}
 use mathlib.Core.List.{List, [], _∷_, _++_}
 use native.Mathlib.Omega.{arith}
-use lib.ListN.{length, getD}
+use lib.ListN.{getD}
 use lib.Dec.{eqb}
 use borrow.Author.Tests.{ne-eqb}
-use Rattle.measures.specs.Lists.{sumOf, Each, sum}
+use Rattle.measures.specs.Lists.{Each, sum}
 use Rattle.measures.proofs.ListLaws.{sumOf-append}
 use Rattle.limits.specs.Units.{periods}
 use Rattle.matching.specs.Orders.{Order as OpenOrder}
@@ -70,7 +70,8 @@ module _ (b b′ : Book) (u p : ℕ) (kind : unitOf b′ u .kind ≡ unitOf b u 
   lowering-less t = rw kind (orders-less u p (lowers (unitOf b u .kind)) (b′ .orders) (b .orders) t)
 
 -- a unit that stayed as it was, with what remains of the declarations
-pub moved-remaining : (b b′ : Book) (u : ℕ) → b′ .days ≡ b .days → unitOf b′ u ≡ unitOf b u → Remains LessOffer (b′ .offers) (b .offers) → Remains LessOrder (b′ .orders) (b .orders) → Moved b b′ u nothing
+pub moved-remaining : (b b′ : Book) (u : ℕ) → b′ .days ≡ b .days → unitOf b′ u ≡ unitOf b u → Remains LessOffer (b′ .offers) (b .offers)
+    → Remains LessOrder (b′ .orders) (b .orders) → Moved b b′ u nothing
 moved-remaining b b′ u days e s t =
     record {
       days = days;
@@ -97,7 +98,8 @@ sum-zero (suc n) f h =
     omega arith
 
 -- a unit with nothing traded and nothing open fits
-pub idle-fits : (b : Book) (u : ℕ) → ((p : ℕ) → p < periods (b .days) → figuresOf b u p ≡ noFigures) → Each (λ (o : OpenOffer). o .unit ≡ u → ⊥) (b .offers) → Each (λ (o : OpenOrder). o .unit ≡ u → ⊥) (b .orders) → Fits b u nothing
+pub idle-fits : (b : Book) (u : ℕ) → ((p : ℕ) → p < periods (b .days) → figuresOf b u p ≡ noFigures) → Each (λ (o : OpenOffer). o .unit ≡ u → ⊥) (b .offers)
+    → Each (λ (o : OpenOrder). o .unit ≡ u → ⊥) (b .orders) → Fits b u nothing
 unfolding openRaising openLowering
 idle-fits b u none s t =
     record {

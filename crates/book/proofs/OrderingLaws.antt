@@ -1,6 +1,6 @@
 -- Order in the call phase leaves a sound book; what an accepted order passed, in either phase.
-use Prim.Native.Nat.{ℕ, suc, _+_, _≤_, _<_}
-use mathlib.Core.Path.{_≡_, refl, sym, ap, _∙_}
+use Prim.Native.Nat.{ℕ, _≤_, _<_}
+use mathlib.Core.Path.{_≡_, refl, sym}
 use mathlib.Core.Bool.{Bool, true, false, cond, not, _&&_, _||_}
 use mathlib.Core.List.{List, [], _∷_}
 use native.Mathlib.Omega.{arith}
@@ -13,36 +13,44 @@ use Rattle.measures.specs.Lists.{Each, keep}
 use Rattle.measures.proofs.RangeLaws.{In, within}
 use Rattle.measures.proofs.ListLaws.{and-true, not-both}
 use Rattle.matching.specs.Orders.{Order as OpenOrder, sells}
-use Rattle.book.specs.Book.{Book, callPhase, rollingPhase, mostOrders, mostNumbers, unitOf, figuresOf, nextNumber}
+use Rattle.book.specs.Book.{Book, callPhase, mostOrders, mostNumbers, unitOf, figuresOf}
 use Rattle.book.specs.Trades.{raises, lowers}
 use Rattle.book.specs.Fit.{Declaration, nothing}
 use Rattle.book.specs.Sound.{oneWay, sound}
 use Rattle.book.specs.Refusals.{accepted, ordersIn, unsound, unknownUnit, fewRows, badPrice, badQuantity, badPeriod, badDirection, otherDirection, twoOpen, ordersFull, numbersUsed, hourMisfit, termMisfit, volumeMisfit}
-use Rattle.book.specs.Order.{orderDeclares, orderRefusal, newOrder, orderedInCall, orderedInRolling, ordering}
+use Rattle.book.specs.Order.{orderDeclares, orderRefusal, newOrder, ordering}
 use Rattle.book.proofs.RemainLaws.{each-holds}
 use Rattle.book.proofs.FitLaws.{Fits, fits-with, fits-after}
 use Rattle.book.proofs.SoundLaws.{OrderRanges, Sound, sound-facts, sound-holds}
 use Rattle.book.proofs.RefusalLaws.{NoneApplies, none-applies, decided-sound}
-use Rattle.book.proofs.OpenLaws.{orderOpens}
 use Rattle.book.proofs.DeclareLaws.{withOrder, Beside, same-way, formed-order, moved-order}
+
+-- whether an order goes another way, and whether it is of a unit and a period
+abbrev pub otherWay : ℕ → OpenOrder → Bool
+otherWay d o = not (eqb (o .direction) d)
+
+abbrev pub ofUnit : ℕ → ℕ → OpenOrder → Bool
+ofUnit u p o = eqb (o .unit) u && eqb (o .period) p
 
 -- an order of unit u in period p goes the way d
 abbrev pub Follows : ℕ → ℕ → ℕ → OpenOrder → Type 0
 Follows u d p x = x .unit ≡ u → x .period ≡ p → x .direction ≡ d
 
 -- where no order of the unit and period goes another way, each goes this one
-one-direction : (u d p : ℕ) (os : List OpenOrder) → length (keep (λ (o : OpenOrder). not (eqb (o .direction) d)) (keep (λ (o : OpenOrder). eqb (o .unit) u && eqb (o .period) p) os)) ≡ 0 → Each (Follows u d p) os
+one-direction : (u d p : ℕ) (os : List OpenOrder) → length (keep (otherWay d) (keep (ofUnit u p) os)) ≡ 0 → Each (Follows u d p) os
 one-direction u d p [] e = tt
 one-direction u d p (x ∷ os) e = go (eqb (x .unit) u && eqb (x .period) p) refl e (λ h. one-direction u d p os h)
   where
     mine : List OpenOrder
-    mine = keep (λ (o : OpenOrder). eqb (o .unit) u && eqb (o .period) p) os
+    mine = keep (ofUnit u p) os
 
-    same : (t : Bool) → not (eqb (x .direction) d) ≡ t → length (cond t (x ∷ keep (λ (o : OpenOrder). not (eqb (o .direction) d)) mine) (keep (λ (o : OpenOrder). not (eqb (o .direction) d)) mine)) ≡ 0 → (length (keep (λ (o : OpenOrder). not (eqb (o .direction) d)) mine) ≡ 0 → Each (Follows u d p) os) → Each (Follows u d p) (x ∷ os)
+    same : (t : Bool) → otherWay d x ≡ t → length (cond t (x ∷ keep (otherWay d) mine) (keep (otherWay d) mine)) ≡ 0
+        → (length (keep (otherWay d) mine) ≡ 0 → Each (Follows u d p) os) → Each (Follows u d p) (x ∷ os)
     same true q h ih = absurd (omega arith)
     same false q h ih = (λ a c. eqb-true _ _ (not-false _ q), ih h)
 
-    go : (t : Bool) → (eqb (x .unit) u && eqb (x .period) p) ≡ t → length (keep (λ (o : OpenOrder). not (eqb (o .direction) d)) (cond t (x ∷ mine) mine)) ≡ 0 → (length (keep (λ (o : OpenOrder). not (eqb (o .direction) d)) mine) ≡ 0 → Each (Follows u d p) os) → Each (Follows u d p) (x ∷ os)
+    go : (t : Bool) → ofUnit u p x ≡ t → length (keep (otherWay d) (cond t (x ∷ mine) mine)) ≡ 0
+        → (length (keep (otherWay d) mine) ≡ 0 → Each (Follows u d p) os) → Each (Follows u d p) (x ∷ os)
     go true q h ih = same (not (eqb (x .direction) d)) refl h ih
     go false q h ih = (λ a c. absurd (not-both (eqb (x .unit) u && eqb (x .period) p) (and-true (eqb (x .unit) u) (eqb (x .period) p) (eq-eqb _ _ a) (eq-eqb _ _ c)) q), ih h)
 
@@ -73,7 +81,7 @@ module _ (b : Book) (u d p price q : ℕ) where
           energy = within 1 mostEnergy q (not-false _ (t .1 .1 .1 .1 .0));
         };
         follows =
-            let n = length (keep (λ (o : OpenOrder). not (eqb (o .direction) d)) (ordersIn b u p)) in
+            let n = length (keep (otherWay d) (ordersIn b u p)) in
             let h : n ≤ 0 = ltb-false 0 n (day .0) in
             one-direction u d p (b .orders) (omega arith);
         way = day .1;
@@ -84,13 +92,18 @@ module _ (b : Book) (u d p price q : ℕ) where
             (not-false _ (t .1 .1 .1 .1 .1 .1 .1 .1 .1 .1 .1 .1 .1 .0));
       }
     where
-      t : NoneApplies (unsound b ∷ unknownUnit b u ∷ fewRows lent ∷ badPrice b price ∷ badQuantity q ∷ badPeriod b p ∷ badDirection d ∷ otherDirection b u d p ∷ twoOpen b u p ∷ ordersFull b ∷ numbersUsed b ∷ hourMisfit b u (orderDeclares b u d p q) ∷ termMisfit b u (orderDeclares b u d p q) ∷ volumeMisfit b u (orderDeclares b u d p q) ∷ [])
+      e : Declaration
+      e = orderDeclares b u d p q
+
+      t : NoneApplies
+          (unsound b ∷ unknownUnit b u ∷ fewRows lent ∷ badPrice b price ∷ badQuantity q ∷ badPeriod b p ∷ badDirection d ∷ otherDirection b u d p
+          ∷ twoOpen b u p ∷ ordersFull b ∷ numbersUsed b ∷ hourMisfit b u e ∷ termMisfit b u e ∷ volumeMisfit b u e ∷ [])
       t = none-applies _ (omega arith) z
 
       named : In 1 (length (b .units)) u
       named = within 1 (length (b .units)) u (not-false _ (t .1 .0))
 
-      day : (ltb 0 (length (keep (λ (o : OpenOrder). not (eqb (o .direction) d)) (ordersIn b u p))) ≡ false) × (cond (sells d) (eqb (figuresOf b u p .way) 2) (eqb (figuresOf b u p .way) 1) ≡ false)
+      day : (ltb 0 (length (keep (otherWay d) (ordersIn b u p))) ≡ false) × (cond (sells d) (eqb (figuresOf b u p .way) 2) (eqb (figuresOf b u p .way) 1) ≡ false)
       day = or-neither _ _ (t .1 .1 .1 .1 .1 .1 .1 .0)
 
 -- what an order has open is what it declares
@@ -139,6 +152,8 @@ module _ (b : Book) (u d p price q : ℕ) where
       more : OrderPassed b u d p price q → Sound (withOrder b (newOrder b u d p price q))
       more a =
           record {
-            formed = formed-order b (newOrder b u d p price q) (s .formed) (a .ranges) refl (a .room) (a .left) (one-way-beside (newOrder b u d p price q) (b .orders) (a .follows)) (λ r. absurd (omega arith));
+            formed =
+                formed-order b (newOrder b u d p price q) (s .formed) (a .ranges) refl (a .room) (a .left)
+                (one-way-beside (newOrder b u d p price q) (b .orders) (a .follows)) (λ r. absurd (omega arith));
             fits = order-fits s a;
           }

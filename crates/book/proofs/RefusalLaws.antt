@@ -1,6 +1,6 @@
 -- What no refusal says, and what a refused call leaves (specs/Refusals.antt).
 use Prim.Native.Nat.{ℕ, _<_}
-use mathlib.Core.Path.{_≡_, refl, sym, ap, _∙_}
+use mathlib.Core.Path.{_≡_, refl}
 use mathlib.Core.Bool.{Bool, true, false, cond, not, _&&_}
 use mathlib.Core.List.{List, [], _∷_}
 use native.Mathlib.Omega.{arith}
@@ -9,7 +9,7 @@ use borrow.Author.Tests.{eqb-true}
 use Rattle.measures.proofs.ListLaws.{both-ways}
 use Rattle.book.specs.Book.{Book}
 use Rattle.book.specs.Sound.{sound}
-use Rattle.book.specs.Refusals.{Outcome, Check, firstOf, decided}
+use Rattle.book.specs.Refusals.{Outcome, Check, firstOf, decided, unsound}
 
 -- each check's number is positive
 abbrev pub Numbered : List Check → Type 0
@@ -52,3 +52,12 @@ pub second-passed : (a c : Bool) → (not a && not c) ≡ false → a ≡ false 
 second-passed true c e f = both-ways f
 second-passed false true e f = refl
 second-passed false false e f = both-ways e
+
+-- each chain begins with the book: what is not refused was on a sound book
+pub first-passed : (b : Book) (cs : List Check) → firstOf (unsound b ∷ cs) ≡ 0 → sound b ≡ true
+unfolding firstOf
+first-passed b cs z = go (sound b) refl z
+  where
+    go : (t : Bool) → sound b ≡ t → cond (not t) 1 (firstOf cs) ≡ 0 → sound b ≡ true
+    go true e h = e
+    go false e h = absurd (omega arith)

@@ -1,13 +1,13 @@
 -- What remains of a list: facts of each element, sums, tests and rising numbers.
-use Prim.Native.Nat.{ℕ, zero, suc, _+_, _≤_, _<_}
-use mathlib.Core.Path.{_≡_, refl, sym, ap, _∙_}
-use mathlib.Core.Bool.{Bool, true, false, cond, _&&_}
+use Prim.Native.Nat.{ℕ, zero, suc, _≤_, _<_}
+use mathlib.Core.Path.{_≡_, refl}
+use mathlib.Core.Bool.{Bool, true, false, cond}
 use mathlib.Core.List.{List, [], _∷_, _++_, map}
 use native.Mathlib.Nat.{not-suc-le-zero}
 use native.Mathlib.Omega.{arith}
 use lib.ListN.{length, getD}
 use lib.Dec.{ltb}
-use borrow.Author.Tests.{lt-ltb, ltb-true}
+use borrow.Author.Tests.{lt-ltb}
 use Rattle.measures.specs.Lists.{sumOf, every, Each, keep}
 use Rattle.measures.proofs.ListLaws.{and-true, and-left, and-right}
 use Rattle.matching.specs.Orders.{rising}
@@ -45,7 +45,8 @@ module _ {A : Type 0} where
       and-true (f x) (every f (xs ++ ys)) (and-left (f x) (every f xs) e) (every-append f xs ys (and-right (f x) (every f xs) e) h)
 
 -- two tests of each element that give a third
-pub every-both : {A : Type 0} (f g h : A → Bool) → ((x : A) → f x ≡ true → g x ≡ true → h x ≡ true) → (l : List A) → every f l ≡ true → every g l ≡ true → every h l ≡ true
+pub every-both : {A : Type 0} (f g h : A → Bool) → ((x : A) → f x ≡ true → g x ≡ true → h x ≡ true) → (l : List A) → every f l ≡ true → every g l ≡ true
+    → every h l ≡ true
 every-both f g h k [] p q = refl
 every-both f g h k (x ∷ l) p q =
     and-true (h x) (every h l) (k x (and-left (f x) (every f l) p) (and-left (g x) (every g l) q))
@@ -110,7 +111,8 @@ module _ {A : Type 0} (R : A → A → Type 0) where
   remains-length (kept r t) = let s = remains-length t in omega arith
 
   -- with their numbers kept
-  pub remains-above : (f : A → ℕ) → ((x y : A) → R x y → f x ≡ f y) → (n : ℕ) {xs ys : List A} → Remains R xs ys → every (ltb n) (map f ys) ≡ true → every (ltb n) (map f xs) ≡ true
+  pub remains-above : (f : A → ℕ) → ((x y : A) → R x y → f x ≡ f y) → (n : ℕ) {xs ys : List A} → Remains R xs ys → every (ltb n) (map f ys) ≡ true
+      → every (ltb n) (map f xs) ≡ true
   remains-above f h n ended e = refl
   remains-above f h n (gone {y = y} {ys = ys} t) e = remains-above f h n t (and-right (ltb n (f y)) (every (ltb n) (map f ys)) e)
   remains-above f h n (kept {x = x} {y = y} {xs = xs} {ys = ys} r t) e =

@@ -2,14 +2,14 @@
 use Prim.Native.Nat.{ℕ, _+_, _-_, _≤_, _<_}
 use mathlib.Core.Path.{_≡_, ap}
 use mathlib.Core.Bool.{Bool, true, false, not, _&&_, _||_}
-use mathlib.Core.List.{List, [], _∷_, map}
+use mathlib.Core.List.{List, map}
 use native.Mathlib.Omega.{arith}
 use native.Mathlib.Decide.{ℕ-discrete}
 use lib.ListN.{length}
-use lib.Dec.{eqb, leb, ltb}
+use lib.Dec.{eqb, leb}
 use borrow.Author.Tests.{leb-true, le-leb, eqb-true, eq-eqb, ne-eqb, ltb-true, lt-ltb}
-use Rattle.measures.specs.Ranges.{between, mostEnergy, mostPrice}
-use Rattle.measures.specs.Lists.{holds, every, Each, all}
+use Rattle.measures.specs.Ranges.{mostEnergy, mostPrice}
+use Rattle.measures.specs.Lists.{every, Each, all}
 use Rattle.measures.specs.Sharing.{total}
 use Rattle.measures.proofs.RangeLaws.{In, inside, within}
 use Rattle.measures.proofs.ListLaws.{and-true, and-left, and-right, or-left, or-right, or-other, not-holds, not-fails, all-true, holds-all, all-at, all-by}
@@ -214,9 +214,12 @@ module _ (b : Book) (o : OpenOrder) where
         ),
       )
 
--- whether no offer has the number of an order
+-- whether an order has another number, and whether no offer has the number of an order
+abbrev pub otherNumber : ℕ → OpenOrder → Bool
+otherNumber n o = not (eqb n (o .number))
+
 abbrev pub numbersApart : List OpenOffer → List OpenOrder → Bool
-numbersApart fs os = every (λ (f : OpenOffer). every (λ (o : OpenOrder). not (eqb (f .number) (o .number))) os) fs
+numbersApart fs os = every (λ (f : OpenOffer). every (otherNumber (f .number)) os) fs
 
 -- all that a sound book is, but for the limits
 pub record Formed (b : Book) : Type 0 where

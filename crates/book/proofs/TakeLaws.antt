@@ -9,7 +9,7 @@ use native.Mathlib.Decide.{ℕ-discrete}
 use lib.ListN.{length, getD}
 use lib.Dec.{eqb}
 use borrow.Author.Tests.{eq-eqb, ne-eqb, eqb-true, eqb-false}
-use Rattle.measures.specs.Lists.{sumOf, Each, keep}
+use Rattle.measures.specs.Lists.{Each, keep}
 use Rattle.measures.specs.Sharing.{total}
 use Rattle.measures.proofs.ListLaws.{both-ways, and-right-false}
 use Rattle.measures.proofs.SharingLaws.{Within}
@@ -20,8 +20,11 @@ use Rattle.book.specs.Fit.{openOffers}
 use Rattle.book.specs.Take.{takeRowsFrom, takeRows, wayOf, lessEach, offerLess, offersLess}
 use Rattle.book.proofs.RemainLaws.{Remains, gone, kept, ended, remains-all}
 use Rattle.book.proofs.FormedLaws.{LessOffer, same-offer}
-use Rattle.book.proofs.OpenLaws.{offerOpens}
-use Rattle.book.proofs.TradeLaws.{rowTrades, tradedBy, sold, bought, rowsRaise, rowsLower, Named}
+use Rattle.book.proofs.TradeLaws.{tradedBy, rowsRaise, rowsLower, Named}
+
+-- the row of a part
+abbrev pub takeRow : ℕ → ℕ → ℕ → ℕ → ℕ → ℕ → Row
+takeRow way s t price k q = record { way = way; period = k; seller = s; buyer = t; quantity = q; price = price }
 
 -- each row of a take names its two units
 pub take-named : (k way s t price : ℕ) (ps : List ℕ) → 1 ≤ s → 1 ≤ t → Each Named (takeRowsFrom k way s t price ps)
@@ -29,7 +32,8 @@ unfolding takeRowsFrom
 take-named k way s t price [] hs ht = tt
 take-named k way s t price (q ∷ ps) hs ht = go (eqb q 0) (take-named (suc k) way s t price ps hs ht)
   where
-    go : (z : Bool) → Each Named (takeRowsFrom (suc k) way s t price ps) → Each Named (cond z (takeRowsFrom (suc k) way s t price ps) (record { way = way; period = k; seller = s; buyer = t; quantity = q; price = price } ∷ takeRowsFrom (suc k) way s t price ps))
+    go : (z : Bool) → Each Named (takeRowsFrom (suc k) way s t price ps)
+        → Each Named (cond z (takeRowsFrom (suc k) way s t price ps) (takeRow way s t price k q ∷ takeRowsFrom (suc k) way s t price ps))
     go true h = h
     go false h = ((hs, ht), h)
 
@@ -46,12 +50,13 @@ cond-add true x y z e = e
 cond-add false x y z e = omega arith
 
 -- what a party of the rows traded in a period is that period's part
-module _ (way s t price : ℕ) (who : Row → ℕ) (v : ℕ) (is : (k q : ℕ) → who (record { way = way; period = k; seller = s; buyer = t; quantity = q; price = price }) ≡ v) (u : ℕ) where
-  one-part : (p k q : ℕ) (rest : List Row) → tradedBy who u p (cond (eqb q 0) rest (record { way = way; period = k; seller = s; buyer = t; quantity = q; price = price } ∷ rest)) ≡ cond (eqb v u && eqb k p) q 0 + tradedBy who u p rest
+module _ (way s t price : ℕ) (who : Row → ℕ) (v : ℕ) (is : (k q : ℕ) → who (takeRow way s t price k q) ≡ v) (u : ℕ) where
+  one-part : (p k q : ℕ) (rest : List Row)
+      → tradedBy who u p (cond (eqb q 0) rest (takeRow way s t price k q ∷ rest)) ≡ cond (eqb v u && eqb k p) q 0 + tradedBy who u p rest
   unfolding tradedBy
   one-part p k q rest = go (ℕ-discrete q 0)
     where
-      go : Dec (q ≡ 0) → tradedBy who u p (cond (eqb q 0) rest (record { way = way; period = k; seller = s; buyer = t; quantity = q; price = price } ∷ rest)) ≡ cond (eqb v u && eqb k p) q 0 + tradedBy who u p rest
+      go : Dec (q ≡ 0) → tradedBy who u p (cond (eqb q 0) rest (takeRow way s t price k q ∷ rest)) ≡ cond (eqb v u && eqb k p) q 0 + tradedBy who u p rest
       go (yes e) = rw e (omega (arith, no-choice (eqb v u && eqb k p)))
       go (no n) = rw (ne-eqb q 0 n, is k q)
 
@@ -131,13 +136,15 @@ module _ (n : ℕ) (ps : List ℕ) where
   offers-remain [] = ended
   offers-remain (o ∷ os) = go (eqb (o .number) n) (eqb (total (lessEach (o .amounts) ps)) 0) refl (offers-remain os)
     where
-      go : (t z : Bool) → eqb (total (lessEach (o .amounts) ps)) 0 ≡ z → Remains LessOffer (offersLess n ps os) os → Remains LessOffer (cond t (cond z os (offerLess o ps ∷ os)) (o ∷ offersLess n ps os)) (o ∷ os)
+      go : (t z : Bool) → eqb (total (lessEach (o .amounts) ps)) 0 ≡ z → Remains LessOffer (offersLess n ps os) os
+          → Remains LessOffer (cond t (cond z os (offerLess o ps ∷ os)) (o ∷ offersLess n ps os)) (o ∷ os)
       go true true e h = gone (remains-all LessOffer same-offer os)
       go true false e h = kept (less-offer o e) (remains-all LessOffer same-offer os)
       go false z e h = kept (same-offer o) h
 
   -- what stands open falls by the parts, of the offer's unit alone
-  pub offers-fall : (os : List OpenOffer) → 0 < length (offersNumbered n os) → Within ps (offerNumbered n os .amounts) → (u p : ℕ) → openOffers u p (offersLess n ps os) + cond (eqb (offerNumbered n os .unit) u) (getD ps p 0) 0 ≡ openOffers u p os
+  pub offers-fall : (os : List OpenOffer) → 0 < length (offersNumbered n os) → Within ps (offerNumbered n os .amounts) → (u p : ℕ)
+      → openOffers u p (offersLess n ps os) + cond (eqb (offerNumbered n os .unit) u) (getD ps p 0) 0 ≡ openOffers u p os
   unfolding offersLess openOffers
   offers-fall [] l w u p = absurd (not-suc-le-zero l)
   offers-fall (o ∷ os) l w u p = go (eqb (o .number) n) (eqb (total (lessEach (o .amounts) ps)) 0) refl l w (λ l w. offers-fall os l w u p)
@@ -145,7 +152,8 @@ module _ (n : ℕ) (ps : List ℕ) where
       others : List OpenOffer
       others = offersNumbered n os
 
-      go : (t z : Bool) → eqb (total (lessEach (o .amounts) ps)) 0 ≡ z → 0 < length (cond t (o ∷ others) others) → Within ps (getD (cond t (o ∷ others) others) 0 noOffer .amounts)
+      go : (t z : Bool) → eqb (total (lessEach (o .amounts) ps)) 0 ≡ z → 0 < length (cond t (o ∷ others) others)
+          → Within ps (getD (cond t (o ∷ others) others) 0 noOffer .amounts)
           → (0 < length others → Within ps (getD others 0 noOffer .amounts) → openOffers u p (offersLess n ps os) + cond (eqb (getD others 0 noOffer .unit) u) (getD ps p 0) 0 ≡ openOffers u p os)
           → openOffers u p (cond t (cond z os (offerLess o ps ∷ os)) (o ∷ offersLess n ps os)) + cond (eqb (getD (cond t (o ∷ others) others) 0 noOffer .unit) u) (getD ps p 0) 0 ≡ openOffers u p (o ∷ os)
       go true true e l w ih =
@@ -188,24 +196,22 @@ module _ (b : Book) (o : OpenOffer) (u : ℕ) (ps : List ℕ) (sides : generator
       go false = take-named 0 (wayOf o) u (o .unit) (o .price) ps hu ho
 
   module _ (v p : ℕ) where
-    take-sold : sold v p (takeRows b o u ps) ≡ cond (cond (generator (unitOf b (o .unit) .kind)) (eqb (o .unit) v) (eqb u v)) (getD ps p 0) 0
+    -- a party of the rows, which is s where the offer's unit sells and t where the taker does
+    take-trades : (who : Row → ℕ) (s t : ℕ)
+        → ((k q : ℕ) → who (takeRow (wayOf o) (o .unit) u (o .price) k q) ≡ s)
+        → ((k q : ℕ) → who (takeRow (wayOf o) u (o .unit) (o .price) k q) ≡ t)
+        → tradedBy who v p (takeRows b o u ps) ≡ cond (cond (generator (unitOf b (o .unit) .kind)) (eqb s v) (eqb t v)) (getD ps p 0) 0
     unfolding takeRows
-    take-sold = go (generator (unitOf b (o .unit) .kind))
+    take-trades who s t one other = go (generator (unitOf b (o .unit) .kind))
       where
-        go : (g : Bool) → sold v p (cond g (takeRowsFrom 0 (wayOf o) (o .unit) u (o .price) ps) (takeRowsFrom 0 (wayOf o) u (o .unit) (o .price) ps)) ≡ cond (cond g (eqb (o .unit) v) (eqb u v)) (getD ps p 0) 0
-        go true = part-at (wayOf o) (o .unit) u (o .price) (λ (r : Row). r .seller) (o .unit) (λ k q. refl) v p 0 p ps (omega arith)
-        go false = part-at (wayOf o) u (o .unit) (o .price) (λ (r : Row). r .seller) u (λ k q. refl) v p 0 p ps (omega arith)
+        go : (g : Bool)
+            → tradedBy who v p (cond g (takeRowsFrom 0 (wayOf o) (o .unit) u (o .price) ps) (takeRowsFrom 0 (wayOf o) u (o .unit) (o .price) ps)) ≡ cond (cond g (eqb s v) (eqb t v)) (getD ps p 0) 0
+        go true = part-at (wayOf o) (o .unit) u (o .price) who s one v p 0 p ps (omega arith)
+        go false = part-at (wayOf o) u (o .unit) (o .price) who t other v p 0 p ps (omega arith)
 
-    take-bought : bought v p (takeRows b o u ps) ≡ cond (cond (generator (unitOf b (o .unit) .kind)) (eqb u v) (eqb (o .unit) v)) (getD ps p 0) 0
-    unfolding takeRows
-    take-bought = go (generator (unitOf b (o .unit) .kind))
-      where
-        go : (g : Bool) → bought v p (cond g (takeRowsFrom 0 (wayOf o) (o .unit) u (o .price) ps) (takeRowsFrom 0 (wayOf o) u (o .unit) (o .price) ps)) ≡ cond (cond g (eqb u v) (eqb (o .unit) v)) (getD ps p 0) 0
-        go true = part-at (wayOf o) (o .unit) u (o .price) (λ (r : Row). r .buyer) u (λ k q. refl) v p 0 p ps (omega arith)
-        go false = part-at (wayOf o) u (o .unit) (o .price) (λ (r : Row). r .buyer) (o .unit) (λ k q. refl) v p 0 p ps (omega arith)
-
-    pub take-raises : (rowsRaise (unitOf b v .kind) v p (takeRows b o u ps) ≡ cond (eqb (o .unit) v) (getD ps p 0) 0 + cond (eqb u v) (getD ps p 0) 0) × (rowsLower (unitOf b v .kind) v p (takeRows b o u ps) ≡ 0)
+    pub take-raises : (rowsRaise (unitOf b v .kind) v p (takeRows b o u ps) ≡ cond (eqb (o .unit) v) (getD ps p 0) 0 + cond (eqb u v) (getD ps p 0) 0)
+        × (rowsLower (unitOf b v .kind) v p (takeRows b o u ps) ≡ 0)
     take-raises =
-        rw (take-sold, take-bought)
+        rw (take-trades (λ (r : Row). r .seller) (o .unit) u (λ k q. refl) (λ k q. refl), take-trades (λ (r : Row). r .buyer) u (o .unit) (λ k q. refl) (λ k q. refl))
         (each-side (eqb (o .unit) v) (eqb u v) (generator (unitOf b (o .unit) .kind)) (generator (unitOf b v .kind)) (getD ps p 0)
         (λ e. rw (eqb-true (o .unit) v e) refl) (λ e. rw (← eqb-true u v e) sides))

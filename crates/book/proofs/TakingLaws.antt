@@ -9,16 +9,16 @@ use lib.ListN.{length, getD}
 use lib.Dec.{eqb, leb}
 use borrow.Author.Tests.{leb-true, ltb-true, eqb-true, eqb-false, eq-eqb, ne-eqb, not-false}
 use Rattle.measures.specs.Ranges.{mostEnergy}
-use Rattle.measures.specs.Lists.{Each, keep}
+use Rattle.measures.specs.Lists.{Each}
 use Rattle.measures.specs.Sharing.{total, parts}
 use Rattle.measures.proofs.RangeLaws.{In, within}
 use Rattle.measures.proofs.ListLaws.{both-ways, and-left, and-right}
-use Rattle.measures.proofs.SharingLaws.{Within, no-part-exceeds}
+use Rattle.measures.proofs.SharingLaws.{no-part-exceeds}
 use Rattle.limits.specs.Units.{periods, generator}
-use Rattle.matching.specs.Orders.{Order as OpenOrder, Row}
-use Rattle.book.specs.Book.{Figures, Unit, noUnit, OpenOffer, noOffer, Book, unitOf, figuresOf, offersOf, offerOf, withUnits, withOffers}
-use Rattle.book.specs.Trades.{raises, lowers, rowsBooked}
-use Rattle.book.specs.Fit.{openOffers, openOrders, openRaising, openLowering, Declaration, nothing}
+use Rattle.matching.specs.Orders.{Row}
+use Rattle.book.specs.Book.{noUnit, OpenOffer, noOffer, Book, unitOf, figuresOf, offersOf, offerOf, withUnits, withOffers}
+use Rattle.book.specs.Trades.{rowsBooked}
+use Rattle.book.specs.Fit.{openOffers, openRaising, openLowering, Declaration, nothing}
 use Rattle.book.specs.Sound.{sound}
 use Rattle.book.specs.Refusals.{accepted, sameSide, canTake, unsound, unknownUnit, fewRows, badQuantity, noSuchOffer, cannotTake, hourMisfit, termMisfit, volumeMisfit}
 use Rattle.book.specs.Offer.{raisingAmounts}
@@ -27,7 +27,7 @@ use Rattle.book.proofs.RemainLaws.{each-at, remains-all, remains-keep, 
 use Rattle.book.proofs.FitLaws.{Fits, fits-with, Moved, fits-after}
 use Rattle.book.proofs.SoundLaws.{UnitRanges, OfferRanges, Sound, sound-facts, sound-holds}
 use Rattle.book.proofs.RefusalLaws.{NoneApplies, none-applies, decided-sound}
-use Rattle.book.proofs.FormedLaws.{LessOffer, LessOrder, same-order, Remaining, formed-remaining}
+use Rattle.book.proofs.FormedLaws.{LessOrder, same-order, Remaining, formed-remaining}
 use Rattle.book.proofs.TradeLaws.{Kept, kept-rows, Grown, grown-rows}
 use Rattle.book.proofs.TakeLaws.{offers-remain, offers-fall, rows-named, take-raises}
 
@@ -51,7 +51,8 @@ module _ (b : Book) (u n q : ℕ) where
   found-ranges : Each (OfferRanges b) (b .offers) → 0 < length (offersOf b n) → OfferRanges b (offerOf b n)
   found-ranges h l =
       each-at (OfferRanges b) (offersOf b n) 0 noOffer
-      (remains-each (λ (x y : OpenOffer). x ≡ y) (OfferRanges b) (OfferRanges b) (λ x y e r. rw e r) (remains-keep (λ (x y : OpenOffer). x ≡ y) (λ o. eqb (o .number) n) (λ x. refl) (b .offers)) h) l
+      (remains-each (λ (x y : OpenOffer). x ≡ y) (OfferRanges b) (OfferRanges b) (λ x y e r. rw e r)
+      (remains-keep (λ (x y : OpenOffer). x ≡ y) (λ o. eqb (o .number) n) (λ x. refl) (b .offers)) h) l
 
   can-take : OfferRanges b (offerOf b n) → canTake b (offerOf b n) u q ≡ true
       → (generator (unitOf b u .kind) ≡ not (generator (unitOf b (offerOf b n .unit) .kind))) × (q ≤ total (offerOf b n .amounts))
@@ -60,7 +61,8 @@ module _ (b : Book) (u n q : ℕ) where
       o : OpenOffer
       o = offerOf b n
 
-      go : (t : Bool) → eqb (offerOf b n .partner) 0 ≡ t → cond t (not (sameSide b (o .unit) u) && leb q (total (o .amounts))) (eqb (o .partner) u && eqb q (total (o .amounts))) ≡ true
+      go : (t : Bool) → eqb (offerOf b n .partner) 0 ≡ t
+          → cond t (not (sameSide b (o .unit) u) && leb q (total (o .amounts))) (eqb (o .partner) u && eqb q (total (o .amounts))) ≡ true
           → (generator (unitOf b u .kind) ≡ not (generator (unitOf b (o .unit) .kind))) × (q ≤ total (o .amounts))
       go true z h =
           let x = not (sameSide b (o .unit) u) in
@@ -89,7 +91,12 @@ module _ (b : Book) (u n q : ℕ) where
             (not-false _ (t .1 .1 .1 .1 .1 .1 .1 .1 .0));
       }
     where
-      t : NoneApplies (unsound b ∷ unknownUnit b u ∷ fewRows lent ∷ badQuantity q ∷ noSuchOffer b n ∷ cannotTake b u n q ∷ hourMisfit b u (raisingAmounts (takenParts b n q)) ∷ termMisfit b u (raisingAmounts (takenParts b n q)) ∷ volumeMisfit b u (raisingAmounts (takenParts b n q)) ∷ [])
+      d : Declaration
+      d = raisingAmounts (takenParts b n q)
+
+      t : NoneApplies
+          (unsound b ∷ unknownUnit b u ∷ fewRows lent ∷ badQuantity q ∷ noSuchOffer b n ∷ cannotTake b u n q
+          ∷ hourMisfit b u d ∷ termMisfit b u d ∷ volumeMisfit b u d ∷ [])
       t = none-applies _ (omega arith) z
 
       taker : In 1 (length (b .units)) u
@@ -155,7 +162,8 @@ module _ (b : Book) (u n q : ℕ) where
         volume = λ p l. let g = grown p l in rw (stay .kind v) (omega (arith, fall p, h p));
       }
     where
-      grown : (p : ℕ) → p < periods (b .days) → Grown (figuresOf b v p) (figuresOf after v p) (cond (eqb (offerOf b n .unit) v) (getD ps p 0) 0 + cond (eqb u v) (getD ps p 0) 0) 0
+      grown : (p : ℕ) → p < periods (b .days)
+          → Grown (figuresOf b v p) (figuresOf after v p) (cond (eqb (offerOf b n .unit) v) (getD ps p 0) 0 + cond (eqb u v) (getD ps p 0) 0) 0
       grown p l =
           let r = take-raises b (offerOf b n) u ps (a .sides) v p in
           let f = each-at (UnitRanges (b .days)) (b .units) (v - 1) noUnit (s .formed .units) (omega arith) .figures in

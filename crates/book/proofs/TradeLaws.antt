@@ -2,9 +2,8 @@
 use Prim.Native.Nat.{ℕ, zero, suc, _+_, _-_, _≤_, _<_}
 use mathlib.Core.Path.{_≡_, refl, sym, ap, _∙_}
 use mathlib.Core.Bool.{Bool, true, false, cond, _&&_}
-use mathlib.Core.List.{List, [], _∷_, _++_}
+use mathlib.Core.List.{List, [], _∷_}
 use native.Mathlib.Omega.{arith}
-use native.Mathlib.Nat.{not-suc-le-zero}
 use native.Mathlib.Decide.{ℕ-discrete, decLt}
 use lib.ListN.{length, getD, set, length-set}
 use lib.Seq.{getD-set-same, getD-set-other, set-out}
@@ -15,7 +14,7 @@ use Rattle.measures.proofs.RangeLaws.{In}
 use Rattle.limits.specs.Units.{generator}
 use Rattle.matching.specs.Orders.{Row}
 use Rattle.book.specs.Book.{Figures, noFigures, Unit, noUnit, Book, unitOf, figuresOf, withUnits}
-use Rattle.book.specs.Trades.{wayAfter, traded, unitTraded, booked, rowBooked, rowsBooked}
+use Rattle.book.specs.Trades.{raises, traded, unitTraded, booked, rowBooked, rowsBooked}
 use Rattle.book.proofs.RemainLaws.{each-at}
 use Rattle.book.proofs.SoundLaws.{UnitRanges}
 
@@ -81,7 +80,9 @@ module _ (w d p q : ℕ) where
         capacity = r .capacity;
         asset = r .asset;
         figures = length-set (u .figures) p (traded (u .kind) w d q (getD (u .figures) p noFigures)) ∙ r .figures;
-        ways = each-set (λ (f : Figures). f .way ≤ 2) (u .figures) p (traded (u .kind) w d q (getD (u .figures) p noFigures)) (r .ways) (λ l. way-small (getD (u .figures) p noFigures) (u .kind) h (each-at (λ (f : Figures). f .way ≤ 2) (u .figures) p noFigures (r .ways) l));
+        ways =
+            each-set (λ (f : Figures). f .way ≤ 2) (u .figures) p (traded (u .kind) w d q (getD (u .figures) p noFigures)) (r .ways)
+            (λ l. way-small (getD (u .figures) p noFigures) (u .kind) h (each-at (λ (f : Figures). f .way ≤ 2) (u .figures) p noFigures (r .ways) l));
       }
 
   pub kept-booked : (v : ℕ) (b : Book) → d ≤ 1 → Kept b (booked w d p q v b)
@@ -93,7 +94,9 @@ module _ (w d p q : ℕ) where
         kind = λ u. set-keeps (λ (y : Unit). y .kind) (b .units) (v - 1) (u - 1) x noUnit refl;
         capacity = λ u. set-keeps (λ (y : Unit). y .capacity) (b .units) (v - 1) (u - 1) x noUnit refl;
         asset = λ u. set-keeps (λ (y : Unit). y .asset) (b .units) (v - 1) (u - 1) x noUnit refl;
-        figures = λ u. set-keeps (λ (y : Unit). length (y .figures)) (b .units) (v - 1) (u - 1) x noUnit (length-set (unitOf b v .figures) p (traded (unitOf b v .kind) w d q (getD (unitOf b v .figures) p noFigures)));
+        figures = λ u.
+            set-keeps (λ (y : Unit). length (y .figures)) (b .units) (v - 1) (u - 1) x noUnit
+            (length-set (unitOf b v .figures) p (traded (unitOf b v .kind) w d q (getD (unitOf b v .figures) p noFigures)));
         ranges = λ days e. each-set (UnitRanges days) (b .units) (v - 1) x e (λ l. trade-ranges days (unitOf b v) h (each-at (UnitRanges days) (b .units) (v - 1) noUnit e l));
       }
     where
@@ -101,7 +104,8 @@ module _ (w d p q : ℕ) where
       x = unitTraded w d p q (unitOf b v)
 
   -- the figures of a unit and a period after a trade
-  pub booked-figures : (v : ℕ) (b : Book) (u at : ℕ) → 1 ≤ v → In 1 (length (b .units)) u → at < length (unitOf b u .figures) → figuresOf (booked w d p q v b) u at ≡ cond (eqb v u && eqb p at) (traded (unitOf b u .kind) w d q (figuresOf b u at)) (figuresOf b u at)
+  pub booked-figures : (v : ℕ) (b : Book) (u at : ℕ) → 1 ≤ v → In 1 (length (b .units)) u → at < length (unitOf b u .figures)
+      → figuresOf (booked w d p q v b) u at ≡ cond (eqb v u && eqb p at) (traded (unitOf b u .kind) w d q (figuresOf b u at)) (figuresOf b u at)
   unfolding booked
   booked-figures v b u at hv hu h = go (ℕ-discrete v u) (ℕ-discrete p at)
     where
@@ -133,26 +137,18 @@ pub record Grown (f f′ : Figures) (r l : ℕ) : Type 0 where
 pub grown-then : (f f′ f″ : Figures) (r l r′ l′ : ℕ) → Grown f f′ r l → Grown f′ f″ r′ l′ → Grown f f″ (r + r′) (l + l′)
 grown-then f f′ f″ r l r′ l′ g h = omega arith
 
-module _ (kind w q : ℕ) (f : Figures) (c : Bool) where
-  grown-sale : Grown f (cond c (traded kind w 0 q f) f) (cond (generator kind) (cond c q 0) 0) (cond (generator kind) 0 (cond c q 0))
-  unfolding traded
-  grown-sale = go (generator kind) refl c
-    where
-      go : (g : Bool) → generator kind ≡ g → (c : Bool) → Grown f (cond c (traded kind w 0 q f) f) (cond (generator kind) (cond c q 0) 0) (cond (generator kind) 0 (cond c q 0))
-      go true e true = rw e (record { held = refl; raised = refl; lowered = omega arith; volume = omega arith })
-      go true e false = rw e (omega arith)
-      go false e true = rw e (record { held = refl; raised = omega arith; lowered = refl; volume = omega arith })
-      go false e false = rw e (omega arith)
-
-  grown-purchase : Grown f (cond c (traded kind w 1 q f) f) (cond (generator kind) 0 (cond c q 0)) (cond (generator kind) (cond c q 0) 0)
-  unfolding traded
-  grown-purchase = go (generator kind) refl c
-    where
-      go : (g : Bool) → generator kind ≡ g → (c : Bool) → Grown f (cond c (traded kind w 1 q f) f) (cond (generator kind) 0 (cond c q 0)) (cond (generator kind) (cond c q 0) 0)
-      go true e true = rw e (record { held = refl; raised = omega arith; lowered = refl; volume = omega arith })
-      go true e false = rw e (omega arith)
-      go false e true = rw e (record { held = refl; raised = refl; lowered = omega arith; volume = omega arith })
-      go false e false = rw e (omega arith)
+-- a trade, where c says that it is of this unit and period
+pub grown-trade : (kind w d q : ℕ) (f : Figures) (c : Bool)
+    → Grown f (cond c (traded kind w d q f) f) (cond (raises kind d) (cond c q 0) 0) (cond (raises kind d) 0 (cond c q 0))
+unfolding traded
+grown-trade kind w d q f c = go (raises kind d) refl c
+  where
+    go : (r : Bool) → raises kind d ≡ r → (c : Bool)
+        → Grown f (cond c (traded kind w d q f) f) (cond (raises kind d) (cond c q 0) 0) (cond (raises kind d) 0 (cond c q 0))
+    go true e true = rw e (omega arith)
+    go true e false = rw e (omega arith)
+    go false e true = rw e (omega arith)
+    go false e false = rw e (omega arith)
 
 -- what a unit traded in a period, as the party that `who` reads
 abbrev pub rowTrades : (Row → ℕ) → ℕ → ℕ → Row → ℕ
@@ -188,23 +184,12 @@ kept-rows (r ∷ rs) b =
     (kept-then b b1 b2 (kept-booked (r .way) 0 (r .period) (r .quantity) (r .seller) b (omega arith)) (kept-booked (r .way) 1 (r .period) (r .quantity) (r .buyer) b1 (omega arith)))
     (kept-rows rs b2)
 
-add-up : (g : Bool) (s t x y : ℕ) → (cond g s 0 + cond g 0 t + cond g x y ≡ cond g (s + x) (t + y)) × (cond g 0 s + cond g t 0 + cond g y x ≡ cond g (t + y) (s + x))
-add-up true s t x y = omega arith
-add-up false s t x y = omega arith
-
-grown-none : (f : Figures) (g : Bool) → Grown f f (cond g 0 0) (cond g 0 0)
-grown-none f true = omega arith
-grown-none f false = omega arith
-
 -- a unit's figures of a period after one row, and after all
 grown-row : (r : Row) (b : Book) (u p : ℕ) → Named r → In 1 (length (b .units)) u → p < length (unitOf b u .figures)
     → Grown (figuresOf b u p) (figuresOf (rowBooked r b) u p)
-    (cond (generator (unitOf b u .kind)) (rowTrades (λ (r : Row). r .seller) u p r) 0 + cond (generator (unitOf b u .kind)) 0 (rowTrades (λ (r : Row). r .buyer) u p r))
-    (cond (generator (unitOf b u .kind)) 0 (rowTrades (λ (r : Row). r .seller) u p r) + cond (generator (unitOf b u .kind)) (rowTrades (λ (r : Row). r .buyer) u p r) 0)
-grown-row r b u p n i h =
-    grown-then (figuresOf b u p) (figuresOf b1 u p) (figuresOf (rowBooked r b) u p) _ _ _ _
-    (rw (booked-figures (r .way) 0 (r .period) (r .quantity) (r .seller) b u p (n .0) i h) (grown-sale (unitOf b u .kind) (r .way) (r .quantity) (figuresOf b u p) (eqb (r .seller) u && eqb (r .period) p)))
-    bought-next
+    (cond (raises (unitOf b u .kind) 0) (rowTrades (λ (r : Row). r .seller) u p r) 0 + cond (raises (unitOf b u .kind) 1) (rowTrades (λ (r : Row). r .buyer) u p r) 0)
+    (cond (raises (unitOf b u .kind) 0) 0 (rowTrades (λ (r : Row). r .seller) u p r) + cond (raises (unitOf b u .kind) 1) 0 (rowTrades (λ (r : Row). r .buyer) u p r))
+grown-row r b u p n i h = grown-then (figuresOf b u p) (figuresOf b1 u p) (figuresOf (rowBooked r b) u p) _ _ _ _ sale purchase
   where
     b1 : Book
     b1 = booked (r .way) 0 (r .period) (r .quantity) (r .seller) b
@@ -212,18 +197,34 @@ grown-row r b u p n i h =
     k : Kept b b1
     k = kept-booked (r .way) 0 (r .period) (r .quantity) (r .seller) b (omega arith)
 
-    bought-next : Grown (figuresOf b1 u p) (figuresOf (rowBooked r b) u p) (cond (generator (unitOf b u .kind)) 0 (rowTrades (λ (r : Row). r .buyer) u p r)) (cond (generator (unitOf b u .kind)) (rowTrades (λ (r : Row). r .buyer) u p r) 0)
-    bought-next =
-        rw (booked-figures (r .way) 1 (r .period) (r .quantity) (r .buyer) b1 u p (n .1) (omega (arith, k .count)) (omega (arith, k .figures u)), ← k .kind u)
-        (grown-purchase (unitOf b1 u .kind) (r .way) (r .quantity) (figuresOf b1 u p) (eqb (r .buyer) u && eqb (r .period) p))
+    sale : Grown (figuresOf b u p) (figuresOf b1 u p) (cond (raises (unitOf b u .kind) 0) (rowTrades (λ (r : Row). r .seller) u p r) 0) (cond (raises (unitOf b u .kind) 0) 0 (rowTrades (λ (r : Row). r .seller) u p r))
+    sale =
+        rw (booked-figures (r .way) 0 (r .period) (r .quantity) (r .seller) b u p (n .0) i h)
+        (grown-trade (unitOf b u .kind) (r .way) 0 (r .quantity) (figuresOf b u p) (eqb (r .seller) u && eqb (r .period) p))
 
-pub grown-rows : (rs : List Row) (b : Book) (u p : ℕ) → Each Named rs → In 1 (length (b .units)) u → p < length (unitOf b u .figures) → Grown (figuresOf b u p) (figuresOf (rowsBooked rs b) u p) (rowsRaise (unitOf b u .kind) u p rs) (rowsLower (unitOf b u .kind) u p rs)
+    purchase : Grown (figuresOf b1 u p) (figuresOf (rowBooked r b) u p) (cond (raises (unitOf b u .kind) 1) (rowTrades (λ (r : Row). r .buyer) u p r) 0) (cond (raises (unitOf b u .kind) 1) 0 (rowTrades (λ (r : Row). r .buyer) u p r))
+    purchase =
+        rw (booked-figures (r .way) 1 (r .period) (r .quantity) (r .buyer) b1 u p (n .1) (omega (arith, k .count)) (omega (arith, k .figures u)), ← k .kind u)
+        (grown-trade (unitOf b1 u .kind) (r .way) 1 (r .quantity) (figuresOf b1 u p) (eqb (r .buyer) u && eqb (r .period) p))
+
+-- no trade, and the trades of a row and of those behind it, where g says that the unit is a generator
+grown-none : (f : Figures) (g : Bool) → Grown f f (cond g 0 0) (cond g 0 0)
+grown-none f true = omega arith
+grown-none f false = omega arith
+
+add-up : (g : Bool) (s t x y : ℕ)
+    → (cond (cond g true false) s 0 + cond (cond g false true) t 0 + cond g x y ≡ cond g (s + x) (t + y))
+    × (cond (cond g true false) 0 s + cond (cond g false true) 0 t + cond g y x ≡ cond g (t + y) (s + x))
+add-up true s t x y = omega arith
+add-up false s t x y = omega arith
+
+pub grown-rows : (rs : List Row) (b : Book) (u p : ℕ) → Each Named rs → In 1 (length (b .units)) u → p < length (unitOf b u .figures)
+    → Grown (figuresOf b u p) (figuresOf (rowsBooked rs b) u p) (rowsRaise (unitOf b u .kind) u p rs) (rowsLower (unitOf b u .kind) u p rs)
 unfolding rowsBooked tradedBy
 grown-rows [] b u p n i h = grown-none (figuresOf b u p) (generator (unitOf b u .kind))
 grown-rows (r ∷ rs) b u p n i h =
-    let g = generator (unitOf b u .kind) in
     let k = kept-rows (r ∷ []) b in
-    let rest : Grown (figuresOf (rowBooked r b) u p) (figuresOf (rowsBooked rs (rowBooked r b)) u p) (rowsRaise (unitOf b u .kind) u p rs) (rowsLower (unitOf b u .kind) u p rs) = rw (k .kind u) at (grown-rows rs (rowBooked r b) u p (n .1) (omega (arith, k .count)) (omega (arith, k .figures u))) in
-    let first = grown-row r b u p (n .0) i h in
-    let sums = add-up g (rowTrades (λ (r : Row). r .seller) u p r) (rowTrades (λ (r : Row). r .buyer) u p r) (sold u p rs) (bought u p rs) in
-    rw (← sums .0, ← sums .1) (grown-then (figuresOf b u p) (figuresOf (rowBooked r b) u p) (figuresOf (rowsBooked rs (rowBooked r b)) u p) _ _ _ _ first rest)
+    let rest = rw (k .kind u) at (grown-rows rs (rowBooked r b) u p (n .1) (omega (arith, k .count)) (omega (arith, k .figures u))) in
+    let sums = add-up (generator (unitOf b u .kind)) (rowTrades (λ (r : Row). r .seller) u p r) (rowTrades (λ (r : Row). r .buyer) u p r) (sold u p rs) (bought u p rs) in
+    rw (← sums .0, ← sums .1)
+    (grown-then (figuresOf b u p) (figuresOf (rowBooked r b) u p) (figuresOf (rowsBooked rs (rowBooked r b)) u p) _ _ _ _ (grown-row r b u p (n .0) i h) rest)
