@@ -27,20 +27,13 @@ decided-is r b o e = go (eqb r 0) refl e
     go true f z = (eqb-true r 0 f, refl)
     go false f z = absurd (eqb-false r 0 f z)
 
-pub refused-is : (r : ℕ) (b : Book) (o : Outcome) → o .refusal ≡ 0 → (decided r b o .refusal ≡ 0 → ⊥) → decided r b o .book ≡ b
-refused-is r b o z n = go (eqb r 0) n
-  where
-    go : (c : Bool) → (cond c o (record { refusal = r; number = 0; rows = []; book = b }) .refusal ≡ 0 → ⊥) → cond c o (record { refusal = r; number = 0; rows = []; book = b }) .book ≡ b
-    go true m = absurd (m z)
-    go false m = refl
-
 -- an accepted call is accounted for
 pub accepted-agree : (t : Tally) (b : Book) (c : Call) (o : Outcome) → outcome b c ≡ o → o .refusal ≡ 0 → Agree (accounted t c (answered o)) (o .book) → Agree (tallied t c (answered (outcome b c))) (outcome b c .book)
 accepted-agree t b c o e z a = rw e (rw (eq-eqb (o .refusal) 0 z) a)
 
 -- a refused call changes nothing
-pub refused-agree : (t : Tally) (b : Book) (c : Call) → (outcome b c .refusal ≡ 0 → ⊥) → tallied t c (answered (outcome b c)) ≡ t
-refused-agree t b c n = rw (ne-eqb (outcome b c .refusal) 0 n)
+pub refused-tally : (t : Tally) (b : Book) (c : Call) → (outcome b c .refusal ≡ 0 → ⊥) → tallied t c (answered (outcome b c)) ≡ t
+refused-tally t b c n = rw (ne-eqb (outcome b c .refusal) 0 n)
 
 -- other numbers and another phase
 pub agree-head : (t : Tally) (b : Book) → Agree t b → (phase given : ℕ)

@@ -15,7 +15,7 @@ use Rattle.matching.specs.Clearing.{clearedVolume, marginal, clearingPrice, Fil
 use Rattle.matching.proofs.EachLaws.{Each, each-map, each-append, each-keep}
 use Rattle.matching.proofs.LaidLaws.{laid-each}
 use Rattle.matching.proofs.FillLaws.{filled-each}
-use Rattle.matching.proofs.OverlapLaws.{rows-each, spans-each}
+use Rattle.matching.proofs.RowSumLaws.{rows-each, spans-each}
 use Rattle.book.specs.Book.{Book, rollingPhase, withOrders, inPhase}
 use Rattle.book.specs.Trades.{rowsBooked}
 use Rattle.book.specs.Refusals.{accepted}

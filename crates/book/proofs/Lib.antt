@@ -11,9 +11,14 @@ pub mod DeclareLaws
 pub mod OfferLaws
 pub mod OrderingLaws
 pub mod TradeLaws
+pub mod ExchangedLaws
+pub mod LeftLaws
+pub mod ClearedLaws
+pub mod RolledLaws
 pub mod TakeLaws
 pub mod TakingLaws
 pub mod CallLaws
+pub mod SoundAfter
 pub mod MapLaws
 pub mod AgreeLaws
 pub mod StandingLaws

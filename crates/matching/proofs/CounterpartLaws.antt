@@ -109,15 +109,15 @@ picked i [] = none refl refl
 picked i (o ∷ os) = picked-more i o os (best i os) (picked i os)
 
 -- what is found, and that nothing is
-pub best-first : (i : Order) (os : List Order) → best i os < length os → counterparts i os ≡ getD os (best i os) noOrder ∷ counterparts i (without (best i os) os)
-best-first i os l = go (picked i os)
+pub found-laid-first : (i : Order) (os : List Order) → best i os < length os → counterparts i os ≡ getD os (best i os) noOrder ∷ counterparts i (without (best i os) os)
+found-laid-first i os l = go (picked i os)
   where
     go : Picked i os (best i os) → counterparts i os ≡ getD os (best i os) noOrder ∷ counterparts i (without (best i os) os)
     go (none e h) = absurd (omega arith)
     go (some u h) = h
 
-pub best-none : (i : Order) (os : List Order) → length os ≤ best i os → counterparts i os ≡ []
-best-none i os l = go (picked i os)
+pub none-found : (i : Order) (os : List Order) → length os ≤ best i os → counterparts i os ≡ []
+none-found i os l = go (picked i os)
   where
     go : Picked i os (best i os) → counterparts i os ≡ []
     go (none e h) = h

@@ -1,8 +1,8 @@
 -- What holds of each element of a list, and of each with all behind it.
-use Prim.Native.Nat.{ℕ, zero, suc, _+_, _-_, _<_, _≤_}
-use mathlib.Core.Path.{_≡_, refl, sym, ap, _∙_}
+use Prim.Native.Nat.{ℕ, zero, suc, _+_, _<_}
+use mathlib.Core.Path.{_≡_, refl, ap}
 use mathlib.Core.Logic.{_⊎_, inl, inr}
-use mathlib.Core.Bool.{Bool, true, false, cond}
+use mathlib.Core.Bool.{Bool, true, false, cond, _&&_}
 use mathlib.Core.List.{List, [], _∷_, _++_}
 use native.Mathlib.Omega.{arith}
 use lib.ListN.{length, getD, take, drop}
@@ -116,3 +116,23 @@ module _ {A : Type 0} where
       go : (b : Bool) → sumOf f (keep g xs) ≡ sumOf (λ y. cond (g y) (f y) 0) xs → sumOf f (cond b (x ∷ keep g xs) (keep g xs)) ≡ cond b (f x) 0 + sumOf (λ y. cond (g y) (f y) 0) xs
       go true ih = omega arith
       go false ih = omega arith
+
+  pub keep-all : (f : A → Bool) (l : List A) → Each (λ x. f x ≡ true) l → keep f l ≡ l
+  keep-all f [] e = refl
+  keep-all f (x ∷ xs) e = rw (e .0) (ap (λ (l : List A). x ∷ l) (keep-all f xs (e .1)))
+
+  pub keep-nothing : (f : A → Bool) (l : List A) → Each (λ x. f x ≡ false) l → keep f l ≡ []
+  keep-nothing f [] e = refl
+  keep-nothing f (x ∷ xs) e = rw (e .0) (keep-nothing f xs (e .1))
+
+  pub keep-ext : (f g : A → Bool) (l : List A) → Each (λ x. f x ≡ g x) l → keep f l ≡ keep g l
+  keep-ext f g [] e = refl
+  keep-ext f g (x ∷ xs) e = rw (e .0) (ap (λ (l : List A). cond (g x) (x ∷ l) l) (keep-ext f g xs (e .1)))
+
+  pub keep-keep : (f g : A → Bool) (l : List A) → keep f (keep g l) ≡ keep (λ x. g x && f x) l
+  keep-keep f g [] = refl
+  keep-keep f g (x ∷ xs) = go (g x) (keep-keep f g xs)
+    where
+      go : (b : Bool) → keep f (keep g xs) ≡ keep (λ y. g y && f y) xs → keep f (cond b (x ∷ keep g xs) (keep g xs)) ≡ cond (b && f x) (x ∷ keep (λ y. g y && f y) xs) (keep (λ y. g y && f y) xs)
+      go true ih = ap (λ (l : List A). cond (f x) (x ∷ l) l) ih
+      go false ih = ih

@@ -1,18 +1,18 @@
 -- Laws of one side's fills: they sum to the volume, and none exceeds its order.
-use Prim.Native.Nat.{ℕ, zero, suc, _+_, _-_, _<_, _≤_}
-use mathlib.Core.Path.{_≡_, refl, sym, ap, _∙_}
-use mathlib.Core.Bool.{Bool, true, false, cond}
+use Prim.Native.Nat.{ℕ, _+_, _-_, _≤_}
+use mathlib.Core.Path.{_≡_, refl, ap, _∙_}
+use mathlib.Core.Bool.{Bool, true}
 use mathlib.Core.List.{List, [], _∷_, _++_, map}
 use native.Mathlib.Omega.{arith}
 use lib.Dec.{eqb}
 use lib.ListN.{length, length-map}
 use Rattle.measures.specs.Lists.{sumOf, keep}
 use Rattle.measures.specs.Sharing.{total, parts}
-use Rattle.measures.proofs.ListLaws.{sumOf-append}
+use Rattle.measures.proofs.ListLaws.{sumOf-append, keep-append}
 use Rattle.measures.proofs.SharingLaws.{Within, parts-length, parts-sum, no-part-exceeds}
 use Rattle.matching.specs.Orders.{Order, quantities}
 use Rattle.matching.specs.Clearing.{Fill, filled, fillsOf}
-use Rattle.matching.proofs.EachLaws.{Each, Pairs, each-append, each-keep, each-map, kept, pairs-keep, pairs-append}
+use Rattle.matching.proofs.EachLaws.{Each, Pairs, each-append, each-keep, each-map, each-both, kept, keep-all}
 use Rattle.matching.proofs.MarginLaws.{Margin, betterThan, atPrice}
 
 abbrev pub amounts : List Fill → ℕ
@@ -116,3 +116,19 @@ module _ (better : ℕ → ℕ → Bool) (v m : ℕ) (os : List Order) where
       (each-map (λ o. better (o .price) m ≡ true) (λ o. P (o .price)) (betterThan better m os) (λ o e. h (o .price) e) (kept (λ o. better (o .price) m) os)))
       (filled-each (λ o. P (o .price)) (atPrice m os) _
       (each-map (λ o. eqb (o .price) m ≡ true) (λ o. P (o .price)) (atPrice m os) (λ o e. k (o .price) e) (kept (λ o. eqb (o .price) m) os)))
+
+  -- a test of orders that each better one passes finds no less than they have
+  pub side-better : (g : Order → Bool) → Each (λ o. better (o .price) m ≡ true → g o ≡ true) os → quantities (betterThan better m os) ≤ amounts (keep (λ f. g (f .order)) (sideFills better v m os))
+  unfolding fillsOf
+  side-better g e =
+      let B = betterThan better m os in
+      let G : Fill → Bool = λ f. g (f .order) in
+      let all : keep G best ≡ best =
+      keep-all G best (filled-each (λ o. g o ≡ true) B (quantitiesOf B)
+      (each-both (λ o. better (o .price) m ≡ true) (λ o. better (o .price) m ≡ true → g o ≡ true) (λ o. g o ≡ true) B (λ o k h. h k)
+      (kept (λ o. better (o .price) m) os) (each-keep (λ o. better (o .price) m ≡ true → g o ≡ true) (λ o. better (o .price) m) os e))) in
+      let a : amounts best ≡ quantities B = filled-sum B (quantitiesOf B) (length-map B (λ o. o .quantity)) ∙ total-quantities B in
+      let c : amounts (keep G (best ++ rest)) ≡ amounts (keep G best ++ keep G rest) = ap amounts (keep-append G best rest) in
+      let d : amounts (keep G best ++ keep G rest) ≡ amounts (keep G best) + amounts (keep G rest) = sumOf-append (λ f. f .amount) (keep G best) (keep G rest) in
+      let k : amounts (keep G best) ≡ amounts best = ap amounts all in
+      omega arith

@@ -1,17 +1,17 @@
 -- Laws of the margins: what is better than a margin is less than the volume, and with the margin it is enough.
-use Prim.Native.Nat.{ℕ, zero, suc, _+_, _-_, _/_, _<_, _≤_, min}
-use mathlib.Core.Path.{_≡_, refl, sym, ap, _∙_}
+use Prim.Native.Nat.{ℕ, _+_, _-_, _<_, _≤_}
+use mathlib.Core.Path.{_≡_, refl, sym, _∙_}
 use mathlib.Core.Bool.{Bool, true, false, cond}
 use mathlib.Core.List.{List, [], _∷_, _++_}
 use native.Mathlib.Omega.{arith}
 use native.Mathlib.Decide.{decLt}
-use lib.Dec.{leb, ltb, eqb}
-use borrow.Author.Tests.{le-leb, lt-leb, leb-true, leb-false, lt-ltb, eq-eqb}
-use Rattle.measures.specs.Lists.{sumOf, keep}
+use lib.Dec.{leb, eqb}
+use borrow.Author.Tests.{leb-true, leb-false, lt-ltb, eq-eqb}
+use Rattle.measures.specs.Lists.{keep}
 use Rattle.measures.proofs.ListLaws.{cond-case, both-ways}
 use Rattle.matching.specs.Orders.{Order, quantities}
-use Rattle.matching.specs.Clearing.{tradedAt, largest, clearedVolume, marginal, clearingPrice}
-use Rattle.matching.proofs.EachLaws.{Each, Pairs, each-all}
+use Rattle.matching.specs.Clearing.{tradedAt, largest, clearedVolume, marginal}
+use Rattle.matching.proofs.EachLaws.{Each, each-all}
 use Rattle.matching.proofs.AheadLaws.{Strict, Ordered, dearer, cheaper, dearer-strict, cheaper-strict}
 use Rattle.matching.proofs.VolumeLaws.{demand, supply, traded, keep-more, keep-some, keep-none, largest-below, Reached, largest-reached}
 

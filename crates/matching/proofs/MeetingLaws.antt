@@ -19,7 +19,7 @@ use Rattle.matching.specs.Answers.{fit, Answer, answerOf, Meets}
 use Rattle.matching.proofs.OrderLaws.{orders-length, orders-at}
 use Rattle.matching.proofs.RowLaws.{written-none}
 use Rattle.matching.proofs.FitLaws.{Fit, fit-gives}
-use Rattle.matching.proofs.CounterpartLaws.{best, without, best-first, best-none}
+use Rattle.matching.proofs.CounterpartLaws.{best, without, found-laid-first, none-found}
 use Rattle.matching.proofs.TakeOffLaws.{without-length, lessen-gone, lessen-kept, lessen-rises}
 
 abbrev pub match : Order → ℕ → Match
@@ -49,7 +49,7 @@ after-none os = refl
 -- one match, with the best counterpart, at place b: x is taken off it
 module _ (i : Order) (os os′ : List Order) (q b x : ℕ) (some : q ≡ 0 → ⊥) (rises : rising (numbers os) ≡ true) (l : b < length os) (eb : b ≡ best i os) (ex : x ≡ min q (getD os b noOrder .quantity)) (el : os′ ≡ lessen (getD os b noOrder .number) x os) where
   laid-first : counterparts i os ≡ getD os b noOrder ∷ counterparts i (without b os)
-  laid-first = rw eb (best-first i os (rw eb at l))
+  laid-first = rw eb (found-laid-first i os (rw eb at l))
 
   -- the orders behind it are the same, or nothing is left for them
   same-rest : matches (q - x) (counterparts i (without b os)) ≡ matches (q - x) (counterparts i os′)
@@ -61,21 +61,21 @@ module _ (i : Order) (os os′ : List Order) (q b x : ℕ) (some : q ≡ 0 → �
           matches-spent (q - x) (counterparts i (without b os)) z ∙ sym (matches-spent (q - x) (counterparts i os′) z)
       go (no h) = ap (λ (y : List Order). matches (q - x) (counterparts i y)) (sym (el ∙ lessen-gone os b x rises l (omega arith)))
 
-  matched : matches q (counterparts i os) ≡ match (getD os b noOrder) x ∷ matches (q - x) (counterparts i os′)
+  pub matched : matches q (counterparts i os) ≡ match (getD os b noOrder) x ∷ matches (q - x) (counterparts i os′)
   matched =
       ap (matches q) laid-first
       ∙ matches-more q (getD os b noOrder) (counterparts i (without b os)) some
       ∙ ap (λ (y : ℕ). match (getD os b noOrder) y ∷ matches (q - y) (counterparts i (without b os))) (sym ex)
       ∙ ap (λ (ms : List Match). match (getD os b noOrder) x ∷ ms) same-rest
 
-  matched-after : afterMatches (matches q (counterparts i os)) os ≡ afterMatches (matches (q - x) (counterparts i os′)) os′
+  pub matched-after : afterMatches (matches q (counterparts i os)) os ≡ afterMatches (matches (q - x) (counterparts i os′)) os′
   matched-after =
       ap (λ (ms : List Match). afterMatches ms os) matched
       ∙ after-more (getD os b noOrder) x (matches (q - x) (counterparts i os′)) os
       ∙ ap (afterMatches (matches (q - x) (counterparts i os′))) (sym el)
 
   -- an order goes, or nothing is left
-  matched-length : (length os′ + 1 ≤ length os + (1 - (q - x))) × (length os′ ≤ length os) × ((q - x) + length os′ < q + length os)
+  pub matched-length : (length os′ + 1 ≤ length os + (1 - (q - x))) × (length os′ ≤ length os) × ((q - x) + length os′ < q + length os)
   matched-length = go (decLt x (getD os b noOrder .quantity))
     where
       go : Dec (x < getD os b noOrder .quantity) → (length os′ + 1 ≤ length os + (1 - (q - x))) × (length os′ ≤ length os) × ((q - x) + length os′ < q + length os)
@@ -224,7 +224,7 @@ module _ (m rows : List ℕ) (n : ℕ) (i : Order) (m′ rows′ : List ℕ) (q 
   pub ends-alone : (a : Matched) → answerOf a ≡ record { fits = true; left = q; count = count; standing = standing } → standing ≤ best i (ordersIn m′ standing) → Meets m rows n i a m′ rows′
   ends-alone a ea e =
       let l : length (ordersIn m′ standing) ≤ best i (ordersIn m′ standing) = omega (arith, orders-length m′ standing) in
-      meeting-ends a ea (ap (matches q) (best-none i (ordersIn m′ standing) l) ∙ matches-none q)
+      meeting-ends a ea (ap (matches q) (none-found i (ordersIn m′ standing) l) ∙ matches-none q)
 
 -- orders that do not fit stay
 pub meets-unfit : (m rows : List ℕ) (n : ℕ) (i : Order) (a : Matched) → answerOf a .fits ≡ false → fit m n rows ≡ false → Meets m rows n i a m rows

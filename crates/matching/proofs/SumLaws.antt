@@ -1,10 +1,10 @@
 -- Laws of sums over lists.
-use Prim.Native.Nat.{ℕ, zero, suc, _+_, _-_, _<_, _≤_}
+use Prim.Native.Nat.{ℕ, _+_, _≤_}
 use mathlib.Core.Path.{_≡_, refl, sym, ap, ap₂, _∙_}
 use mathlib.Core.Bool.{Bool, true, false, cond}
-use mathlib.Core.List.{List, [], _∷_, _++_}
+use mathlib.Core.List.{List, [], _∷_}
 use native.Mathlib.Omega.{arith}
-use Rattle.measures.specs.Lists.{sumOf, keep}
+use Rattle.measures.specs.Lists.{sumOf}
 use Rattle.matching.proofs.EachLaws.{Each, Has}
 use mathlib.Core.Logic.{inl, inr}
 

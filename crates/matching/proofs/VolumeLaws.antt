@@ -1,15 +1,14 @@
 -- Laws of the cleared volume: no price trades more.
-use Prim.Native.Nat.{ℕ, zero, suc, _+_, _-_, _<_, _≤_, min, max}
-use mathlib.Core.Path.{_≡_, refl, sym, ap, _∙_}
+use Prim.Native.Nat.{ℕ, _+_, _<_, _≤_, min}
+use mathlib.Core.Path.{_≡_, refl, sym}
 use mathlib.Core.Logic.{_⊎_, inl, inr}
 use mathlib.Core.Bool.{Bool, true, false, cond}
 use mathlib.Core.List.{List, [], _∷_, _++_}
 use native.Mathlib.Omega.{arith}
 use native.Mathlib.Decide.{decLt}
 use lib.Dec.{leb}
-use lib.ListN.{length, getD, take, drop}
-use borrow.Author.Tests.{le-leb, lt-leb, leb-true, leb-false}
-use Rattle.measures.specs.Lists.{sumOf, keep}
+use borrow.Author.Tests.{le-leb, lt-leb, leb-true}
+use Rattle.measures.specs.Lists.{keep}
 use Rattle.measures.proofs.ListLaws.{both-ways}
 use Rattle.matching.specs.Orders.{Order, quantities}
 use Rattle.matching.specs.Clearing.{tradedAt, largest, clearedVolume}

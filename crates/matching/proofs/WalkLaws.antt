@@ -1,22 +1,21 @@
 -- The walk down both laid sides, that finds the cleared volume and the margins.
 use Prim.Native.Nat.{ℕ, zero, suc, _+_, _-_, _<_, _≤_, min}
-use mathlib.Core.Path.{_≡_, refl, sym, ap, _∙_}
+use mathlib.Core.Path.{_≡_, refl}
 use mathlib.Core.Bool.{Bool, true, false, cond}
 use mathlib.Core.List.{List, [], _∷_, _++_}
 use native.Mathlib.Omega.{arith}
-use native.Mathlib.Nat.{zero-add}
 use native.Mathlib.Numerals.{add-one}
 use native.Mathlib.Decide.{decLt}
 use lib.Dec.{leb}
-use lib.ListN.{length, getD, take, drop, List·getD-eq-default}
-use lib.Seq.{take-all, take-suc}
-use borrow.Author.Tests.{le-leb, lt-leb, leb-true, leb-false}
-use Rattle.measures.specs.Lists.{sumOf, keep}
-use Rattle.measures.proofs.ListLaws.{cond-true, cond-false, sumOf-append}
+use lib.ListN.{length, getD, take, drop}
+use lib.Seq.{take-all}
+use borrow.Author.Tests.{le-leb, lt-leb, leb-true}
+use Rattle.measures.specs.Lists.{keep}
+use Rattle.measures.proofs.ListLaws.{cond-true, cond-false}
 use Rattle.matching.specs.Orders.{Order, quantities}
 use Rattle.matching.specs.Memory.{noOrder}
-use Rattle.matching.specs.Clearing.{tradedAt, largest, clearedVolume, marginal}
-use Rattle.matching.proofs.EachLaws.{Each, Pairs, each-map, each-all, pairs-upto, pairs-from}
+use Rattle.matching.specs.Clearing.{tradedAt, clearedVolume, marginal}
+use Rattle.matching.proofs.EachLaws.{Each, each-map, each-all, pairs-upto, pairs-from}
 use Rattle.matching.proofs.AheadLaws.{Falling, Rising}
 use Rattle.matching.proofs.VolumeLaws.{demand, supply, traded, keep-more, keep-some, largest-below, no-price-trades-more}
 

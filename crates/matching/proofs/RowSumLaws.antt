@@ -1,17 +1,17 @@
 -- Laws of rows as overlaps of fills laid end to end.
-use Prim.Native.Nat.{ℕ, zero, suc, _+_, _-_, _<_, _≤_, min, max}
-use mathlib.Core.Path.{_≡_, refl, sym, ap, ap₂, _∙_}
+use Prim.Native.Nat.{ℕ, _+_, _-_, _<_, _≤_, min, max}
+use mathlib.Core.Path.{_≡_, refl, ap, ap₂, _∙_}
 use mathlib.Core.Bool.{Bool, true, false, cond}
-use mathlib.Core.List.{List, [], _∷_, _++_}
+use mathlib.Core.List.{List, [], _∷_}
 use native.Mathlib.Omega.{arith}
 use native.Mathlib.Decide.{decLt}
 use lib.Dec.{eqb}
 use borrow.Author.Tests.{eqb-true, eqb-false}
-use Rattle.measures.specs.Lists.{sumOf, keep}
+use Rattle.measures.specs.Lists.{sumOf}
 use Rattle.measures.proofs.ListLaws.{cond-case, sumOf-append}
-use Rattle.matching.specs.Orders.{Order, Row}
+use Rattle.matching.specs.Orders.{Row}
 use Rattle.matching.specs.Clearing.{Fill, Span, endToEnd, overlap, rowsOfBid, overlapRows}
-use Rattle.matching.proofs.EachLaws.{Each, each-append, each-all, each-map}
+use Rattle.matching.proofs.EachLaws.{Each, each-append, each-all}
 use Rattle.matching.proofs.SumLaws.{sumOf-ext, sumOf-swap, sumOf-when}
 use Rattle.matching.proofs.FillLaws.{amounts}
 
