@@ -1,4 +1,7 @@
 pub mod RangeFacts
+pub mod NumberLaws
+pub mod PairLaws
+pub mod MadeLaws
 pub mod FiguresHold
 pub mod RemainLaws
 pub mod FitLaws

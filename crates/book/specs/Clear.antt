@@ -6,10 +6,13 @@ use Rattle.matching.specs.Orders.{Order as OpenOrder, Row}
 use Rattle.matching.specs.Clearing.{Cleared, clearPeriod}
 use Rattle.book.specs.Book.{Book, rollingPhase, withOrders, inPhase}
 use Rattle.book.specs.Trades.{rowsBooked}
-use Rattle.book.specs.Refusals.{Outcome, firstOf, decided, accepted, unsound, fewRows, clearInRolling}
+use Rattle.book.specs.Refusals.{Outcome, Check, firstOf, decided, accepted, unsound, fewRows, clearInRolling}
+
+abbrev pub clearChecks : Book → ℕ → List Check
+clearChecks b lent = fewRows lent ∷ clearInRolling b ∷ []
 
 unfoldable pub clearRefusal : Book → ℕ → ℕ
-clearRefusal b lent = firstOf (unsound b ∷ fewRows lent ∷ clearInRolling b ∷ [])
+clearRefusal b lent = firstOf (unsound b ∷ clearChecks b lent)
 
 -- the periods from p on, n of them: their rows one after the other, and the orders left
 unfoldable pub clearFrom : ℕ → ℕ → List OpenOrder → Cleared

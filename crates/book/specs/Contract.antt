@@ -1,13 +1,14 @@
 -- What each call promises of the lent memory: one record for all eight.
 use Prim.Native.Nat.{ℕ, _+_, _*_}
 use mathlib.Core.Path.{_≡_}
-use mathlib.Core.Bool.{Bool, cond}
+use mathlib.Core.Bool.{Bool, cond, _&&_}
 use mathlib.Core.List.{List, [], _∷_}
 use lib.ListN.{length, drop}
 use Rattle.matching.specs.Memory.{written}
 use Rattle.book.specs.declared.Answer.{Answer}
 use Rattle.book.specs.declared.Answer.the-variants.{Done, Refused}
 use Rattle.book.specs.Book.{Book}
+use Rattle.book.specs.Sound.{sound}
 use Rattle.book.specs.Opening.{bookWords}
 use Rattle.book.specs.Layout.{word, decode, enough}
 use Rattle.book.specs.Refusals.{Outcome}
@@ -22,6 +23,10 @@ pub record Told : Type 0 where
 abbrev pub toldBy : Answer → Told
 toldBy (Done number count) = record { refusal = 0; number = number; count = count }
 toldBy (Refused refusal) = record { refusal = refusal; number = 0; count = 0 }
+
+-- whether memory holds a sound book: long enough, and what it decodes to is sound
+unfoldable pub soundIn : List ℕ → Bool
+soundIn m = enough m && sound (decode m)
 
 -- what a call gives on memory: 1 where it is too short
 unfoldable pub outcomeOn : List ℕ → Call → Outcome

@@ -4,10 +4,13 @@ use mathlib.Core.Bool.{cond}
 use mathlib.Core.List.{List, [], _∷_}
 use lib.Dec.{eqb}
 use Rattle.book.specs.Book.{Figures, Book, figuresOf, net}
-use Rattle.book.specs.Refusals.{firstOf, unsound, unknownUnit, fewPoints, badDay}
+use Rattle.book.specs.Refusals.{Check, firstOf, unsound, unknownUnit, fewPoints, badDay}
+
+abbrev pub curveChecks : Book → ℕ → ℕ → ℕ → List Check
+curveChecks b u day lent = unknownUnit b u ∷ fewPoints lent ∷ badDay b day ∷ []
 
 unfoldable pub curveRefusal : Book → ℕ → ℕ → ℕ → ℕ
-curveRefusal b u day lent = firstOf (unsound b ∷ unknownUnit b u ∷ fewPoints lent ∷ badDay b day ∷ [])
+curveRefusal b u day lent = firstOf (unsound b ∷ curveChecks b u day lent)
 
 -- "Each period's net n gives floor(n / 2), then the rest"
 abbrev pub firstHalf : ℕ → ℕ

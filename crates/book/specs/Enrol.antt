@@ -3,10 +3,13 @@ use Prim.Native.Nat.{ℕ}
 use mathlib.Core.List.{List, [], _∷_, _++_}
 use lib.ListN.{length}
 use Rattle.book.specs.Book.{Unit, Book, withUnits, noTrades}
-use Rattle.book.specs.Refusals.{Outcome, firstOf, decided, accepted, unsound, badKind, badSize, unitsFull}
+use Rattle.book.specs.Refusals.{Outcome, Check, firstOf, decided, accepted, unsound, badKind, badSize, unitsFull}
+
+abbrev pub enrolChecks : Book → ℕ → ℕ → ℕ → List Check
+enrolChecks b kind capacity asset = badKind kind ∷ badSize capacity asset ∷ unitsFull b ∷ []
 
 unfoldable pub enrolRefusal : Book → ℕ → ℕ → ℕ → ℕ
-enrolRefusal b kind capacity asset = firstOf (unsound b ∷ badKind kind ∷ badSize capacity asset ∷ unitsFull b ∷ [])
+enrolRefusal b kind capacity asset = firstOf (unsound b ∷ enrolChecks b kind capacity asset)
 
 abbrev pub enrolled : Book → ℕ → ℕ → ℕ → Book
 enrolled b kind capacity asset =

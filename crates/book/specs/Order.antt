@@ -8,7 +8,7 @@ use Rattle.matching.specs.Rolling.{Met, meet}
 use Rattle.book.specs.Book.{Book, callPhase, unitOf, withOrders, nextNumber, numbered}
 use Rattle.book.specs.Trades.{raises, lowers, rowsBooked}
 use Rattle.book.specs.Fit.{Declaration}
-use Rattle.book.specs.Refusals.{Outcome, firstOf, decided, accepted, unsound, unknownUnit, fewRows, badPrice, badQuantity, badPeriod, badDirection, otherDirection, twoOpen, ordersFull, numbersUsed, hourMisfit, termMisfit, volumeMisfit}
+use Rattle.book.specs.Refusals.{Outcome, Check, firstOf, decided, accepted, unsound, unknownUnit, fewRows, badPrice, badQuantity, badPeriod, badDirection, otherDirection, twoOpen, ordersFull, numbersUsed, hourMisfit, termMisfit, volumeMisfit}
 
 -- what an order declares: its quantity, in its period, raising or lowering
 abbrev pub orderDeclares : Book → ℕ → ℕ → ℕ → ℕ → Declaration
@@ -18,13 +18,14 @@ orderDeclares b u d p q =
       lowering = λ p′. cond (eqb p′ p) (cond (lowers (unitOf b u .kind) d) q 0) 0;
     }
 
-unfoldable pub orderRefusal : Book → ℕ → ℕ → ℕ → ℕ → ℕ → ℕ → ℕ
-orderRefusal b u d p price q lent =
-    let e = orderDeclares b u d p q in
-    firstOf
-    (unsound b ∷ unknownUnit b u ∷ fewRows lent ∷ badPrice b price ∷ badQuantity q ∷ badPeriod b p ∷ badDirection d
+abbrev pub orderChecks : Book → ℕ → ℕ → ℕ → ℕ → ℕ → ℕ → List Check
+orderChecks b u d p price q lent =
+    unknownUnit b u ∷ fewRows lent ∷ badPrice b price ∷ badQuantity q ∷ badPeriod b p ∷ badDirection d
     ∷ otherDirection b u d p ∷ twoOpen b u p ∷ ordersFull b ∷ numbersUsed b
-    ∷ hourMisfit b u e ∷ termMisfit b u e ∷ volumeMisfit b u e ∷ [])
+    ∷ hourMisfit b u (orderDeclares b u d p q) ∷ termMisfit b u (orderDeclares b u d p q) ∷ volumeMisfit b u (orderDeclares b u d p q) ∷ []
+
+unfoldable pub orderRefusal : Book → ℕ → ℕ → ℕ → ℕ → ℕ → ℕ → ℕ
+orderRefusal b u d p price q lent = firstOf (unsound b ∷ orderChecks b u d p price q lent)
 
 abbrev pub newOrder : Book → ℕ → ℕ → ℕ → ℕ → ℕ → OpenOrder
 newOrder b u d p price q =

@@ -1,12 +1,19 @@
 -- What the functions that read a book's memory ask of it: that its head is in range, so that each place lies in the memory.
 use Prim.Native.Nat.{ℕ, _+_, _*_, _≤_}
-use mathlib.Core.Bool.{Bool}
-use mathlib.Core.List.{List, [], _∷_}
-use lib.ListN.{length}
-use Rattle.measures.specs.Lists.{holds, all}
-use Rattle.limits.specs.Units.{mostDays, kindIn, capacityIn, assetIn}
+use mathlib.Core.Path.{_≡_}
+use mathlib.Core.Bool.{Bool, true, false, not, _&&_, _||_}
+use mathlib.Core.List.{List, [], _∷_, map}
+use lib.ListN.{length, getD}
+use lib.Dec.{eqb, leb}
+use Rattle.measures.specs.Lists.{holds, every, all}
+use Rattle.limits.specs.Units.{mostDays, periods, kindIn, capacityIn, assetIn}
+use Rattle.matching.specs.Orders.{Order as OpenOrder}
+use Rattle.book.specs.Book.{Figures, OpenOffer, Book, rollingPhase, known, unitOf}
+use Rattle.book.specs.Fit.{Declaration, hourFits, termFits, volumeFits}
+use Rattle.book.specs.Sound.{bilateralSides, offerIn, orderIn, oneWay, apart, eachTwo}
+use Rattle.book.specs.Refusals.{check, firstOf}
 use Rattle.book.specs.Opening.{bookWords}
-use Rattle.book.specs.Layout.{word}
+use Rattle.book.specs.Layout.{word, decode}
 
 pub record Readable (m : List ℕ) : Type 0 where
   pub daysFrom : 1 ≤ word m 0
@@ -22,3 +29,55 @@ unitFieldsIn m k = holds (kindIn (word m (8 + 3 * k)) ∷ capacityIn (word m (9 
 
 abbrev pub unitsFieldsIn : List ℕ → Bool
 unitsFieldsIn m = all (word m 5) (unitFieldsIn m)
+
+-- whether a partner is none, or an enrolled load for a generator
+unfoldable pub sidesIn : Book → ℕ → ℕ → Bool
+sidesIn b unit partner = eqb partner 0 || (known b partner && bilateralSides b unit partner)
+
+-- a memory whose units, offers and orders are in range
+pub record Ranged (m : List ℕ) : Type 0 where
+  pub readable : Readable m
+  pub units : unitsFieldsIn m ≡ true
+  pub offers : every (offerIn (decode m)) (decode m .offers) ≡ true
+  pub orders : every (orderIn (decode m)) (decode m .orders) ≡ true
+
+-- whether today's directions of a unit are in range
+unfoldable pub waysIn : Book → ℕ → Bool
+waysIn b u = every (λ (f : Figures). leb (f .way) 2) (unitOf b u .figures)
+
+-- what a declaration lent as amounts by period raises and lowers
+abbrev pub declared : List ℕ → List ℕ → Declaration
+declared raising lowering = record { raising = λ p. getD raising p 0; lowering = λ p. getD lowering p 0 }
+
+-- 19, 20 or 21 for the first of hours, term and volume that does not fit with a declaration added, or 0; here every
+-- period is looked at, which on a sound book is the same as looking at those where the declaration has energy
+unfoldable pub misfitOf : Book → ℕ → Declaration → ℕ
+misfitOf b u d =
+    firstOf
+    (check 19 (not (all (periods (b .days)) (hourFits b u d)))
+    ∷ check 20 (not (termFits b u d))
+    ∷ check 21 (not (volumeFits b u d))
+    ∷ [])
+
+-- r is what the fit of a unit came to: 0 only if today's directions are in range too
+pub record Fitted (b : Book) (u : ℕ) (d : Declaration) (r : ℕ) : Type 0 where
+  pub clean : waysIn b u ≡ true → r ≡ misfitOf b u d
+  pub dirty : waysIn b u ≡ false → r ≡ 0 → ⊥
+
+-- the numbers of the open offers
+abbrev pub offerNumbers : Book → List ℕ
+offerNumbers b = map (λ (o : OpenOffer). o .number) (b .offers)
+
+-- whether no open order has a number, and none an open offer's
+unfoldable pub numberFree : Book → ℕ → Bool
+numberFree b n = every (λ (o : OpenOrder). not (eqb n (o .number))) (b .orders)
+
+unfoldable pub numbersFree : Book → Bool
+numbersFree b = every (λ (f : OpenOffer). numberFree b (f .number)) (b .offers)
+
+-- whether two orders may stand together in a phase, and whether all of a list may
+unfoldable pub pairFits : ℕ → OpenOrder → OpenOrder → Bool
+pairFits phase a b = oneWay a b && (not (eqb phase rollingPhase) || (apart a b && apart b a))
+
+unfoldable pub pairsFit : ℕ → List OpenOrder → Bool
+pairsFit phase os = eachTwo oneWay os && (not (eqb phase rollingPhase) || eachTwo apart os)

@@ -1,4 +1,6 @@
 // The book of a term: opening, the eight calls and the curve (paper 01).
+mod numbers;
+mod pairs;
 mod ranges;
 
 // What a call answers: its number and count of rows, or the refusal.

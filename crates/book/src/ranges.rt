@@ -8,12 +8,14 @@ ghost use mathlib.Core.List.{List};
 ghost use Prim.Native.Nat.{ℕ, _+_, _*_, _-_, _<_, _≤_, min};
 ghost use lib.ListN.{length};
 ghost use Rattle.measures.specs.Ranges.{mostEnergy};
-ghost use Rattle.measures.specs.Lists.{table};
+ghost use Rattle.measures.specs.Lists.{table, every};
 ghost use Rattle.measures.specs.Sharing.{total};
-ghost use Rattle.limits.specs.Units.{periods};
-ghost use Rattle.book.specs.Sound.{headIn};
-ghost use Rattle.book.specs.Layout.{word, decode, enough, amountAt};
-ghost use Rattle.book.specs.Readable.{Readable, unitFieldsIn, unitsFieldsIn};
+ghost use Rattle.limits.specs.Units.{periods, generator};
+ghost use Rattle.matching.specs.Memory.{orderAt};
+ghost use Rattle.book.specs.Book.{Book, unitOf};
+ghost use Rattle.book.specs.Sound.{headIn, offerIn, orderIn};
+ghost use Rattle.book.specs.Layout.{word, decode, enough, amountAt, offerAt, ordersPart};
+ghost use Rattle.book.specs.Readable.{Readable, unitFieldsIn, unitsFieldsIn, sidesIn};
 
 // The offers that stand open.
 pub struct Offer {
@@ -127,4 +129,153 @@ pub fn offer_total(book: &[u64], j: usize) -> u64
         p += 1;
     }
     whole
+}
+
+// Whether a unit that is enrolled is a generator.
+pub fn is_generator(book: &[u64], unit: u64) -> bool
+    requires { ⌜ (Readable (now book)) × (1 ≤ unit) × (unit ≤ word (now book) 5) ⌝ }
+    ensures { λ r. ⌜ r ≡ generator (unitOf (decode (now (book .entry))) unit .kind) ⌝ }
+{
+    let kind = book[8 + 3 * (unit as usize - 1)];
+    if kind < 1 {
+        return false;
+    }
+    if 2 < kind {
+        return false;
+    }
+    true
+}
+
+// Whether a partner is none, or an enrolled load for a generator.
+pub fn sides_fit(book: &[u64], unit: u64, partner: u64) -> bool
+    requires { ⌜ (Readable (now book)) × (1 ≤ unit) × (unit ≤ word (now book) 5) ⌝ }
+    ensures { λ r. ⌜ r ≡ sidesIn (decode (now (book .entry))) unit partner ⌝ }
+{
+    if partner == 0 {
+        return true;
+    }
+    if book[5] < partner {
+        return false;
+    }
+    if !is_generator(book, unit) {
+        return false;
+    }
+    if is_generator(book, partner) {
+        return false;
+    }
+    true
+}
+
+// The offer at place j.
+fn offer_in(book: &[u64], j: usize) -> bool
+    requires { ⌜ (Readable (now book)) × (j < 8) ⌝ }
+    ensures { λ r. ⌜ r ≡ offerIn (decode (now (book .entry))) (offerAt (now (book .entry)) (word (now (book .entry)) 0) j) ⌝ }
+{
+    let number = book[200 + 5 * j];
+    if number < 1 {
+        return false;
+    }
+    if book[4] < number {
+        return false;
+    }
+    let unit = book[201 + 5 * j];
+    if unit < 1 {
+        return false;
+    }
+    if book[5] < unit {
+        return false;
+    }
+    let price = book[203 + 5 * j];
+    if price < book[1] {
+        return false;
+    }
+    if book[2] < price {
+        return false;
+    }
+    if 1 < book[204 + 5 * j] {
+        return false;
+    }
+    let whole = offer_total(book, j);
+    if whole < 1 {
+        return false;
+    }
+    if Energy::MOST < whole {
+        return false;
+    }
+    sides_fit(book, unit, book[202 + 5 * j])
+}
+
+// All open offers.
+pub fn offers_in(book: &[u64]) -> bool
+    requires { ⌜ Readable (now book) ⌝ }
+    ensures { λ r. ⌜ r ≡ every (offerIn (decode (now (book .entry)))) (decode (now (book .entry)) .offers) ⌝ }
+{
+    let n = book[6] as usize;
+    let mut j: usize = 0;
+    while j < n {
+        if !offer_in(book, j) {
+            return false;
+        }
+        j += 1;
+    }
+    true
+}
+
+// The order at place k.
+fn order_in(book: &[u64], k: usize) -> bool
+    requires { ⌜ (Readable (now book)) × (k < 256) ⌝ }
+    ensures { λ r. ⌜ r ≡ orderIn (decode (now (book .entry))) (orderAt (ordersPart (now (book .entry))) k) ⌝ }
+{
+    let at = 240 + 6 * k;
+    let number = book[at];
+    if number < 1 {
+        return false;
+    }
+    if book[4] < number {
+        return false;
+    }
+    let unit = book[at + 1];
+    if unit < 1 {
+        return false;
+    }
+    if book[5] < unit {
+        return false;
+    }
+    if 1 < book[at + 2] {
+        return false;
+    }
+    if 24 * book[0] <= book[at + 3] {
+        return false;
+    }
+    let price = book[at + 4];
+    if price < book[1] {
+        return false;
+    }
+    if book[2] < price {
+        return false;
+    }
+    let quantity = book[at + 5];
+    if quantity < 1 {
+        return false;
+    }
+    if Energy::MOST < quantity {
+        return false;
+    }
+    true
+}
+
+// All open orders.
+pub fn orders_in(book: &[u64]) -> bool
+    requires { ⌜ Readable (now book) ⌝ }
+    ensures { λ r. ⌜ r ≡ every (orderIn (decode (now (book .entry)))) (decode (now (book .entry)) .orders) ⌝ }
+{
+    let n = book[7] as usize;
+    let mut k: usize = 0;
+    while k < n {
+        if !order_in(book, k) {
+            return false;
+        }
+        k += 1;
+    }
+    true
 }

@@ -11,7 +11,7 @@ ghost use Rattle.matching.specs.Memory.{ordersIn};
 ghost use Rattle.matching.specs.Answers.{fit};
 
 // Whether the numbers of the first n orders rise: each is above the one before it.
-fn numbers_rise(orders: &[u64], n: usize) -> bool
+pub fn numbers_rise(orders: &[u64], n: usize) -> bool
     requires { ⌜ (6 * n ≤ length (now orders)) × (n ≤ 256) ⌝ }
     ensures { λ r. ⌜ r ≡ rising (numbers (ordersIn (now (orders .entry)) n)) ⌝ }
 {

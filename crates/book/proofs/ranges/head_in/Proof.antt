@@ -5,78 +5,58 @@ use Rattle.book.proofs.RangeFacts.{Head, head-fails, head-holds}
 use borrow.Author.Needs.{needs}
 use Rattle.book.proofs.ranges.head_in.Statement.{statement}
 use Rattle.book.proofs.ranges.head_in.Tie as tie
-use Rattle.book.proofs.ranges.head_in.Reads as reads
-use Rattle.book.proofs.ranges.head_in.Lts as lts
 
--- src/ranges.rt:40:16
 shared-slice-read-days : tie.Need-shared-slice-read-days
 shared-slice-read-days c = search needs
 
--- src/ranges.rt:42:9
 returns : tie.Need-returns
 returns c = head-fails _ (λ h. omega arith)
 
--- src/ranges.rt:45:9
 returns-2 : tie.Need-returns-2
 returns-2 c = head-fails _ (λ h. omega arith)
 
--- src/ranges.rt:47:19
 shared-slice-read-ceiling : tie.Need-shared-slice-read-ceiling
 shared-slice-read-ceiling c = search needs
 
--- src/ranges.rt:48:18
 shared-slice-read-if3 : tie.Need-shared-slice-read-if3
 shared-slice-read-if3 c = search needs
 
--- src/ranges.rt:49:9
 returns-3 : tie.Need-returns-3
 returns-3 c = head-fails _ (λ h. omega arith)
 
--- src/ranges.rt:52:9
 returns-4 : tie.Need-returns-4
 returns-4 c = head-fails _ (λ h. omega arith)
 
--- src/ranges.rt:54:12
 shared-slice-read-if5 : tie.Need-shared-slice-read-if5
 shared-slice-read-if5 c = search needs
 
--- src/ranges.rt:55:9
 returns-5 : tie.Need-returns-5
 returns-5 c = head-fails _ (λ h. omega arith)
 
--- src/ranges.rt:57:25
 shared-slice-read-if6 : tie.Need-shared-slice-read-if6
 shared-slice-read-if6 c = search needs
 
--- src/ranges.rt:58:9
 returns-6 : tie.Need-returns-6
 returns-6 c = head-fails _ (λ h. omega arith)
 
--- src/ranges.rt:60:13
 shared-slice-read-if7 : tie.Need-shared-slice-read-if7
 shared-slice-read-if7 c = search needs
 
--- src/ranges.rt:61:9
 returns-7 : tie.Need-returns-7
 returns-7 c = head-fails _ (λ h. omega arith)
 
--- src/ranges.rt:63:22
 shared-slice-read-if8 : tie.Need-shared-slice-read-if8
 shared-slice-read-if8 c = search needs
 
--- src/ranges.rt:64:9
 returns-8 : tie.Need-returns-8
 returns-8 c = head-fails _ (λ h. omega arith)
 
--- src/ranges.rt:66:14
 shared-slice-read-if9 : tie.Need-shared-slice-read-if9
 shared-slice-read-if9 c = search needs
 
--- src/ranges.rt:67:9
 returns-9 : tie.Need-returns-9
 returns-9 c = head-fails _ (λ h. omega arith)
 
--- src/ranges.rt:36:1
 returns-10 : tie.Need-returns-10
 returns-10 c =
     sym

@@ -9,8 +9,6 @@ use Rattle.book.specs.Layout.{word, amountAt}
 use borrow.Author.Needs.{needs}
 use Rattle.book.proofs.ranges.offer_total.Statement.{statement}
 use Rattle.book.proofs.ranges.offer_total.Tie as tie
-use Rattle.book.proofs.ranges.offer_total.Reads as reads
-use Rattle.book.proofs.ranges.offer_total.Lts as lts
 
 abbrev Inv-loop : tie.InvT-loop
 Inv-loop book j top whole₀ p₀ whole p = (p ≤ 24 * word book 0) × (whole ≤ mostEnergy) × (whole ≡ sum p (amountAt book j))
@@ -18,71 +16,55 @@ Inv-loop book j top whole₀ p₀ whole p = (p ≤ 24 * word book 0) × (whole �
 abbrev μ-loop : tie.MeasureT-loop
 μ-loop book j top whole₀ p₀ whole p = 24 * word book 0 - p
 
--- src/ranges.rt:118:21
 shared-slice-read-top : tie.Need-shared-slice-read-top Inv-loop μ-loop
 shared-slice-read-top c = search needs
 
--- src/ranges.rt:118:15
 mul-top : tie.Need-mul-top Inv-loop μ-loop
 mul-top c = search needs
 
--- src/ranges.rt:121:5
 loop-holds : tie.Need-loop-holds Inv-loop μ-loop
 loop-holds c = (search needs, search needs, sym (sum-none _))
 
--- src/ranges.rt:122:29
 mul-a : tie.Need-mul-a Inv-loop μ-loop
 mul-a c = search needs
 
--- src/ranges.rt:122:22
 add-a : tie.Need-add-a Inv-loop μ-loop
 add-a c = search needs
 
--- src/ranges.rt:122:22
 add-a-2 : tie.Need-add-a-2 Inv-loop μ-loop
 add-a-2 c = search needs
 
--- src/ranges.rt:122:17
 mul-a-2 : tie.Need-mul-a-2 Inv-loop μ-loop
 mul-a-2 c = search needs
 
--- src/ranges.rt:122:17
 shared-slice-read-a : tie.Need-shared-slice-read-a Inv-loop μ-loop
 shared-slice-read-a c = search needs
 
--- src/ranges.rt:123:16
 sub-if1 : tie.Need-sub-if1 Inv-loop μ-loop
 sub-if1 c = search needs
 
--- src/ranges.rt:124:20
 add-result : tie.Need-add-result Inv-loop μ-loop
 add-result c = search needs
 
--- src/ranges.rt:124:13
 returns : tie.Need-returns Inv-loop μ-loop
 returns c =
     let l = c .before .before .before in
     capped-over mostEnergy _ (l .loop .p) (l .loop .whole) _ (omega arith) (l .loop .inv .2) (omega arith)
 
--- src/ranges.rt:126:9
 add-whole : tie.Need-add-whole Inv-loop μ-loop
 add-whole c = search needs
 
--- src/ranges.rt:127:9
 add-p : tie.Need-add-p Inv-loop μ-loop
 add-p c = search needs
 
--- src/ranges.rt:121:5
 loop-less : tie.Need-loop-less Inv-loop μ-loop
 loop-less c = search needs
 
--- src/ranges.rt:121:5
 loop-again : tie.Need-loop-again Inv-loop μ-loop
 loop-again c =
     let l = c .before .before .before in
     (omega arith, omega arith, capped-more 0 0 (l .loop .p) (l .loop .whole) _ (l .loop .inv .2))
 
--- src/ranges.rt:114:1
 returns-2 : tie.Need-returns-2 Inv-loop μ-loop
 returns-2 c =
     let l = c .before in

@@ -5,78 +5,58 @@ use Rattle.book.proofs.RangeFacts.{UnitFields, unit-fails, unit-holds}
 use borrow.Author.Needs.{needs}
 use Rattle.book.proofs.ranges.unit_in.Statement.{statement}
 use Rattle.book.proofs.ranges.unit_in.Tie as tie
-use Rattle.book.proofs.ranges.unit_in.Reads as reads
-use Rattle.book.proofs.ranges.unit_in.Lts as lts
 
--- src/ranges.rt:77:25
 mul-kind : tie.Need-mul-kind
 mul-kind c = search needs
 
--- src/ranges.rt:77:21
 add-kind : tie.Need-add-kind
 add-kind c = search needs
 
--- src/ranges.rt:77:16
 mul-kind-2 : tie.Need-mul-kind-2
 mul-kind-2 c = search needs
 
--- src/ranges.rt:77:16
 shared-slice-read-kind : tie.Need-shared-slice-read-kind
 shared-slice-read-kind c = search needs
 
--- src/ranges.rt:79:9
 returns : tie.Need-returns
 returns c = unit-fails _ _ (λ h. omega arith)
 
--- src/ranges.rt:82:9
 returns-2 : tie.Need-returns-2
 returns-2 c = unit-fails _ _ (λ h. omega arith)
 
--- src/ranges.rt:84:29
 mul-capacity : tie.Need-mul-capacity
 mul-capacity c = search needs
 
--- src/ranges.rt:84:25
 add-capacity : tie.Need-add-capacity
 add-capacity c = search needs
 
--- src/ranges.rt:84:20
 mul-capacity-2 : tie.Need-mul-capacity-2
 mul-capacity-2 c = search needs
 
--- src/ranges.rt:84:20
 shared-slice-read-capacity : tie.Need-shared-slice-read-capacity
 shared-slice-read-capacity c = search needs
 
--- src/ranges.rt:86:9
 returns-3 : tie.Need-returns-3
 returns-3 c = unit-fails _ _ (λ h. omega arith)
 
--- src/ranges.rt:89:9
 returns-4 : tie.Need-returns-4
 returns-4 c = unit-fails _ _ (λ h. omega arith)
 
--- src/ranges.rt:91:33
 mul-if5 : tie.Need-mul-if5
 mul-if5 c = search needs
 
--- src/ranges.rt:91:28
 add-if5 : tie.Need-add-if5
 add-if5 c = search needs
 
--- src/ranges.rt:91:23
 mul-if5-2 : tie.Need-mul-if5-2
 mul-if5-2 c = search needs
 
--- src/ranges.rt:91:23
 shared-slice-read-if5 : tie.Need-shared-slice-read-if5
 shared-slice-read-if5 c = search needs
 
--- src/ranges.rt:92:9
 returns-5 : tie.Need-returns-5
 returns-5 c = unit-fails _ _ (λ h. omega arith)
 
--- src/ranges.rt:73:1
 returns-6 : tie.Need-returns-6
 returns-6 c = sym (unit-holds _ _ (record { kind = omega arith; capacity = omega arith; asset = omega arith }))
 

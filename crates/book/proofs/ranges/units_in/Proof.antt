@@ -11,9 +11,6 @@ use Rattle.book.specs.Readable.{unitFieldsIn}
 use borrow.Author.Needs.{needs}
 use Rattle.book.proofs.ranges.units_in.Statement.{statement}
 use Rattle.book.proofs.ranges.units_in.Tie as tie
-use Rattle.book.proofs.ranges.units_in.Reads as reads
-use Rattle.book.proofs.ranges.units_in.Lts as lts
-use Rattle.book.proofs.ranges.unit_in.Reads as unit-in-reads
 
 abbrev Inv-loop : tie.InvT-loop
 Inv-loop book n k₀ k = (k ≤ word book 5) × (all k (unitFieldsIn book) ≡ true)
@@ -21,35 +18,27 @@ Inv-loop book n k₀ k = (k ≤ word book 5) × (all k (unitFieldsIn book) ≡ t
 abbrev μ-loop : tie.MeasureT-loop
 μ-loop book n k₀ k = word book 5 - k
 
--- src/ranges.rt:102:13
 shared-slice-read-n : tie.Need-shared-slice-read-n Inv-loop μ-loop
 shared-slice-read-n c = search needs
 
--- src/ranges.rt:104:5
 loop-holds : tie.Need-loop-holds Inv-loop μ-loop
 loop-holds c = (search needs, all-none _)
 
--- src/ranges.rt:105:13
 unit-in-requires : tie.Need-unit-in-requires Inv-loop μ-loop
 unit-in-requires c κs = search needs
 
--- src/ranges.rt:106:13
 returns : tie.Need-returns Inv-loop μ-loop
 returns c = sym (all-fails _ _ (c .before .before .before .loop .k) (omega arith) (sym (c .before .unit-in .ensures) ∙ not-true _ (c .if1 .taken)))
 
--- src/ranges.rt:108:9
 add-k : tie.Need-add-k Inv-loop μ-loop
 add-k c = search needs
 
--- src/ranges.rt:104:5
 loop-less : tie.Need-loop-less Inv-loop μ-loop
 loop-less c = search needs
 
--- src/ranges.rt:104:5
 loop-again : tie.Need-loop-again Inv-loop μ-loop
 loop-again c = (search needs, all-more (c .before .before .before .loop .k) _ (c .before .before .before .loop .inv .1) (sym (c .before .unit-in .ensures) ∙ not-false _ (c .if1 .left)))
 
--- src/ranges.rt:98:1
 returns-2 : tie.Need-returns-2 Inv-loop μ-loop
 returns-2 c =
     let l = c .before in

@@ -1,0 +1,59 @@
+-- `numbers_differ`: the three tests of `numbersDiffer`, one by one.
+use mathlib.Core.Path.{_≡_, sym, ap, _∙_}
+use mathlib.Core.Bool.{true, false}
+use borrow.Author.Tests.{not-true, not-false}
+use Rattle.matching.specs.Orders.{Order as OpenOrder, rising, numbers}
+use Rattle.book.specs.Layout.{decode}
+use Rattle.book.proofs.NumberLaws.{differ-offers, differ-orders, differ-free, orders-from}
+use borrow.Author.Needs.{needs}
+use Rattle.book.proofs.numbers.numbers_differ.Statement.{statement}
+use Rattle.book.proofs.numbers.numbers_differ.Tie as tie
+
+offers-rise-requires : tie.Need-offers-rise-requires
+offers-rise-requires c κs = search needs
+
+returns : tie.Need-returns
+returns c = differ-offers _ (sym (c .before .offers-rise .ensures) ∙ not-true _ (c .if1 .taken))
+
+shared-slice-read-n : tie.Need-shared-slice-read-n
+shared-slice-read-n c = search needs
+
+sub-numbers-rise : tie.Need-sub-numbers-rise
+sub-numbers-rise c = search needs
+
+part-numbers-rise-start : tie.Need-part-numbers-rise-start
+part-numbers-rise-start c = search needs
+
+part-numbers-rise-end : tie.Need-part-numbers-rise-end
+part-numbers-rise-end c = search needs
+
+numbers-rise-requires : tie.Need-numbers-rise-requires
+numbers-rise-requires c κs = search needs
+
+returns-2 : tie.Need-returns-2
+returns-2 c = differ-orders (c .before .before .before .before .before .before .before .args .book .now) (rw (orders-from (c .before .before .before .before .before .before .before .args .book .now)) (sym (c .before .numbers-rise .ensures) ∙ not-true _ (c .if2 .taken)))
+
+numbers-free-requires : tie.Need-numbers-free-requires
+numbers-free-requires c κs = search needs
+
+returns-3 : tie.Need-returns-3
+returns-3 c =
+    c .numbers-free .ensures
+    ∙ differ-free (c .before .before .before .before .before .before .before .before .args .book .now)
+    (sym (c .before .before .before .before .before .before .offers-rise .ensures) ∙ not-false _ (c .before .before .before .before .before .if1 .left))
+    (rw (orders-from (c .before .before .before .before .before .before .before .before .args .book .now)) (sym (c .before .before .numbers-rise .ensures) ∙ not-false _ (c .before .if2 .left)))
+
+pub numbers-differ-spec : {M : Type 1} → statement M
+numbers-differ-spec =
+    tie.close
+    (tie.spec
+    offers-rise-requires
+    returns
+    shared-slice-read-n
+    sub-numbers-rise
+    part-numbers-rise-start
+    part-numbers-rise-end
+    numbers-rise-requires
+    returns-2
+    numbers-free-requires
+    returns-3)

@@ -1,0 +1,63 @@
+-- `orders_in`: each one passed is in range.
+use Prim.Native.Nat.{ℕ, _≤_, _-_}
+use mathlib.Core.Path.{_≡_, sym, _∙_}
+use mathlib.Core.Bool.{true}
+use native.Mathlib.Omega.{arith}
+use borrow.Author.Tests.{not-true, not-false}
+use Rattle.measures.specs.Lists.{all}
+use Rattle.measures.proofs.ListLaws.{all-none, all-more, all-fails}
+use Rattle.matching.specs.Memory.{orderAt}
+use Rattle.book.specs.Sound.{orderIn}
+use Rattle.book.specs.Layout.{word, decode, offerAt, ordersPart}
+use Rattle.book.proofs.RangeFacts.{orders-every}
+use borrow.Author.Needs.{needs}
+use Rattle.book.proofs.ranges.orders_in.Statement.{statement}
+use Rattle.book.proofs.ranges.orders_in.Tie as tie
+
+abbrev Inv-loop : tie.InvT-loop
+Inv-loop book n k₀ k = (k ≤ word book 7) × (all k (λ i. orderIn (decode book) (orderAt (ordersPart book) i)) ≡ true)
+
+abbrev μ-loop : tie.MeasureT-loop
+μ-loop book n k₀ k = word book 7 - k
+
+shared-slice-read-n : tie.Need-shared-slice-read-n Inv-loop μ-loop
+shared-slice-read-n c = search needs
+
+loop-holds : tie.Need-loop-holds Inv-loop μ-loop
+loop-holds c = (search needs, all-none _)
+
+order-in-requires : tie.Need-order-in-requires Inv-loop μ-loop
+order-in-requires c κs = search needs
+
+returns : tie.Need-returns Inv-loop μ-loop
+returns c = sym (orders-every _ ∙ all-fails _ _ (c .before .before .before .loop .k) (omega arith) (sym (c .before .order-in .ensures) ∙ not-true _ (c .if1 .taken)))
+
+add-k : tie.Need-add-k Inv-loop μ-loop
+add-k c = search needs
+
+loop-less : tie.Need-loop-less Inv-loop μ-loop
+loop-less c = search needs
+
+loop-again : tie.Need-loop-again Inv-loop μ-loop
+loop-again c = (search needs, all-more (c .before .before .before .loop .k) _ (c .before .before .before .loop .inv .1) (sym (c .before .order-in .ensures) ∙ not-false _ (c .if1 .left)))
+
+returns-2 : tie.Need-returns-2 Inv-loop μ-loop
+returns-2 c =
+    let l = c .before in
+    let e : l .loop .k ≡ word (l .before .before .before .args .book .now) 7 = omega arith in
+    sym (orders-every _ ∙ (rw e at (l .loop .inv .1)))
+
+pub orders-in-spec : {M : Type 1} → statement M
+orders-in-spec =
+    tie.close
+    (tie.spec
+    Inv-loop
+    μ-loop
+    shared-slice-read-n
+    loop-holds
+    order-in-requires
+    returns
+    add-k
+    loop-less
+    loop-again
+    returns-2)

@@ -1,0 +1,77 @@
+// Whether open numbers differ: paper 01, "A book is sound if".
+ghost use mathlib.Core.Path.{_≡_};
+ghost use mathlib.Core.Bool.{not};
+ghost use mathlib.Core.List.{List, map};
+ghost use Prim.Native.Nat.{ℕ, _+_, _*_, _-_, _<_, _≤_};
+ghost use lib.ListN.{length};
+ghost use lib.Dec.{eqb};
+ghost use Rattle.measures.specs.Lists.{every};
+ghost use Rattle.matching.specs.Orders.{Order as OpenOrder, rising};
+ghost use Rattle.book.specs.Sound.{numbersDiffer};
+ghost use Rattle.book.specs.Layout.{word, decode};
+ghost use Rattle.book.specs.Readable.{Readable, offerNumbers, numberFree, numbersFree};
+
+// Whether the numbers of the open offers rise: each is above the one before it.
+fn offers_rise(book: &[u64]) -> bool
+    requires { ⌜ Readable (now book) ⌝ }
+    ensures { λ r. ⌜ r ≡ rising (offerNumbers (decode (now (book .entry)))) ⌝ }
+{
+    let n = book[6] as usize;
+    let mut j: usize = 1;
+    while j < n {
+        let number = book[200 + 5 * j];
+        let before = book[200 + 5 * (j - 1)];
+        if number <= before {
+            return false;
+        }
+        j += 1;
+    }
+    true
+}
+
+// Whether no open order has this number.
+fn number_free(book: &[u64], number: u64) -> bool
+    requires { ⌜ Readable (now book) ⌝ }
+    ensures { λ r. ⌜ r ≡ numberFree (decode (now (book .entry))) number ⌝ }
+{
+    let n = book[7] as usize;
+    let mut k: usize = 0;
+    while k < n {
+        if number == book[240 + 6 * k] {
+            return false;
+        }
+        k += 1;
+    }
+    true
+}
+
+// Whether no open offer has an order's number.
+fn numbers_free(book: &[u64]) -> bool
+    requires { ⌜ Readable (now book) ⌝ }
+    ensures { λ r. ⌜ r ≡ numbersFree (decode (now (book .entry))) ⌝ }
+{
+    let n = book[6] as usize;
+    let mut j: usize = 0;
+    while j < n {
+        if !number_free(book, book[200 + 5 * j]) {
+            return false;
+        }
+        j += 1;
+    }
+    true
+}
+
+// Whether all open numbers differ.
+pub fn numbers_differ(book: &[u64]) -> bool
+    requires { ⌜ Readable (now book) ⌝ }
+    ensures { λ r. ⌜ r ≡ numbersDiffer (decode (now (book .entry))) ⌝ }
+{
+    if !offers_rise(book) {
+        return false;
+    }
+    let n = book[7] as usize;
+    if !matching::fitness::numbers_rise(&book[240..1776], n) {
+        return false;
+    }
+    numbers_free(book)
+}
