@@ -27,8 +27,12 @@ decided-is r b o e = go (eqb r 0) refl e
     go true f z = (eqb-true r 0 f, refl)
     go false f z = absurd (eqb-false r 0 f z)
 
+-- that tally and book agree after a call
+abbrev pub AgreeAfter : Tally → Book → Call → Type 0
+AgreeAfter t b c = Agree (tallied t c (answered (outcome b c))) (outcome b c .book)
+
 -- an accepted call is accounted for
-pub accepted-agree : (t : Tally) (b : Book) (c : Call) (o : Outcome) → outcome b c ≡ o → o .refusal ≡ 0 → Agree (accounted t c (answered o)) (o .book) → Agree (tallied t c (answered (outcome b c))) (outcome b c .book)
+pub accepted-agree : (t : Tally) (b : Book) (c : Call) (o : Outcome) → outcome b c ≡ o → o .refusal ≡ 0 → Agree (accounted t c (answered o)) (o .book) → AgreeAfter t b c
 accepted-agree t b c o e z a = rw e (rw (eq-eqb (o .refusal) 0 z) a)
 
 -- a refused call changes nothing

@@ -15,7 +15,7 @@ use Rattle.matching.proofs.EachLaws.{Each}
 use Rattle.book.specs.Book.{Figures, Unit, noUnit, OpenOffer, Book, unitOf, figuresOf}
 use Rattle.book.specs.Opening.{fresh}
 use Rattle.book.specs.Tally.{Member, Amounts, Tally, opened}
-use Rattle.book.specs.Demand3.{memberOf, enrolled, sold, bought}
+use Rattle.book.specs.Demand3.{memberOf, enrolled}
 
 -- what a tally keeps of a unit, and of an offer
 abbrev pub member : Unit → Member

@@ -33,5 +33,6 @@ pub mod WaitingCallLaws
 pub mod TakeTallyLaws
 pub mod ClearTallyLaws
 pub mod MatchTallyLaws
+pub mod RolledTallyLaws
 pub mod OrderTallyLaws
 pub mod ListsLaws

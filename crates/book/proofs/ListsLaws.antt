@@ -13,7 +13,7 @@ use Rattle.book.specs.Demand3.{Demand3, tallyAfter, OverEveryList}
 use Rattle.book.proofs.AgreeLaws.{Agree, agree-start}
 use Rattle.book.proofs.StandingLaws.{standing}
 use Rattle.book.proofs.DemandLaws.{demand-from}
-use Rattle.book.proofs.AcceptedLaws.{refused-tally}
+use Rattle.book.proofs.AcceptedLaws.{AgreeAfter, refused-tally}
 use Rattle.book.proofs.WaitingCallLaws.{agree-enrol, agree-offer, agree-withdraw, agree-cancel, agree-close}
 use Rattle.book.proofs.TakeTallyLaws.{agree-take}
 use Rattle.book.proofs.OrderTallyLaws.{agree-order}
@@ -22,7 +22,7 @@ use Rattle.book.proofs.KeepLaws.{fresh-sound}
 use Rattle.book.proofs.SoundAfter.{sound-after, refused-unchanged}
 
 -- tally and book agree after each accepted call
-pub agree-after : (t : Tally) (b : Book) (c : Call) → Agree t b → sound b ≡ true → outcome b c .refusal ≡ 0 → Agree (tallied t c (answered (outcome b c))) (outcome b c .book)
+pub agree-after : (t : Tally) (b : Book) (c : Call) → Agree t b → sound b ≡ true → outcome b c .refusal ≡ 0 → AgreeAfter t b c
 agree-after t b (enrol kind capacity asset) a s e = agree-enrol t b a (standing b s) kind capacity asset e
 agree-after t b (offer unit partner price amounts) a s e = agree-offer t b a (standing b s) unit partner price amounts e
 agree-after t b (take unit number quantity lent) a s e = agree-take t b a (standing b s) unit number quantity lent e

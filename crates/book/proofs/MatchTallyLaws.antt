@@ -5,29 +5,18 @@ use mathlib.Core.Logic.{inl, inr}
 use mathlib.Core.Bool.{Bool, true, false, cond, _&&_}
 use mathlib.Core.List.{List, [], _∷_}
 use native.Mathlib.Omega.{arith}
-use borrow.Author.Tests.{eq-eqb, ne-eqb, lt-leb, lt-ltb, ltb-true}
-use lib.Dec.{eqb, leb, ltb}
-use Rattle.measures.specs.Lists.{keep, every}
-use Rattle.measures.proofs.ListLaws.{both-ways, and-left, and-right}
-use Rattle.matching.specs.Orders.{Order as OpenOrder, less, lessen, rising, numbers, insert, laid}
+use borrow.Author.Tests.{eq-eqb, ne-eqb, lt-leb, ltb-false}
+use lib.Dec.{eqb, leb}
+use Rattle.measures.specs.Lists.{keep}
+use Rattle.measures.proofs.ListLaws.{both-ways, cond-case}
+use Rattle.matching.specs.Orders.{Order as OpenOrder, less, lessen, insert, laid}
 use Rattle.matching.specs.Rolling.{candidate, aheadFor, counterparts}
-use Rattle.matching.proofs.EachLaws.{Each, Has, each-map, each-keep, has-each, kept}
+use Rattle.matching.proofs.EachLaws.{Each, Has, Pairs, each-keep, each-has, has-each, kept}
 use Rattle.matching.proofs.LaidLaws.{laid-each}
+use Rattle.matching.proofs.LessenLaws.{Numbered}
 use Rattle.matching.proofs.CandidateLaws.{ahead-equal}
+use Rattle.matching.proofs.RollingLaws.{best-first}
 use Rattle.book.specs.Tally.{orderLessened}
-use Rattle.book.proofs.MapLaws.{each-unmap}
-use Rattle.book.proofs.RemainLaws.{each-of}
-
--- the first number of a rising list is below the others
-rise-first : (o : OpenOrder) (os : List OpenOrder) → rising (numbers (o ∷ os)) ≡ true → Each (λ (y : OpenOrder). o .number < y .number) os
-unfolding rising
-rise-first o os e =
-    each-unmap (λ n. o .number < n) (λ (y : OpenOrder). y .number) os
-    (each-of (ltb (o .number)) (λ n. o .number < n) (λ n h. ltb-true (o .number) n h) (numbers os) (and-left (every (ltb (o .number)) (numbers os)) (rising (numbers os)) e))
-
-rise-rest : (o : OpenOrder) (os : List OpenOrder) → rising (numbers (o ∷ os)) ≡ true → rising (numbers os) ≡ true
-unfolding rising
-rise-rest o os e = and-right (every (ltb (o .number)) (numbers os)) (rising (numbers os)) e
 
 -- nothing taken off changes nothing
 none-lessened : (u p price x : ℕ) (os : List OpenOrder) → x ≡ 0 → Each (λ (o : OpenOrder). 0 < o .quantity) os → orderLessened u p price x os ≡ os
@@ -55,14 +44,14 @@ alike-self : (c : OpenOrder) → alike c c ≡ true
 alike-self c = rw (eq-eqb (c .unit) (c .unit) refl, eq-eqb (c .period) (c .period) refl, eq-eqb (c .price) (c .price) refl)
 
 -- what is taken off by unit, period and price is taken off that order, where it has the lowest number of them
-pub first-lessened : (c : OpenOrder) (x : ℕ) (os : List OpenOrder) → x ≤ c .quantity → rising (numbers os) ≡ true → Each (λ (o : OpenOrder). 0 < o .quantity) os → Has c os
+pub first-lessened : (c : OpenOrder) (x : ℕ) (os : List OpenOrder) → x ≤ c .quantity → Numbered os → Each (λ (o : OpenOrder). 0 < o .quantity) os → Has c os
     → Each (λ (o : OpenOrder). alike c o ≡ true → c .number ≤ o .number) os → orderLessened (c .unit) (c .period) (c .price) x os ≡ lessen (c .number) x os
 unfolding orderLessened lessen
 first-lessened c x [] l r h m f = refl
-first-lessened c x (o ∷ os) l r h m f = go (alike c o) refl m (λ n. first-lessened c x os l (rise-rest o os r) (h .1) n (f .1))
+first-lessened c x (o ∷ os) l r h m f = go (alike c o) refl m (λ n. first-lessened c x os l (r .1) (h .1) n (f .1))
   where
     above : Has c os → o .number < c .number
-    above n = has-each (λ (y : OpenOrder). o .number < y .number) os c (rise-first o os r) n
+    above n = has-each (λ (y : OpenOrder). o .number < y .number) os c (r .0) n
 
     rest : List OpenOrder
     rest = orderLessened (c .unit) (c .period) (c .price) (x - min x (o .quantity)) os
@@ -82,7 +71,31 @@ first-lessened c x (o ∷ os) l r h m f = go (alike c o) refl m (λ n. first-les
     go false e (inl q) ih = both-ways (sym (alike-self c) ∙ ap (alike c) q ∙ e)
     go false e (inr n) ih = let k = above n in rw (ne-eqb (o .number) (c .number) (omega arith)) (ap (λ (y : List OpenOrder). o ∷ y) (ih n))
 
--- the counterpart laid first has the lowest number of its price
+-- each candidate is among the counterparts
+insert-has : (ahead : OpenOrder → OpenOrder → Bool) (o x : OpenOrder) (os : List OpenOrder) → Has x (o ∷ os) → Has x (insert ahead o os)
+unfolding insert
+insert-has ahead o x [] m = m
+insert-has ahead o x (y ∷ os) m =
+    cond-case (λ (l : List OpenOrder). Has x l) (ahead o y) (o ∷ y ∷ os) (y ∷ insert ahead o os) (λ e. m) (λ e. behind (λ n. insert-has ahead o x os n) m)
+  where
+    behind : (Has x (o ∷ os) → Has x (insert ahead o os)) → Has x (o ∷ y ∷ os) → Has x (y ∷ insert ahead o os)
+    behind ih (inl q) = inr (ih (inl q))
+    behind ih (inr (inl q)) = inl q
+    behind ih (inr (inr n)) = inr (ih (inr n))
+
+laid-has : (ahead : OpenOrder → OpenOrder → Bool) (x : OpenOrder) (os : List OpenOrder) → Has x os → Has x (laid ahead os)
+unfolding laid
+laid-has ahead x [] m = m
+laid-has ahead x (o ∷ os) (inl q) = insert-has ahead o x (laid ahead os) (inl q)
+laid-has ahead x (o ∷ os) (inr m) = insert-has ahead o x (laid ahead os) (inr (laid-has ahead x os m))
+
+keep-has : (f : OpenOrder → Bool) (x : OpenOrder) (os : List OpenOrder) → f x ≡ true → Has x os → Has x (keep f os)
+keep-has f x [] e m = m
+keep-has f x (o ∷ os) e (inl q) = rw (ap f (sym q) ∙ e) (inl q)
+keep-has f x (o ∷ os) e (inr m) =
+    let ih = keep-has f x os e m in
+    cond-case (λ (l : List OpenOrder). Has x l) (f o) (o ∷ keep f os) (keep f os) (λ h. inr ih) (λ h. ih)
+
 module _ (i : OpenOrder) where
   pub counterparts-each : (P : OpenOrder → Type 0) (os : List OpenOrder) → Each P os → Each P (counterparts i os)
   unfolding counterparts
@@ -92,49 +105,20 @@ module _ (i : OpenOrder) where
   unfolding counterparts
   counterparts-are os = laid-each (aheadFor i) (λ (o : OpenOrder). candidate i o ≡ true) (keep (candidate i) os) (kept (candidate i) os)
 
-  -- no counterpart of the same price has a lower number than c
-  abbrev pub Lowest : OpenOrder → List OpenOrder → Type 0
-  Lowest c os = Each (λ (o : OpenOrder). candidate i o ≡ true → o .price ≡ c .price → c .number ≤ o .number) os
+  counterparts-has : (x : OpenOrder) (os : List OpenOrder) → candidate i x ≡ true → Has x os → Has x (counterparts i os)
+  unfolding counterparts
+  counterparts-has x os e m = laid-has (aheadFor i) x (keep (candidate i) os) (keep-has (candidate i) x os e m)
 
-  lowest-new : (o : OpenOrder) (os : List OpenOrder) → rising (numbers (o ∷ os)) ≡ true → Lowest o (o ∷ os)
-  lowest-new o os r =
-      (λ c e. omega arith, each-map (λ (y : OpenOrder). o .number < y .number) (λ (y : OpenOrder). candidate i y ≡ true → y .price ≡ o .price → o .number ≤ y .number) os (λ y h c e. omega arith) (rise-first o os r))
-
-  -- what is laid first, one order more in front
-  data First (o : OpenOrder) (os : List OpenOrder) : List OpenOrder → Type 0 where
-    fresh : {cs : List OpenOrder} → First o os (o ∷ cs)
-    older : {c : OpenOrder} {cs ds : List OpenOrder} → (candidate i o ≡ true → o .price ≡ c .price → c .number ≤ o .number) → counterparts i os ≡ c ∷ ds → First o os (c ∷ cs)
-    nothing : First o os []
-
-  inserted : (o : OpenOrder) (os ds : List OpenOrder) → counterparts i os ≡ ds → Each (λ (y : OpenOrder). o .number < y .number) ds → First o os (insert (aheadFor i) o ds)
-  unfolding insert
-  inserted o os [] e h = fresh
-  inserted o os (c ∷ ds) e h = go (aheadFor i o c) refl
+  -- the one laid first has the lowest number of its price
+  pub laid-lowest : (c : OpenOrder) (cs os : List OpenOrder) → counterparts i os ≡ c ∷ cs → Each (λ (o : OpenOrder). candidate i o ≡ true → o .price ≡ c .price → c .number ≤ o .number) os
+  laid-lowest c cs os e = each-has (λ (o : OpenOrder). candidate i o ≡ true → o .price ≡ c .price → c .number ≤ o .number) os at
     where
-      go : (b : Bool) → aheadFor i o c ≡ b → First o os (cond b (o ∷ c ∷ ds) (c ∷ insert (aheadFor i) o ds))
-      go true f = fresh
-      go false f = older (λ k p. both-ways (sym (lt-ltb (o .number) (c .number) (h .0)) ∙ sym (ahead-equal o c i p) ∙ f)) e
+      behind : Pairs (λ (a b : OpenOrder). aheadFor i b a ≡ false) (c ∷ cs)
+      behind = rw e at (best-first i os)
 
-  passed-by : (o : OpenOrder) (os ds : List OpenOrder) → candidate i o ≡ false → counterparts i os ≡ ds → First o os ds
-  passed-by o os [] k e = nothing
-  passed-by o os (c ∷ ds) k e = older (λ h p. both-ways (sym h ∙ k)) e
+      go : (o : OpenOrder) → o .price ≡ c .price → Has o (c ∷ cs) → c .number ≤ o .number
+      go o p (inl q) = let n : o .number ≡ c .number = ap (λ (y : OpenOrder). y .number) q in omega arith
+      go o p (inr m) = ltb-false (o .number) (c .number) (sym (ahead-equal o c i p) ∙ has-each (λ (y : OpenOrder). aheadFor i y c ≡ false) cs o (behind .0) m)
 
-  first-of : (o : OpenOrder) (os : List OpenOrder) → rising (numbers (o ∷ os)) ≡ true → First o os (counterparts i (o ∷ os))
-  unfolding counterparts laid
-  first-of o os r = go (candidate i o) refl
-    where
-      go : (b : Bool) → candidate i o ≡ b → First o os (laid (aheadFor i) (cond b (o ∷ keep (candidate i) os) (keep (candidate i) os)))
-      go true e = inserted o os (counterparts i os) refl (counterparts-each (λ (y : OpenOrder). o .number < y .number) os (rise-first o os r))
-      go false e = passed-by o os (counterparts i os) e refl
-
-  pub laid-lowest : (c : OpenOrder) (cs os : List OpenOrder) → rising (numbers os) ≡ true → counterparts i os ≡ c ∷ cs → Lowest c os
-  laid-lowest c cs [] r e = tt
-  laid-lowest c cs (o ∷ os) r e = go (counterparts i (o ∷ os)) e (first-of o os r) (λ d ds f. laid-lowest d ds os (rise-rest o os r) f)
-    where
-      same : (d : OpenOrder) (ds : List OpenOrder) → d ∷ ds ≡ c ∷ cs → d ≡ c
-      same d ds f = cc
-
-      go : (l : List OpenOrder) → l ≡ c ∷ cs → First o os l → ((d : OpenOrder) (ds : List OpenOrder) → counterparts i os ≡ d ∷ ds → Lowest d os) → Lowest c (o ∷ os)
-      go (d ∷ ds) f fresh ih = rw (← same d ds f) (lowest-new o os r)
-      go (d ∷ ds) f (older h g) ih = rw (← same d ds f) (h, ih d _ g)
-      go [] f nothing ih = let z : _≡_ {A = ℕ} 0 1 = cc in absurd (omega arith)
+      at : (o : OpenOrder) → Has o os → candidate i o ≡ true → o .price ≡ c .price → c .number ≤ o .number
+      at o m k p = go o p (rw e at (counterparts-has o os k m))

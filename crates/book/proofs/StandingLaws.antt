@@ -17,6 +17,10 @@ use Rattle.book.proofs.RemainLaws.{each-of, each-at}
 use Rattle.book.proofs.FitLaws.{Fits}
 use Rattle.book.proofs.SoundLaws.{UnitRanges, OfferRanges, OrderRanges, sound-facts}
 
+-- a unit's orders of a period go one way
+abbrev pub OneWays : List OpenOrder → Type 0
+OneWays os = Each (λ (a : OpenOrder). Each (λ (o : OpenOrder). oneWay a o ≡ true) os) os
+
 pub record Standing (b : Book) : Type 0 where
   pub long : (u : ℕ) → In 1 (length (b .units)) u → length (unitOf b u .figures) ≡ periods (b .days)
   pub fits : (u : ℕ) → In 1 (length (b .units)) u → Fits b u nothing
@@ -24,9 +28,9 @@ pub record Standing (b : Book) : Type 0 where
   pub orders : Each (OrderRanges b) (b .orders)
   pub offersRise : rising (map (λ (o : OpenOffer). o .number) (b .offers)) ≡ true
   pub ordersRise : rising (numbers (b .orders)) ≡ true
-  pub oneWays : Each (λ (a : OpenOrder). Each (λ (o : OpenOrder). oneWay a o ≡ true) (b .orders)) (b .orders)
+  pub oneWays : OneWays (b .orders)
 
-one-ways : (os : List OpenOrder) → eachTwo oneWay os ≡ true → Each (λ (a : OpenOrder). Each (λ (o : OpenOrder). oneWay a o ≡ true) os) os
+one-ways : (os : List OpenOrder) → eachTwo oneWay os ≡ true → OneWays os
 unfolding eachTwo
 one-ways os e =
     each-of (λ (a : OpenOrder). every (oneWay a) os) (λ (a : OpenOrder). Each (λ (o : OpenOrder). oneWay a o ≡ true) os)

@@ -20,14 +20,14 @@ use Rattle.book.specs.Book.{OpenOffer, noOffer, Book, unitOf, offersOf, 
 use Rattle.book.specs.Trades.{rowsBooked}
 use Rattle.book.specs.Refusals.{accepted}
 use Rattle.book.specs.Take.{takenParts, takeRefusal, takeRowsFrom, wayOf, takeRows, lessEach, offerLess, offersLess, taking}
-use Rattle.book.specs.Calls.{take, outcome, answered}
-use Rattle.book.specs.Tally.{Amounts, Tally, lessAt, offerLessened, takeTallied, accounted, tallied}
+use Rattle.book.specs.Calls.{take, outcome}
+use Rattle.book.specs.Tally.{Amounts, Tally, lessAt, offerLessened, takeTallied, accounted}
 use Rattle.book.proofs.AgreeLaws.{amountsOf, remains, Parties, Agree}
 use Rattle.book.proofs.StandingLaws.{Standing}
 use Rattle.book.proofs.SoundLaws.{OfferRanges}
 use Rattle.book.proofs.MapLaws.{each-unmap}
 use Rattle.book.proofs.RefusalLaws.{none-applies}
-use Rattle.book.proofs.AcceptedLaws.{decided-is, accepted-agree, agree-changed}
+use Rattle.book.proofs.AcceptedLaws.{AgreeAfter, decided-is, accepted-agree, agree-changed}
 
 -- amounts after rows, each taken off in its period
 unfoldable amountsLess : List Row → List ℕ → List ℕ
@@ -191,8 +191,7 @@ module _ (t : Tally) (b : Book) (a : Agree t b) (w : Standing b) where
   something-left : Each (λ (o : OpenOffer). remains (amountsOf o) ≡ true) (b .offers)
   something-left = each-unmap (λ x. remains x ≡ true) amountsOf (b .offers) (rw (a .offers) at (kept remains (t .offers)))
 
-  pub agree-take : (unit number quantity lent : ℕ) → outcome b (take unit number quantity lent) .refusal ≡ 0
-      → Agree (tallied t (take unit number quantity lent) (answered (outcome b (take unit number quantity lent)))) (outcome b (take unit number quantity lent) .book)
+  pub agree-take : (unit number quantity lent : ℕ) → outcome b (take unit number quantity lent) .refusal ≡ 0 → AgreeAfter t b (take unit number quantity lent)
   unfolding taking takeRefusal accounted
   agree-take unit number quantity lent e =
       let ps = takenParts b number quantity in

@@ -28,13 +28,13 @@ use Rattle.book.specs.Offer.{offerRefusal, offered, offering}
 use Rattle.book.specs.Withdraw.{withdrawRefusal, withdrawal}
 use Rattle.book.specs.Cancel.{cancelRefusal, cancellation}
 use Rattle.book.specs.Close.{dayOver, unitDayOver, dayClosed, closing}
-use Rattle.book.specs.Calls.{enrol, offer, withdraw, cancel, close, outcome, answered}
-use Rattle.book.specs.Tally.{Member, Amounts, Tally, accounted, tallied}
+use Rattle.book.specs.Calls.{enrol, offer, withdraw, cancel, close, outcome}
+use Rattle.book.specs.Tally.{Member, Amounts, Tally, accounted}
 use Rattle.book.proofs.AgreeLaws.{member, amountsOf, remains, soldIn, boughtIn, Figured, AllFigured, Parties, Agree}
 use Rattle.book.proofs.StandingLaws.{Standing}
 use Rattle.book.proofs.MapLaws.{map-join, keep-keep, keep-map}
 use Rattle.book.proofs.RefusalLaws.{none-applies}
-use Rattle.book.proofs.AcceptedLaws.{decided-is, accepted-agree, agree-head, agree-changed}
+use Rattle.book.proofs.AcceptedLaws.{AgreeAfter, decided-is, accepted-agree, agree-head, agree-changed}
 
 -- a unit that no row names has traded nothing
 figured-none : (kind s d : ℕ) → s ≡ 0 → d ≡ 0 → Figured kind s d noFigures
@@ -93,8 +93,7 @@ map-over [] = refl
 map-over (u ∷ us) = ap (λ (l : List Member). member u ∷ l) (map-over us)
 
 module _ (t : Tally) (b : Book) (a : Agree t b) (w : Standing b) where
-  pub agree-enrol : (kind capacity asset : ℕ) → outcome b (enrol kind capacity asset) .refusal ≡ 0
-      → Agree (tallied t (enrol kind capacity asset) (answered (outcome b (enrol kind capacity asset)))) (outcome b (enrol kind capacity asset) .book)
+  pub agree-enrol : (kind capacity asset : ℕ) → outcome b (enrol kind capacity asset) .refusal ≡ 0 → AgreeAfter t b (enrol kind capacity asset)
   unfolding enrolment accounted
   agree-enrol kind capacity asset e =
       let after = withUnit b kind capacity asset in
@@ -110,8 +109,7 @@ module _ (t : Tally) (b : Book) (a : Agree t b) (w : Standing b) where
         figures = rw (append-nil (t .rows)) (joined-figured b x (t .rows) refl (a .parties) (a .figures));
       })
 
-  pub agree-offer : (unit partner price : ℕ) (amounts : List ℕ) → outcome b (offer unit partner price amounts) .refusal ≡ 0
-      → Agree (tallied t (offer unit partner price amounts) (answered (outcome b (offer unit partner price amounts)))) (outcome b (offer unit partner price amounts) .book)
+  pub agree-offer : (unit partner price : ℕ) (amounts : List ℕ) → outcome b (offer unit partner price amounts) .refusal ≡ 0 → AgreeAfter t b (offer unit partner price amounts)
   unfolding offering offerRefusal accounted rowsBooked
   agree-offer unit partner price amounts e =
       let o = accepted (nextNumber b) [] (offered b unit partner price amounts) in
@@ -126,8 +124,7 @@ module _ (t : Tally) (b : Book) (a : Agree t b) (w : Standing b) where
       accepted-agree t b (offer unit partner price amounts) o (d .1) refl
       (agree-head _ _ (agree-changed t b a w [] (t .offers ++ (amountsOf x ∷ [])) (b .offers ++ (x ∷ [])) (t .orders) (b .orders) tt f (a .orders)) (b .phase) (nextNumber b))
 
-  pub agree-withdraw : (unit number : ℕ) → outcome b (withdraw unit number) .refusal ≡ 0
-      → Agree (tallied t (withdraw unit number) (answered (outcome b (withdraw unit number)))) (outcome b (withdraw unit number) .book)
+  pub agree-withdraw : (unit number : ℕ) → outcome b (withdraw unit number) .refusal ≡ 0 → AgreeAfter t b (withdraw unit number)
   unfolding withdrawal accounted rowsBooked
   agree-withdraw unit number e =
       let os = keep (λ (o : OpenOffer). not (eqb (o .number) number)) (b .offers) in
@@ -140,8 +137,7 @@ module _ (t : Tally) (b : Book) (a : Agree t b) (w : Standing b) where
       accepted-agree t b (withdraw unit number) o (d .1) refl
       (agree-changed t b a w [] (keep (λ (o : Amounts). not (eqb (o .number) number)) (t .offers)) os (t .orders) (b .orders) tt f (a .orders))
 
-  pub agree-cancel : (unit number : ℕ) → outcome b (cancel unit number) .refusal ≡ 0
-      → Agree (tallied t (cancel unit number) (answered (outcome b (cancel unit number)))) (outcome b (cancel unit number) .book)
+  pub agree-cancel : (unit number : ℕ) → outcome b (cancel unit number) .refusal ≡ 0 → AgreeAfter t b (cancel unit number)
   unfolding cancellation accounted rowsBooked
   agree-cancel unit number e =
       let f : OpenOrder → Bool = λ o. not (eqb (o .number) number) in
@@ -157,7 +153,7 @@ module _ (t : Tally) (b : Book) (a : Agree t b) (w : Standing b) where
       rw (List·getD-map unitDayOver (b .units) (u - 1) noUnit)
       (rw (List·getD-map dayOver (unitOf b u .figures) p noFigures) (over (unitOf b u .kind) (soldIn (t .rows) u p) (boughtIn (t .rows) u p) (figuresOf b u p) (omega arith) (a .figures u p h l)))
 
-  pub agree-close : outcome b close .refusal ≡ 0 → Agree (tallied t close (answered (outcome b close))) (outcome b close .book)
+  pub agree-close : outcome b close .refusal ≡ 0 → AgreeAfter t b close
   unfolding closing accounted
   agree-close e =
       let d = decided-is (firstOf (unsound b ∷ [])) b (accepted 0 [] (dayClosed b)) e in
