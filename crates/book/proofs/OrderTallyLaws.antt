@@ -15,7 +15,6 @@ use Rattle.matching.specs.Orders.{Order as OpenOrder, Row, buys, leaving}
 use Rattle.matching.specs.Rolling.{counterparts, Match, matches, matchRow, afterMatches, meet}
 use Rattle.matching.proofs.EachLaws.{Each, each-map, each-all}
 use Rattle.matching.proofs.SumLaws.{sumOf-ext}
-use Rattle.matching.proofs.CounterpartLaws.{some}
 use Rattle.book.specs.Book.{Book, callPhase, nextNumber}
 use Rattle.book.specs.Trades.{rowsBooked}
 use Rattle.book.specs.Order.{orderRefusal, newOrder, waiting, orderedInCall, orderedInRolling, ordering}
@@ -82,7 +81,6 @@ module _ (t : Tally) (b : Book) (a : Agree t b) (w : Standing b) (unit direction
   rolled-agree h e =
       let ms = matches quantity (counterparts incoming (b .orders)) in
       let rs = map (matchRow incoming) ms in
-      let m = meet incoming (b .orders) in
       let tor = orderTallied direction rs (t .orders) ++ orderLeft (nextNumber b) unit direction period price quantity rs in
       let bor = afterMatches ms (b .orders) ++ waiting (leaving incoming (quantity - sumOf (λ (m : Match). m .quantity) ms)) in
       let f : tor ≡ bor =
