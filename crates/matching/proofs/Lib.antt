@@ -25,3 +25,4 @@ pub mod RollingLaws
 pub mod ExchangeLaws
 pub mod MetLaws
 pub mod FiguresHold
+pub mod RollingFigure
