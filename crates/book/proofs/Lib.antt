@@ -28,3 +28,17 @@ pub mod TakeLaws
 pub mod TakingLaws
 pub mod CallLaws
 pub mod SoundAfter
+pub mod MapLaws
+pub mod AgreeLaws
+pub mod StandingLaws
+pub mod PartLaws
+pub mod DemandLaws
+pub mod BookedLaws
+pub mod AcceptedLaws
+pub mod WaitingCallLaws
+pub mod TakeTallyLaws
+pub mod ClearTallyLaws
+pub mod MatchTallyLaws
+pub mod RolledTallyLaws
+pub mod OrderTallyLaws
+pub mod ListsLaws
