@@ -4,6 +4,7 @@ mod curve;
 mod numbers;
 pub mod opening;
 mod pairs;
+mod fits;
 mod ranges;
 
 // What a call answers: its number and count of rows, or the refusal.

@@ -6,6 +6,12 @@ pub mod LaidLaws
 pub mod AheadLaws
 pub mod VolumeLaws
 pub mod WalkLaws
+pub mod OverlapLaws
+pub mod TakingLaws
+pub mod LayingLaws
+pub mod PickLaws
+pub mod PlaceLaws
+pub mod StepLaws
 pub mod MarginLaws
 pub mod FillLaws
 pub mod SumLaws
@@ -22,4 +28,7 @@ pub mod CounterpartLaws
 pub mod TakeOffLaws
 pub mod MeetingLaws
 pub mod RollingLaws
+pub mod ExchangeLaws
+pub mod MetLaws
 pub mod FiguresHold
+pub mod RollingFigure

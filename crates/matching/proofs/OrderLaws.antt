@@ -54,6 +54,93 @@ module _ (m : List ℕ) (n k v : ℕ) (hk : k < n) (hm : 6 * n ≤ length m) whe
       table-set n (orderAt m) (orderAt (set m (6 * k + 5) v)) k (leaving (orderAt m k) v) noOrder hk at-place
       (λ j hj ne. order-same (set m (6 * k + 5) v) m j j (λ f hf. keep (6 * j + f) (omega arith)))
 
+-- the stores of an order to place k
+module _ (m : List ℕ) (n k : ℕ) (o : Order) (hk : k < n) (hm : 6 * n ≤ length m) where
+  abbrev s0 : List ℕ
+  s0 = set m (6 * k) (o .number)
+
+  abbrev s1 : List ℕ
+  s1 = set s0 (6 * k + 1) (o .unit)
+
+  abbrev s2 : List ℕ
+  s2 = set s1 (6 * k + 2) (o .direction)
+
+  abbrev s3 : List ℕ
+  s3 = set s2 (6 * k + 3) (o .period)
+
+  abbrev s4 : List ℕ
+  s4 = set s3 (6 * k + 4) (o .price)
+
+  abbrev six : List ℕ
+  six = set s4 (6 * k + 5) (o .quantity)
+
+  stays : (i : ℕ) → (i ≡ 6 * k → ⊥) → (i ≡ 6 * k + 1 → ⊥) → (i ≡ 6 * k + 2 → ⊥) → (i ≡ 6 * k + 3 → ⊥) → (i ≡ 6 * k + 4 → ⊥) → (i ≡ 6 * k + 5 → ⊥) → getD six i 0 ≡ getD m i 0
+  stays i h0 h1 h2 h3 h4 h5 =
+      getD-set-other s4 (6 * k + 5) i (o .quantity) 0 h5
+      ∙ getD-set-other s3 (6 * k + 4) i (o .price) 0 h4
+      ∙ getD-set-other s2 (6 * k + 3) i (o .period) 0 h3
+      ∙ getD-set-other s1 (6 * k + 2) i (o .direction) 0 h2
+      ∙ getD-set-other s0 (6 * k + 1) i (o .unit) 0 h1
+      ∙ getD-set-other m (6 * k) i (o .number) 0 h0
+
+  at0 : getD six (6 * k) 0 ≡ o .number
+  at0 = getD-set-other s4 (6 * k + 5) (6 * k) (o .quantity) 0 (omega arith)
+      ∙ getD-set-other s3 (6 * k + 4) (6 * k) (o .price) 0 (omega arith)
+      ∙ getD-set-other s2 (6 * k + 3) (6 * k) (o .period) 0 (omega arith)
+      ∙ getD-set-other s1 (6 * k + 2) (6 * k) (o .direction) 0 (omega arith)
+      ∙ getD-set-other s0 (6 * k + 1) (6 * k) (o .unit) 0 (omega arith)
+      ∙ getD-set-same m (6 * k) (o .number) 0 (omega arith)
+
+  at1 : getD six (6 * k + 1) 0 ≡ o .unit
+  at1 = getD-set-other s4 (6 * k + 5) (6 * k + 1) (o .quantity) 0 (omega arith)
+      ∙ getD-set-other s3 (6 * k + 4) (6 * k + 1) (o .price) 0 (omega arith)
+      ∙ getD-set-other s2 (6 * k + 3) (6 * k + 1) (o .period) 0 (omega arith)
+      ∙ getD-set-other s1 (6 * k + 2) (6 * k + 1) (o .direction) 0 (omega arith)
+      ∙ getD-set-same s0 (6 * k + 1) (o .unit) 0 (simp length-set (omega arith))
+
+  at2 : getD six (6 * k + 2) 0 ≡ o .direction
+  at2 = getD-set-other s4 (6 * k + 5) (6 * k + 2) (o .quantity) 0 (omega arith)
+      ∙ getD-set-other s3 (6 * k + 4) (6 * k + 2) (o .price) 0 (omega arith)
+      ∙ getD-set-other s2 (6 * k + 3) (6 * k + 2) (o .period) 0 (omega arith)
+      ∙ getD-set-same s1 (6 * k + 2) (o .direction) 0 (simp length-set (omega arith))
+
+  at3 : getD six (6 * k + 3) 0 ≡ o .period
+  at3 = getD-set-other s4 (6 * k + 5) (6 * k + 3) (o .quantity) 0 (omega arith)
+      ∙ getD-set-other s3 (6 * k + 4) (6 * k + 3) (o .price) 0 (omega arith)
+      ∙ getD-set-same s2 (6 * k + 3) (o .period) 0 (simp length-set (omega arith))
+
+  at4 : getD six (6 * k + 4) 0 ≡ o .price
+  at4 = getD-set-other s4 (6 * k + 5) (6 * k + 4) (o .quantity) 0 (omega arith)
+      ∙ getD-set-same s3 (6 * k + 4) (o .price) 0 (simp length-set (omega arith))
+
+  at5 : getD six (6 * k + 5) 0 ≡ o .quantity
+  at5 = getD-set-same s4 (6 * k + 5) (o .quantity) 0 (simp length-set (omega arith))
+
+  placed : orderAt six k ≡ o
+  placed = rw (at0, at1, at2, at3, at4, at5)
+
+  pub order-written : ordersIn six n ≡ set (ordersIn m n) k o
+  unfolding ordersIn
+  order-written =
+      table-set n (orderAt m) (orderAt six) k o noOrder hk placed
+      (λ j hj ne. order-same six m j j (λ f hf. stays (6 * j + f) (omega arith) (omega arith) (omega arith) (omega arith) (omega arith) (omega arith)))
+
+  pub past-written : drop (6 * n) six ≡ drop (6 * n) m
+  past-written =
+      drop-set-lt (6 * n) s4 (6 * k + 5) (o .quantity) (omega arith)
+      ∙ drop-set-lt (6 * n) s3 (6 * k + 4) (o .price) (omega arith)
+      ∙ drop-set-lt (6 * n) s2 (6 * k + 3) (o .period) (omega arith)
+      ∙ drop-set-lt (6 * n) s1 (6 * k + 2) (o .direction) (omega arith)
+      ∙ drop-set-lt (6 * n) s0 (6 * k + 1) (o .unit) (omega arith)
+      ∙ drop-set-lt (6 * n) m (6 * k) (o .number) (omega arith)
+
+-- the first of the orders
+pub orders-take : (m : List ℕ) (n c : ℕ) → c ≤ n → ordersIn m c ≡ take c (ordersIn m n)
+orders-take m n c h =
+    let ln = orders-length m n in
+    orders-ext m c (take c (ordersIn m n)) (length-take-le c (ordersIn m n) (omega arith))
+    (λ k hk. sym (getD-take c (ordersIn m n) k noOrder hk ∙ orders-at m n k (omega arith)))
+
 -- the orders behind place k moved up
 module _ (m x : List ℕ) (n k : ℕ) (hk : k < n) (low : (i : ℕ) → i < 6 * k → getD x i 0 ≡ getD m i 0) (high : (i : ℕ) → 6 * k ≤ i → i < 6 * n - 6 → getD x i 0 ≡ getD m (i + 6) 0) where
   pub moved : ordersIn x (n - 1) ≡ (take k (ordersIn m n) ++ drop (suc k) (ordersIn m n))

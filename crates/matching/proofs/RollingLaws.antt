@@ -71,14 +71,14 @@ rows-each i P Q [] h e = tt
 rows-each i P Q (d ∷ ms) h e = (h d (e .0), rows-each i P Q ms h (e .1))
 
 -- an order that is met stands among the waiting ones, and is a candidate
-abbrev Met : Order → List Order → Order → Type 0
-Met i os o = (candidate i o ≡ true) × Has o os
+abbrev Counterpart : Order → List Order → Order → Type 0
+Counterpart i os o = (candidate i o ≡ true) × Has o os
 
-counterparts-met : (i : Order) (os : List Order) → Each (Met i os) (counterparts i os)
+counterparts-met : (i : Order) (os : List Order) → Each (Counterpart i os) (counterparts i os)
 unfolding counterparts
 counterparts-met i os =
-    laid-each (aheadFor i) (Met i os) (keep (candidate i) os)
-    (each-both (λ o. candidate i o ≡ true) (λ o. Has o os) (Met i os) (keep (candidate i) os) (λ o c h. (c, h))
+    laid-each (aheadFor i) (Counterpart i os) (keep (candidate i) os)
+    (each-both (λ o. candidate i o ≡ true) (λ o. Has o os) (Counterpart i os) (keep (candidate i) os) (λ o c h. (c, h))
     (kept (candidate i) os) (each-keep (λ o. Has o os) (candidate i) os (has-self os)))
 
 -- where each waiting order has something open, each row trades something
@@ -141,7 +141,7 @@ pub record Sides (i : Order) (os : List Order) (r : Row) : Type 0 where
   pub period : r .period ≡ i .period
   pub price : r .price ≡ waiting .price
 
-sides : (i : Order) (os : List Order) (d : Match) → Met i os (d .order) → Sides i os (matchRow i d)
+sides : (i : Order) (os : List Order) (d : Match) → Counterpart i os (d .order) → Sides i os (matchRow i d)
 unfolding matchRow
 sides i os d m =
     cond-case (Sides i os) (buys (i .direction)) _ _
@@ -151,13 +151,13 @@ sides i os d m =
 pub row-sides : (i : Order) (os : List Order) → Each (Sides i os) (meet i os .rows)
 unfolding meet
 row-sides i os =
-    rows-each i (λ d. Met i os (d .order)) (Sides i os) (matches (i .quantity) (counterparts i os)) (sides i os)
-    (matches-each (Met i os) (i .quantity) (counterparts i os) (counterparts-met i os))
+    rows-each i (λ d. Counterpart i os (d .order)) (Sides i os) (matches (i .quantity) (counterparts i os)) (sides i os)
+    (matches-each (Counterpart i os) (i .quantity) (counterparts i os) (counterparts-met i os))
 
 -- where nothing is laid, there is no candidate
-keep-none : (f : Order → Bool) (os : List Order) → length (keep f os) ≡ 0 → Each (λ o. f o ≡ false) os
-keep-none f [] e = tt
-keep-none f (o ∷ os) e = go (f o) refl (λ h. keep-none f os h) e
+none-kept : (f : Order → Bool) (os : List Order) → length (keep f os) ≡ 0 → Each (λ o. f o ≡ false) os
+none-kept f [] e = tt
+none-kept f (o ∷ os) e = go (f o) refl (λ h. none-kept f os h) e
   where
     go : (b : Bool) → f o ≡ b → (length (keep f os) ≡ 0 → Each (λ o. f o ≡ false) os) → length (cond b (o ∷ keep f os) (keep f os)) ≡ 0 → (f o ≡ false) × Each (λ o. f o ≡ false) os
     go true h ih z = absurd (omega arith)
@@ -165,7 +165,7 @@ keep-none f (o ∷ os) e = go (f o) refl (λ h. keep-none f os h) e
 
 no-counterpart : (i : Order) (os : List Order) → counterparts i os ≡ [] → Each (λ o. candidate i o ≡ false) os
 unfolding counterparts
-no-counterpart i os e = keep-none (candidate i) os (sym (laid-length (aheadFor i) (keep (candidate i) os)) ∙ ap length e)
+no-counterpart i os e = none-kept (candidate i) os (sym (laid-length (aheadFor i) (keep (candidate i) os)) ∙ ap length e)
 
 -- if some of the incoming order is left, no order left over is a candidate for it
 crosses-none : (f : ℕ) (i : Order) (os : List Order) (q : ℕ) → q + length os ≤ f → rising (numbers os) ≡ true

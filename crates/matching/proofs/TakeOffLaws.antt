@@ -7,14 +7,12 @@ use native.Mathlib.Omega.{arith}
 use native.Mathlib.Nat.{not-suc-le-zero}
 use native.Mathlib.Numerals.{add-one}
 use borrow.Author.Tests.{eq-eqb, ne-eqb, le-leb, lt-leb}
-use lib.ListN.{length, getD, take, drop, set, length-map, List·getD-map}
-use lib.Dec.{eqb, leb, ltb}
-use Rattle.measures.specs.Lists.{every}
-use Rattle.measures.proofs.ListLaws.{cond-case, and-true, and-left, and-right}
+use lib.ListN.{length, getD, take, drop, set}
 use Rattle.matching.specs.Orders.{Order, leaving, less, lessen, rising, numbers}
 use Rattle.matching.specs.Memory.{orderAt, ordersIn, noOrder}
 use Rattle.matching.proofs.OrderLaws.{orders-length, orders-at}
-use Rattle.matching.proofs.FitLaws.{rising-at}
+use Rattle.matching.proofs.EachLaws.{each-at}
+use Rattle.matching.proofs.LessenLaws.{Numbered, rising-numbered, numbered-rising, lessen-numbered}
 use Rattle.matching.proofs.CounterpartLaws.{without}
 
 -- the orders without the one at place b
@@ -30,58 +28,35 @@ without-length b [] l = absurd (not-suc-le-zero l)
 without-length zero (o ∷ os) l = refl
 without-length (suc b) (o ∷ os) l = ap suc (without-length b os (omega arith))
 
--- from rising numbers the first is below all others
-first-below : (o : Order) (os : List Order) (b : ℕ) → rising (numbers (o ∷ os)) ≡ true → b < length os → o .number < getD os b noOrder .number
-first-below o os b e l =
-    let u : suc b < length (numbers (o ∷ os)) = omega (arith, length-map os (λ (x : Order). x .number)) in
-    let h = rising-at (numbers (o ∷ os)) e 0 (suc b) (omega arith) u in
-    rw (List·getD-map (λ (x : Order). x .number) os b noOrder) at h
-
-rest-rises : (o : Order) (os : List Order) → rising (numbers (o ∷ os)) ≡ true → rising (numbers os) ≡ true
-unfolding rising
-rest-rises o os e = and-right (every (ltb (o .number)) (numbers os)) (rising (numbers os)) e
-
--- under the number of the order at place b, an emptied order goes
-pub lessen-gone : (os : List Order) (b x : ℕ) → rising (numbers os) ≡ true → b < length os → getD os b noOrder .quantity ≤ x → lessen (getD os b noOrder .number) x os ≡ without b os
+gone : (os : List Order) (b x : ℕ) → Numbered os → b < length os → getD os b noOrder .quantity ≤ x → lessen (getD os b noOrder .number) x os ≡ without b os
 unfolding lessen without
-lessen-gone [] b x e l h = absurd (not-suc-le-zero l)
-lessen-gone (o ∷ os) zero x e l h = rw (eq-eqb (o .number) (o .number) refl, le-leb (o .quantity) x h)
-lessen-gone (o ∷ os) (suc b) x e l h =
-    let u = first-below o os b e (omega arith) in
+gone [] b x e l h = absurd (not-suc-le-zero l)
+gone (o ∷ os) zero x e l h = rw (eq-eqb (o .number) (o .number) refl, le-leb (o .quantity) x h)
+gone (o ∷ os) (suc b) x e l h =
+    let u : o .number < getD os b noOrder .number = each-at (λ (p : Order). o .number < p .number) os b noOrder (e .0) (omega arith) in
     rw (ne-eqb (o .number) (getD os b noOrder .number) (omega arith))
-    (ap (λ (y : List Order). o ∷ y) (lessen-gone os b x (rest-rises o os e) (omega arith) h))
+    (ap (λ (y : List Order). o ∷ y) (gone os b x (e .1) (omega arith) h))
 
--- and another keeps the rest
-pub lessen-kept : (os : List Order) (b x : ℕ) → rising (numbers os) ≡ true → b < length os → x < getD os b noOrder .quantity
-    → lessen (getD os b noOrder .number) x os ≡ set os b (less (getD os b noOrder) x)
+kept : (os : List Order) (b x : ℕ) → Numbered os → b < length os → x < getD os b noOrder .quantity → lessen (getD os b noOrder .number) x os ≡ set os b (less (getD os b noOrder) x)
 unfolding lessen
-lessen-kept [] b x e l h = absurd (not-suc-le-zero l)
-lessen-kept (o ∷ os) zero x e l h = rw (eq-eqb (o .number) (o .number) refl, lt-leb (o .quantity) x h)
-lessen-kept (o ∷ os) (suc b) x e l h =
-    let u = first-below o os b e (omega arith) in
+kept [] b x e l h = absurd (not-suc-le-zero l)
+kept (o ∷ os) zero x e l h = rw (eq-eqb (o .number) (o .number) refl, lt-leb (o .quantity) x h)
+kept (o ∷ os) (suc b) x e l h =
+    let u : o .number < getD os b noOrder .number = each-at (λ (p : Order). o .number < p .number) os b noOrder (e .0) (omega arith) in
     rw (ne-eqb (o .number) (getD os b noOrder .number) (omega arith))
-    (ap (λ (y : List Order). o ∷ y) (lessen-kept os b x (rest-rises o os e) (omega arith) h))
+    (ap (λ (y : List Order). o ∷ y) (kept os b x (e .1) (omega arith) h))
+
+-- under the number of the order at place b, an emptied order goes and another keeps the rest
+module _ (os : List Order) (b x : ℕ) (rises : rising (numbers os) ≡ true) (l : b < length os) where
+  pub lessen-gone : getD os b noOrder .quantity ≤ x → lessen (getD os b noOrder .number) x os ≡ without b os
+  lessen-gone h = gone os b x (rising-numbered os rises) l h
+
+  pub lessen-kept : x < getD os b noOrder .quantity → lessen (getD os b noOrder .number) x os ≡ set os b (less (getD os b noOrder) x)
+  lessen-kept h = kept os b x (rising-numbered os rises) l h
 
 -- numbers that rise rise after it
-lessen-above : (k n x : ℕ) (os : List Order) → every (ltb k) (numbers os) ≡ true → every (ltb k) (numbers (lessen n x os)) ≡ true
-unfolding lessen
-lessen-above k n x [] e = refl
-lessen-above k n x (o ∷ os) e =
-    let h = and-left (ltb k (o .number)) (every (ltb k) (numbers os)) e in
-    let t = and-right (ltb k (o .number)) (every (ltb k) (numbers os)) e in
-    cond-case (λ (l : List Order). every (ltb k) (numbers l) ≡ true) (eqb (o .number) n) _ _
-    (λ c. cond-case (λ (l : List Order). every (ltb k) (numbers l) ≡ true) (leb (o .quantity) x) _ _ (λ d. t) (λ d. e))
-    (λ c. and-true (ltb k (o .number)) (every (ltb k) (numbers (lessen n x os))) h (lessen-above k n x os t))
-
 pub lessen-rises : (n x : ℕ) (os : List Order) → rising (numbers os) ≡ true → rising (numbers (lessen n x os)) ≡ true
-unfolding lessen rising
-lessen-rises n x [] e = refl
-lessen-rises n x (o ∷ os) e =
-    let h = and-left (every (ltb (o .number)) (numbers os)) (rising (numbers os)) e in
-    let t = and-right (every (ltb (o .number)) (numbers os)) (rising (numbers os)) e in
-    cond-case (λ (l : List Order). rising (numbers l) ≡ true) (eqb (o .number) n) _ _
-    (λ c. cond-case (λ (l : List Order). rising (numbers l) ≡ true) (leb (o .quantity) x) _ _ (λ d. t) (λ d. e))
-    (λ c. and-true (every (ltb (o .number)) (numbers (lessen n x os))) (rising (numbers (lessen n x os))) (lessen-above (o .number) n x os h) (lessen-rises n x os t))
+lessen-rises n x os e = numbered-rising (lessen n x os) (lessen-numbered n x os (rising-numbered os e))
 
 -- the same in memory: o stood at place k of m, and m′ is the memory after
 module _ (m m′ : List ℕ) (n k x : ℕ) (o : Order) (rises : rising (numbers (ordersIn m n)) ≡ true) (l : k < n) (eo : o ≡ orderAt m k) where

@@ -4,4 +4,5 @@ pub mod Rolling
 pub mod Best
 pub mod Clearing
 pub mod Answers
+pub mod Places
 pub mod Figures

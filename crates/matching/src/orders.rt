@@ -67,6 +67,20 @@ pub fn leave(orders: &mut [u64], n: usize, k: usize, q: Energy)
     orders[6 * k + 5] = q.0;
 }
 
+// An order takes place k.
+pub fn write(orders: &mut [u64], n: usize, k: usize, o: Order)
+    requires { ⌜ (6 * n ≤ length (now orders)) × (k < n) × (n ≤ 256) ⌝ }
+    ensures { λ _. ⌜ (ordersIn (now (orders .exit)) n ≡ set (ordersIn (now (orders .entry)) n) k (orderOf o)) × (drop (6 * n) (now (orders .exit)) ≡ drop (6 * n) (now (orders .entry))) ⌝ }
+{
+    let at = 6 * k;
+    orders[at] = o.number;
+    orders[at + 1] = o.unit;
+    orders[at + 2] = o.direction;
+    orders[at + 3] = o.period;
+    orders[at + 4] = o.price.0;
+    orders[at + 5] = o.quantity.0;
+}
+
 // The order at place k goes, and those behind it move up by one place.
 pub fn remove(orders: &mut [u64], n: usize, k: usize)
     requires { ⌜ (6 * n ≤ length (now orders)) × (k < n) × (n ≤ 256) ⌝ }

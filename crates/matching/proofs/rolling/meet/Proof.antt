@@ -73,7 +73,8 @@ match-row-requires c κs = search needs
 
 put-row-requires : tie.Need-put-row-requires Inv-loop μ-loop Inv-meeting μ-meeting
 put-row-requires c κs =
-    let some : (c .before .before .before .before .before .before .before .before .before .before .before .meeting .left .0 ≡ 0 → ⊥) = eqb-false _ _ (sym (c .before .before .before .before .before .before .before .before .before .is-zero .ensures) ∙ c .before .before .before .before .before .before .before .before .if2 .left) in
+    let asked = c .before .before .before .before .before .before .before .before in
+    let some : (asked .before .before .before .meeting .left .0 ≡ 0 → ⊥) = eqb-false _ _ (sym (asked .before .is-zero .ensures) ∙ asked .if2 .left) in
     search needs
 
 take-off-requires : tie.Need-take-off-requires Inv-loop μ-loop Inv-meeting μ-meeting
@@ -84,44 +85,54 @@ minus-requires c κs = search needs
 
 add-count : tie.Need-add-count Inv-loop μ-loop Inv-meeting μ-meeting
 add-count c =
-    let g = c .before .before .before .before .before .before .before .before .before .before .before .before .before .before .before .before .before .before .before .meeting .inv in
+    let scanned = c .before .before .before .before .before .before .before .before .before .before .before .before .before .before .before in
+    let g = scanned .before .before .before .before .meeting .inv in
     record { fits = omega (arith, g .room, g .few) }
-
-meeting-less : tie.Need-meeting-less Inv-loop μ-loop Inv-meeting μ-meeting
-meeting-less c =
-    let l = c .before .before .before .before .before .before .before .before .before .before .before .before .before .before .before .loop in
-    let turn = c .before .before .before .take-off in
-    rw (c .minus .ensures)
-    (meeting-falls _ _ _ _ _ _ _ _ _ (c .before .before .before .before .before .before .before .before .before .before .before .before .before .before .before .before .before .before .before .meeting .inv) (turn .last .0) (turn .result) (l .best) (c .before .before .before .before .before .before .before .before .before .before .least .result .0) _
-    (eqb-false _ _ (sym (c .before .before .before .before .before .before .before .before .before .before .before .before .before .before .before .before .before .is-zero .ensures) ∙ c .before .before .before .before .before .before .before .before .before .before .before .before .before .before .before .before .if2 .left))
-    (omega arith)
-    (scan-ends _ _ _ (l .k) (l .best) (omega arith) (l .inv .2))
-    (c .before .before .before .before .before .before .before .before .before .before .before .read .ensures)
-    (c .before .before .before .before .before .before .before .before .before .before .least .ensures)
-    (turn .ensures .0))
 
 meeting-again : tie.Need-meeting-again Inv-loop μ-loop Inv-meeting μ-meeting
 meeting-again c =
-    let g = c .before .before .before .before .before .before .before .before .before .before .before .before .before .before .before .before .before .before .before .meeting .inv in
-    let l = c .before .before .before .before .before .before .before .before .before .before .before .before .before .before .before .loop in
-    let s = c .before .before .before .before .before .before .before .before .before .before .before .before .before .before .before .before .before .before .before .before .before .before .before .before .before .before .before .args in
-    let turn = c .before .before .before .take-off in
-    let row = c .before .before .before .before .before .before .before .put-row in
+    let off = c .before .before .before in
+    let put = off .before .before .before .before in
+    let taken = put .before .before .before in
+    let found = taken .before .before .before in
+    let ended = found .before in
+    let scanned = ended .before in
+    let asked = scanned .before in
+    let at = asked .before .before .before in
+    let start = at .before .before .before .before .before .before .before .before in
+    let g = at .meeting .inv in
+    let l = scanned .loop in
     rw (c .minus .ensures)
-    (meeting-more _ _ _ _ _ _ _ _ _ g (turn .last .0) (turn .result) (l .best) (c .before .before .before .before .before .before .before .before .before .before .least .result .0) _
-    (eqb-false _ _ (sym (c .before .before .before .before .before .before .before .before .before .before .before .before .before .before .before .before .before .is-zero .ensures) ∙ c .before .before .before .before .before .before .before .before .before .before .before .before .before .before .before .before .if2 .left))
+    (meeting-more _ _ _ _ _ _ _ _ _ g (off .take-off .last .0) (off .take-off .result) (l .best) (taken .least .result .0) _
+    (eqb-false _ _ (sym (asked .before .is-zero .ensures) ∙ asked .if2 .left))
+    (omega (arith, found .if3 .left, l .inv .1))
+    (scan-ends _ _ _ (l .k) (l .best) (omega (arith, ended .loop-test .left)) (l .inv .2))
+    (taken .before .read .ensures)
+    (taken .least .ensures)
+    (off .take-off .ensures .0)
+    (put .put-row .last .0)
+    _
+    (off .take-off .ensures .1)
+    (off .take-off .kept .0)
+    (put .put-row .kept .0)
+    (put .before .match-row .ensures)
+    (put .put-row .ensures (start .args .rows .now) (map (matchRow (orderOf (start .args .incoming))) (g .done)) (g .counted) (g .handed)))
+
+meeting-less : tie.Need-meeting-less Inv-loop μ-loop Inv-meeting μ-meeting
+meeting-less c =
+    let off = c .before .before .before in
+    let taken = off .before .before .before .before .before .before .before in
+    let scanned = taken .before .before .before .before .before in
+    let asked = scanned .before in
+    let l = scanned .loop in
+    rw (c .minus .ensures)
+    (meeting-falls _ _ _ _ _ _ _ _ _ (asked .before .before .before .meeting .inv) (off .take-off .last .0) (off .take-off .result) (l .best) (taken .least .result .0) _
+    (eqb-false _ _ (sym (asked .before .is-zero .ensures) ∙ asked .if2 .left))
     (omega arith)
     (scan-ends _ _ _ (l .k) (l .best) (omega arith) (l .inv .2))
-    (c .before .before .before .before .before .before .before .before .before .before .before .read .ensures)
-    (c .before .before .before .before .before .before .before .before .before .before .least .ensures)
-    (turn .ensures .0)
-    (row .last .0)
-    _
-    (turn .ensures .1)
-    (turn .kept .0)
-    (row .kept .0)
-    (c .before .before .before .before .before .before .before .before .match-row .ensures)
-    (row .ensures (s .rows .now) (map (matchRow (orderOf (s .incoming))) (g .done)) (g .counted) (g .handed)))
+    (taken .before .read .ensures)
+    (taken .least .ensures)
+    (off .take-off .ensures .0))
 
 same-length-3 : tie.Need-same-length-3 Inv-loop μ-loop Inv-meeting μ-meeting
 same-length-3 c = search needs
@@ -149,9 +160,11 @@ same-length-8 c = search needs
 
 returns-4 : tie.Need-returns-4 Inv-loop μ-loop Inv-meeting μ-meeting
 returns-4 c =
-    let l = c .before .before .loop in
-    let g = c .before .before .before .before .before .before .meeting in
-    let e : l .best ≡ bestPlace (orderOf (c .before .before .before .before .before .before .before .before .before .before .before .before .before .before .args .incoming)) (ordersIn (g .orders) (g .standing)) = scan-ends _ _ _ (l .k) (l .best) (omega arith) (l .inv .2) in
+    let scanned = c .before .before in
+    let l = scanned .loop in
+    let at = scanned .before .before .before .before in
+    let g = at .meeting in
+    let e : l .best ≡ bestPlace (orderOf (at .before .before .before .before .before .before .before .before .args .incoming)) (ordersIn (g .orders) (g .standing)) = scan-ends _ _ _ (l .k) (l .best) (omega arith) (l .inv .2) in
     ends-alone _ _ _ _ _ _ _ _ _ (g .inv) _ refl (omega arith)
 
 pub meet-spec : {M : Type 1} → statement M
