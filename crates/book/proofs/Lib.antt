@@ -4,6 +4,7 @@ pub mod PairLaws
 pub mod MadeLaws
 pub mod OpeningLaws
 pub mod CurveLaws
+pub mod SoundInLaws
 pub mod ShareLaws
 pub mod PeriodLaws
 pub mod JoinLaws

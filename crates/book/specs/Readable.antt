@@ -10,7 +10,7 @@ use Rattle.measures.specs.Lists.{holds, every, all}
 use Rattle.limits.specs.Units.{mostDays, mostCapacity, periods, kindIn, capacityIn, assetIn}
 use Rattle.matching.specs.Orders.{Order as OpenOrder}
 use Rattle.book.specs.Book.{Figures, OpenOffer, Book, rollingPhase, known, unitOf}
-use Rattle.book.specs.Fit.{Declaration, hourFits, termFits, volumeFits}
+use Rattle.book.specs.Fit.{Declaration, hourFits, termFits, volumeFits, unitFits}
 use Rattle.book.specs.Sound.{bilateralSides, offerIn, orderIn, oneWay, apart, eachTwo}
 use Rattle.book.specs.Refusals.{check, firstOf}
 use Rattle.book.specs.Opening.{bookWords}
@@ -98,3 +98,10 @@ cellClosed m k p =
     set
     (set (set (set m (1776 + 328 * p + 5 * k) (netIn m k p)) (1777 + 328 * p + 5 * k) 0) (1778 + 328 * p + 5 * k) 0)
     (1780 + 328 * p + 5 * k) 0
+
+-- whether a unit fits, with today's directions in range, and whether all do
+unfoldable pub unitWhole : Book → ℕ → Bool
+unitWhole b u = waysIn b u && unitFits b u
+
+unfoldable pub unitsWhole : Book → Bool
+unitsWhole b = all (length (b .units)) (λ k. unitWhole b (k + 1))

@@ -1,11 +1,11 @@
 // The book of a term: opening, the eight calls and the curve (paper 01).
-mod closing;
 mod curve;
+mod fits;
 mod numbers;
 pub mod opening;
 mod pairs;
-mod fits;
 mod ranges;
+mod sound;
 
 // What a call answers: its number and count of rows, or the refusal.
 pub enum Answer {

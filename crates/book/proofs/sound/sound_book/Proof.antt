@@ -1,0 +1,147 @@
+-- `sound_book`: a test that fails contradicts soundness; the fit of the units decides the rest.
+use Prim.Native.Nat.{ℕ, _≤_, _+_, _*_}
+use mathlib.Core.Path.{_≡_, sym, ap, _∙_}
+use mathlib.Core.Bool.{Bool, true, false}
+use mathlib.Core.List.{List}
+use native.Mathlib.Omega.{arith}
+use borrow.Author.Tests.{not-true, not-false}
+use lib.ListN.{length}
+use Rattle.measures.specs.Lists.{every}
+use Rattle.measures.proofs.ListLaws.{not-both}
+use Rattle.book.specs.Sound.{headIn}
+use Rattle.book.specs.Opening.{bookWords}
+use Rattle.book.specs.Layout.{word, decode}
+use Rattle.book.specs.Readable.{Readable, Ranged, pairsFit}
+use Rattle.book.proofs.RangeFacts.{Head, head-facts, readable}
+use Rattle.book.proofs.NumberLaws.{orders-from}
+use Rattle.book.proofs.SoundInLaws.{SoundWords, sound-fails, sound-by-units, never-short, ranged}
+use borrow.Author.Needs.{needs}
+use Rattle.book.proofs.sound.sound_book.Statement.{statement}
+use Rattle.book.proofs.sound.sound_book.Tie as tie
+
+-- what holds once the head and the length passed
+headed : (c : tie.Else3) → headIn (decode (c .before .before .before .before .before .before .args .book .now)) ≡ true
+headed c = sym (c .before .before .before .head-in .ensures) ∙ not-false _ (c .before .before .if2 .left)
+
+long-enough : (c : tie.Else3) → bookWords (word (c .before .before .before .before .before .before .args .book .now) 0) ≤ length (c .before .before .before .before .before .before .args .book .now)
+long-enough c = omega arith
+
+can-read : (c : tie.Else3) → Readable (c .before .before .before .before .before .before .args .book .now)
+can-read c = readable _ (head-facts _ (headed c)) (long-enough c)
+
+-- and once the ranges passed
+in-range : (c : tie.Else6) → Ranged (c .before .before .before .before .before .before .before .before .before .before .before .before .args .book .now)
+in-range c =
+    ranged _ (long-enough (c .before .before .before .before .before .before)) (headed (c .before .before .before .before .before .before))
+    (sym (c .before .before .before .before .before .units-in .ensures) ∙ not-false _ (c .before .before .before .before .if4 .left))
+    (sym (c .before .before .before .offers-in .ensures) ∙ not-false _ (c .before .before .if5 .left))
+    (sym (c .before .orders-in .ensures) ∙ not-false _ (c .if6 .left))
+
+returns : tie.Need-returns
+returns c = sound-fails _ (never-short _ (omega arith))
+
+head-in-requires : tie.Need-head-in-requires
+head-in-requires c κs = search needs
+
+returns-2 : tie.Need-returns-2
+returns-2 c = sound-fails _ (λ s. not-both _ (s .head) (sym (c .before .head-in .ensures) ∙ not-true _ (c .if2 .taken)))
+
+shared-slice-read-days : tie.Need-shared-slice-read-days
+shared-slice-read-days c = search needs
+
+mul-if3 : tie.Need-mul-if3
+mul-if3 c = let h = head-facts (c .before .before .before .before .before .args .book .now) (sym (c .before .before .head-in .ensures) ∙ not-false _ (c .before .if2 .left)) in omega arith
+
+add-if3 : tie.Need-add-if3
+add-if3 c = let h = head-facts (c .before .before .before .before .before .args .book .now) (sym (c .before .before .head-in .ensures) ∙ not-false _ (c .before .if2 .left)) in omega arith
+
+returns-3 : tie.Need-returns-3
+returns-3 c = sound-fails (c .before .before .before .before .before .before .args .book .now) (λ s. let l = s .long in omega arith)
+
+units-in-requires : tie.Need-units-in-requires
+units-in-requires c κs = can-read c
+
+returns-4 : tie.Need-returns-4
+returns-4 c = sound-fails _ (λ s. not-both _ (s .units) (sym (c .before .units-in .ensures) ∙ not-true _ (c .if4 .taken)))
+
+offers-in-requires : tie.Need-offers-in-requires
+offers-in-requires c κs = can-read (c .before .before)
+
+returns-5 : tie.Need-returns-5
+returns-5 c = sound-fails _ (λ s. not-both _ (s .offers) (sym (c .before .offers-in .ensures) ∙ not-true _ (c .if5 .taken)))
+
+orders-in-requires : tie.Need-orders-in-requires
+orders-in-requires c κs = can-read (c .before .before .before .before)
+
+returns-6 : tie.Need-returns-6
+returns-6 c = sound-fails _ (λ s. not-both _ (s .orders) (sym (c .before .orders-in .ensures) ∙ not-true _ (c .if6 .taken)))
+
+numbers-differ-requires : tie.Need-numbers-differ-requires
+numbers-differ-requires c κs = can-read (c .before .before .before .before .before .before)
+
+returns-7 : tie.Need-returns-7
+returns-7 c = sound-fails _ (λ s. not-both _ (s .numbers) (sym (c .before .numbers-differ .ensures) ∙ not-true _ (c .if7 .taken)))
+
+shared-slice-read-n : tie.Need-shared-slice-read-n
+shared-slice-read-n c = search needs
+
+sub-orders-fit : tie.Need-sub-orders-fit
+sub-orders-fit c = search needs
+
+part-orders-fit-start : tie.Need-part-orders-fit-start
+part-orders-fit-start c = search needs
+
+part-orders-fit-end : tie.Need-part-orders-fit-end
+part-orders-fit-end c = search needs
+
+shared-slice-read-orders-fit : tie.Need-shared-slice-read-orders-fit
+shared-slice-read-orders-fit c = search needs
+
+orders-fit-requires : tie.Need-orders-fit-requires
+orders-fit-requires c κs = let r = can-read (c .before .before .before .before .before .before .before .before .before .before .before) in search needs
+
+returns-8 : tie.Need-returns-8
+returns-8 c =
+    let m = c .before .before .before .before .before .before .before .before .before .before .before .before .before .before .before .before .before .before .before .args .book .now in
+    sound-fails m (λ s. not-both _ (s .pairs) (ap (pairsFit (word m 3)) (orders-from m) ∙ sym (c .before .orders-fit .ensures) ∙ not-true _ (c .if8 .taken)))
+
+units-fit-requires : tie.Need-units-fit-requires
+units-fit-requires c κs = in-range (c .before .before .before .before .before .before .before)
+
+returns-9 : tie.Need-returns-9
+returns-9 c =
+    let m = c .before .before .before .before .before .before .before .before .before .before .before .before .before .before .before .before .before .before .before .before .args .book .now in
+    let r = in-range (c .before .before .before .before .before .before .before .before) in
+    c .units-fit .ensures
+    ∙ sound-by-units m (long-enough (c .before .before .before .before .before .before .before .before .before .before .before .before .before .before)) (headed (c .before .before .before .before .before .before .before .before .before .before .before .before .before .before)) (r .units) (r .offers) (r .orders)
+    (sym (c .before .before .before .before .before .before .before .numbers-differ .ensures) ∙ not-false _ (c .before .before .before .before .before .before .if7 .left))
+    (ap (pairsFit (word m 3)) (orders-from m) ∙ sym (c .before .before .orders-fit .ensures) ∙ not-false _ (c .before .if8 .left))
+
+pub sound-book-spec : {M : Type 1} → statement M
+sound-book-spec =
+    tie.close
+    (tie.spec
+    returns
+    head-in-requires
+    returns-2
+    shared-slice-read-days
+    mul-if3
+    add-if3
+    returns-3
+    units-in-requires
+    returns-4
+    offers-in-requires
+    returns-5
+    orders-in-requires
+    returns-6
+    numbers-differ-requires
+    returns-7
+    shared-slice-read-n
+    sub-orders-fit
+    part-orders-fit-start
+    part-orders-fit-end
+    shared-slice-read-orders-fit
+    orders-fit-requires
+    returns-8
+    units-fit-requires
+    returns-9)

@@ -1,0 +1,70 @@
+-- `units_fit`: each unit passed fits.
+use Prim.Native.Nat.{ℕ, _≤_, _+_, _-_}
+use mathlib.Core.Path.{_≡_, sym, _∙_}
+use mathlib.Core.Bool.{true}
+use native.Mathlib.Omega.{arith}
+use borrow.Author.Tests.{not-true, not-false}
+use Rattle.measures.specs.Lists.{all}
+use Rattle.measures.proofs.ListLaws.{all-none, all-more, all-fails}
+use Rattle.book.specs.Layout.{word, decode}
+use Rattle.book.specs.Readable.{unitWhole}
+use Rattle.book.proofs.SoundInLaws.{units-by-places}
+use borrow.Author.Needs.{needs}
+use Rattle.book.proofs.sound.units_fit.Statement.{statement}
+use Rattle.book.proofs.sound.units_fit.Tie as tie
+
+abbrev Inv-loop : tie.InvT-loop
+Inv-loop book n k₀ k = (k ≤ word book 5) × (all k (λ i. unitWhole (decode book) (i + 1)) ≡ true)
+
+abbrev μ-loop : tie.MeasureT-loop
+μ-loop book n k₀ k = word book 5 - k
+
+shared-slice-read-n : tie.Need-shared-slice-read-n Inv-loop μ-loop
+shared-slice-read-n c = search needs
+
+loop-holds : tie.Need-loop-holds Inv-loop μ-loop
+loop-holds c = (search needs, all-none _)
+
+add-unit-fits : tie.Need-add-unit-fits Inv-loop μ-loop
+add-unit-fits c = search needs
+
+unit-fits-requires : tie.Need-unit-fits-requires Inv-loop μ-loop
+unit-fits-requires c κs = search needs
+
+returns : tie.Need-returns Inv-loop μ-loop
+returns c =
+    let l = c .before .before .before in
+    sym (units-by-places _ ∙ all-fails _ _ (l .loop .k) (omega arith) (sym (c .before .unit-fits .ensures) ∙ not-true _ (c .if1 .taken)))
+
+add-k : tie.Need-add-k Inv-loop μ-loop
+add-k c = search needs
+
+loop-less : tie.Need-loop-less Inv-loop μ-loop
+loop-less c = search needs
+
+loop-again : tie.Need-loop-again Inv-loop μ-loop
+loop-again c =
+    let l = c .before .before .before in
+    (search needs, all-more (l .loop .k) _ (l .loop .inv .1) (sym (c .before .unit-fits .ensures) ∙ not-false _ (c .if1 .left)))
+
+returns-2 : tie.Need-returns-2 Inv-loop μ-loop
+returns-2 c =
+    let l = c .before in
+    let e : l .loop .k ≡ word (c .before .before .before .before .args .book .now) 5 = omega arith in
+    sym (units-by-places _ ∙ (rw e at (l .loop .inv .1)))
+
+pub units-fit-spec : {M : Type 1} → statement M
+units-fit-spec =
+    tie.close
+    (tie.spec
+    Inv-loop
+    μ-loop
+    shared-slice-read-n
+    loop-holds
+    add-unit-fits
+    unit-fits-requires
+    returns
+    add-k
+    loop-less
+    loop-again
+    returns-2)
