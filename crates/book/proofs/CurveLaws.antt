@@ -5,12 +5,13 @@ use mathlib.Core.Bool.{Bool, true, false, cond, not, _&&_}
 use mathlib.Core.List.{List, [], _∷_, _++_, append-assoc}
 use native.Mathlib.Omega.{arith}
 use native.Mathlib.Numerals.{add-one, add-two}
-use borrow.Author.Tests.{le-leb, lt-leb, lt-ltb, le-ltb}
+use borrow.Author.Tests.{le-leb, lt-leb, lt-ltb, le-ltb, ne-eqb, not-false, ltb-false, ltb-true}
 use lib.ListN.{length, getD, take, drop, set, take-append-drop, length-set}
 use lib.Seq.{take-suc-set, drop-set-lt}
-use lib.Dec.{leb, ltb}
-use Rattle.measures.proofs.RangeLaws.{In, inside, outside}
-use Rattle.measures.proofs.ListLaws.{table-at}
+use lib.Dec.{eqb, leb, ltb}
+use Rattle.measures.proofs.RangeLaws.{In, inside, outside, within}
+use Rattle.measures.specs.Ranges.{between}
+use Rattle.measures.proofs.ListLaws.{table-at, cond-true, cond-false, and-true, both-ways}
 use Rattle.limits.specs.Units.{periods, mostCapacity}
 use Rattle.limits.specs.Limits.{hourOf, hourLimit}
 use Rattle.limits.proofs.LimitLaws.{hour-most}
@@ -19,12 +20,15 @@ use Rattle.book.specs.Book.{Figures, Unit, Book, noUnit, noFigures, unit
 use Rattle.book.specs.Fit.{nothing}
 use Rattle.book.specs.Sound.{sound}
 use Rattle.book.specs.Refusals.{firstOf}
-use Rattle.book.specs.Curve.{curveChecks, firstHalf, secondHalf, pointsFrom, points}
-use Rattle.book.specs.Layout.{word, figuresAt, unitAt, decode, netIn}
-use Rattle.book.specs.Contract.{soundIn}
+use Rattle.book.specs.Curve.{Drawn, curve, curveRefusal, curveChecks, firstHalf, secondHalf, pointsFrom, points}
+use Rattle.book.specs.Layout.{word, figuresAt, unitAt, decode, enough, netIn}
+use Rattle.book.specs.declared.Answer.{Answer}
+use Rattle.book.specs.declared.Answer.the-variants.{Done, Refused}
+use Rattle.book.specs.Contract.{Told, toldBy, soundIn, curveOn, Curved}
 use Rattle.book.specs.Readable.{Netted}
 use Rattle.book.proofs.RangeFacts.{units-held, unit-at}
-use Rattle.book.proofs.MadeLaws.{sound-book}
+use Rattle.book.proofs.MadeLaws.{sound-book, sound-enough, chain-sound, chain-unsound}
+use Rattle.book.proofs.RefusalLaws.{none-applies}
 use Rattle.book.proofs.SoundLaws.{UnitRanges, Sound, sound-facts}
 use Rattle.book.proofs.FitLaws.{Fits}
 
@@ -142,3 +146,52 @@ pub net-figures : (m : List ℕ) (k p : ℕ) → k < word m 5 → p < periods (w
 net-figures m k p h l =
     let q : k ≡ k + 1 - 1 = omega arith in
     ap (λ (x : ℕ). net (figuresAt m x p)) q ∙ ap net (sym (figures-at m (k + 1) p (omega arith, omega arith) l))
+
+-- the contract of the curve: not a sound book, a check that applies, or the points
+module _ (m pts : List ℕ) (u day : ℕ) where
+  on-sound : soundIn m ≡ true → curveOn m u day (length pts) ≡ curve (decode m) u day (length pts)
+  unfolding curveOn
+  on-sound e = cond-true (enough m) (curve (decode m) u day (length pts)) _ (sound-enough m e) refl
+
+  pub curved-refused : (r : ℕ) → curveOn m u day (length pts) ≡ record { refusal = r; points = [] } → (r ≡ 0 → ⊥) → Curved m pts u day (Refused r) pts
+  curved-refused r e n = record {
+    answer = rw e refl;
+    refused = λ h. refl;
+    accepted = λ h. absurd (n (sym (ap (λ (d : Drawn). d .refusal) e) ∙ h));
+  }
+
+  pub curved-unsound : soundIn m ≡ false → Curved m pts u day (Refused 1) pts
+  unfolding soundIn curveOn curve curveRefusal
+  curved-unsound e = curved-refused 1 (go (enough m) (sound (decode m)) refl refl) (λ z. absurd (omega arith))
+    where
+      go : (a s : Bool) → enough m ≡ a → sound (decode m) ≡ s → curveOn m u day (length pts) ≡ record { refusal = 1; points = [] }
+      go false s ea es = cond-false (enough m) (curve (decode m) u day (length pts)) _ ea refl
+      go true false ea es = cond-true (enough m) (curve (decode m) u day (length pts)) _ ea (rw (chain-unsound (decode m) (curveChecks (decode m) u day (length pts)) es) refl)
+      go true true ea es = both-ways (sym (and-true (enough m) (sound (decode m)) ea es) ∙ e)
+
+  pub curved-checked : (r : ℕ) → soundIn m ≡ true → r ≡ firstOf (curveChecks (decode m) u day (length pts)) → (r ≡ 0 → ⊥) → Curved m pts u day (Refused r) pts
+  unfolding curve curveRefusal
+  curved-checked r e f n =
+      curved-refused r
+      (on-sound e
+      ∙ rw (chain-sound (decode m) (curveChecks (decode m) u day (length pts)) (sound-book m e), ← f) (cond-false (eqb r 0) _ _ (ne-eqb r 0 n) refl))
+      n
+
+  pub curved-drawn : (pts′ : List ℕ) → soundIn m ≡ true → 0 ≡ firstOf (curveChecks (decode m) u day (length pts)) → pts′ ≡ points (decode m) u day ++ drop 48 pts → Curved m pts u day (Done 0 0) pts′
+  unfolding curve curveRefusal
+  curved-drawn pts′ e f w =
+      let c : curveOn m u day (length pts) ≡ record { refusal = 0; points = points (decode m) u day } =
+      on-sound e ∙ rw (chain-sound (decode m) (curveChecks (decode m) u day (length pts)) (sound-book m e), ← f) refl in
+      record {
+        answer = rw c refl;
+        refused = λ h. absurd (h (ap (λ (d : Drawn). d .refusal) c));
+        accepted = λ h. w ∙ ap (λ (d : Drawn). d .points ++ drop 48 pts) (sym c);
+      }
+
+-- what passed checks say
+pub curve-passed : (m : List ℕ) (u day lent : ℕ) → 0 ≡ firstOf (curveChecks (decode m) u day lent) → (In 1 (word m 5) u) × (48 ≤ lent) × (day < word m 0)
+unfolding decode
+curve-passed m u day lent e =
+    let t = none-applies (curveChecks (decode m) u day lent) (omega arith, (omega arith, (omega arith, tt))) (sym e) in
+    let k : between 1 (length (decode m .units)) u ≡ true = not-false _ (t .0) in
+    (within 1 (word m 5) u (rw (units-held m) at k), ltb-false lent 48 (t .1 .0), ltb-true day (word m 0) (not-false _ (t .1 .1 .0)))

@@ -9,7 +9,7 @@ ghost use Rattle.book.specs.Layout.{word, decode, netIn};
 ghost use Rattle.book.specs.Readable.{Readable, Netted};
 
 // The checks of a curve on a sound book.
-fn curve_checks(book: &[u64], unit: u64, day: u64, lent: usize) -> u64
+pub(crate) fn curve_checks(book: &[u64], unit: u64, day: u64, lent: usize) -> u64
     requires { ⌜ Readable (now book) ⌝ }
     ensures { λ r. ⌜ r ≡ firstOf (curveChecks (decode (now (book .entry))) unit day lent) ⌝ }
 {
@@ -40,7 +40,7 @@ fn net_at(book: &[u64], k: usize, p: usize) -> u64
 }
 
 // Writes the 48 points of the unit at place k on a day.
-fn write_points(book: &[u64], k: usize, day: usize, points: &mut [u64])
+pub(crate) fn write_points(book: &[u64], k: usize, day: usize, points: &mut [u64])
     requires { ⌜ (Readable (now book)) × (Netted (now book) k) × (k < word (now book) 5) × (day < word (now book) 0) × (48 ≤ length (now points)) ⌝ }
     ensures { λ _. ⌜ now (points .exit) ≡ pointsOf (decode (now (book .entry))) (k + 1) day ++ drop 48 (now (points .entry)) ⌝ }
 {

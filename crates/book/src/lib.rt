@@ -1,4 +1,5 @@
 // The book of a term: opening, the eight calls and the curve (paper 01).
+pub mod calls;
 mod curve;
 mod fits;
 mod numbers;
