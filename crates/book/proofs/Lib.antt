@@ -5,6 +5,8 @@ pub mod MadeLaws
 pub mod OpeningLaws
 pub mod CurveLaws
 pub mod SoundInLaws
+pub mod ClosingLaws
+pub mod ClosedLaws
 pub mod ShareLaws
 pub mod PeriodLaws
 pub mod JoinLaws

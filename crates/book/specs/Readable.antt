@@ -92,13 +92,6 @@ pub record Netted (m : List ℕ) (k : ℕ) : Type 0 where
   pub held : (p : ℕ) → p < periods (word m 0) → word m (1776 + 328 * p + 5 * k) + word m (1777 + 328 * p + 5 * k) ≤ mostCapacity
   pub lowered : (p : ℕ) → p < periods (word m 0) → word m (1778 + 328 * p + 5 * k) ≤ word m (1776 + 328 * p + 5 * k)
 
--- the memory with the day over for one unit and period
-unfoldable pub cellClosed : List ℕ → ℕ → ℕ → List ℕ
-cellClosed m k p =
-    set
-    (set (set (set m (1776 + 328 * p + 5 * k) (netIn m k p)) (1777 + 328 * p + 5 * k) 0) (1778 + 328 * p + 5 * k) 0)
-    (1780 + 328 * p + 5 * k) 0
-
 -- whether a unit fits, with today's directions in range, and whether all do
 unfoldable pub unitWhole : Book → ℕ → Bool
 unitWhole b u = waysIn b u && unitFits b u

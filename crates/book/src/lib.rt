@@ -1,5 +1,6 @@
 // The book of a term: opening, the eight calls and the curve (paper 01).
 pub mod calls;
+mod closing;
 mod curve;
 mod fits;
 mod numbers;

@@ -2,12 +2,12 @@
 use Prim.Native.Nat.{ℕ, zero, suc, _+_, _-_, _*_, _≤_, _<_, min}
 use mathlib.Core.Path.{_≡_, refl, sym, ap, _∙_}
 use mathlib.Core.Bool.{Bool, true, false, cond, not, _&&_, _||_}
-use mathlib.Core.List.{List, [], _∷_, _++_}
+use mathlib.Core.List.{List, [], _∷_, _++_, map}
 use native.Mathlib.Omega.{arith}
 use native.Mathlib.Nat.{not-suc-le-zero, add-zero, zero-add}
 use native.Mathlib.Numerals.{add-one}
 use native.Mathlib.Decide.{ℕ-discrete, decLt}
-use lib.ListN.{length, getD, take, drop, set, length-set, length-append, List·getD-append}
+use lib.ListN.{length, getD, take, drop, set, length-set, length-append, length-map, List·getD-append, List·getD-map}
 use lib.Seq.{ext-getD, getD-set-same, getD-set-other, getD-at, drop-cons}
 use Rattle.measures.specs.Sharing.{total}
 use Rattle.measures.specs.Lists.{holds, sumOf, every, keep, sum, all, tableFrom, table}
@@ -319,3 +319,13 @@ module _ (most n p w : ℕ) (f : ℕ → ℕ) where
       let t = total-table n f in
       let q : sum p f ≡ sum n f = ap (λ (k : ℕ). sum k f) e in
       omega arith
+
+-- a function over a table, and a table of nothing
+pub map-table : {A B : Type 0} (f : A → B) (n : ℕ) (g : ℕ → A) (d : A) → map f (table n g) ≡ table n (λ k. f (g k))
+map-table f n g d =
+    sym (table-is n (λ k. f (g k)) (map f (table n g)) (f d) (length-map (table n g) f ∙ table-length n g)
+    (λ k h. sym (List·getD-map f (table n g) k d ∙ ap f (table-at n g k d h))))
+
+pub table-none : {A : Type 0} (f : ℕ → A) → table 0 f ≡ []
+unfolding tableFrom
+table-none f = refl
