@@ -1,4 +1,5 @@
 // The book of a term: opening, the eight calls and the curve (paper 01).
+mod cancelling;
 mod numbers;
 mod pairs;
 mod ranges;
