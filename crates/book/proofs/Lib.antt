@@ -5,4 +5,5 @@ pub mod MadeLaws
 pub mod KeepLaws
 pub mod WordLaws
 pub mod CancelLaws
+pub mod EnrolLaws
 pub mod FiguresHold

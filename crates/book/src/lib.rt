@@ -1,5 +1,6 @@
 // The book of a term: opening, the eight calls and the curve (paper 01).
 mod cancelling;
+mod enrolling;
 mod numbers;
 mod pairs;
 mod ranges;
