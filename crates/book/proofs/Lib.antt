@@ -6,4 +6,6 @@ pub mod KeepLaws
 pub mod WordLaws
 pub mod CancelLaws
 pub mod EnrolLaws
+pub mod OfferPlaceLaws
+pub mod WithdrawLaws
 pub mod FiguresHold

@@ -4,6 +4,7 @@ mod enrolling;
 mod numbers;
 mod pairs;
 mod ranges;
+mod withdrawing;
 
 // What a call answers: its number and count of rows, or the refusal.
 pub enum Answer {
