@@ -8,4 +8,6 @@ pub mod CancelLaws
 pub mod EnrolLaws
 pub mod OfferPlaceLaws
 pub mod WithdrawLaws
+pub mod OfferLaws
+pub mod OfferCheckLaws
 pub mod FiguresHold

@@ -2,6 +2,7 @@
 mod cancelling;
 mod enrolling;
 mod numbers;
+mod offering;
 mod pairs;
 mod ranges;
 mod withdrawing;
