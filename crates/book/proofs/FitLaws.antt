@@ -1,10 +1,10 @@
 -- What the fit of a unit says of a plain book: with nothing declared, and on a unit that fits.
-use Prim.Native.Nat.{ℕ, _+_, _<_}
+use Prim.Native.Nat.{ℕ, zero, suc, _+_, _<_}
 use mathlib.Core.Path.{_≡_, refl, sym, _∙_}
 use mathlib.Core.Bool.{Bool, true, false, not, _||_}
 use mathlib.Core.List.{List, [], _∷_}
 use native.Mathlib.Omega.{arith}
-use lib.ListN.{getD}
+use lib.ListN.{getD, replicate}
 use lib.Dec.{eqb}
 use borrow.Author.Tests.{eqb-true}
 use Rattle.measures.specs.Lists.{holds, all}
@@ -15,6 +15,12 @@ use Rattle.book.specs.Fit.{Declaration, nothing, openRaising, openLoweri
 use Rattle.book.specs.Refusals.{check, firstOf, hourMisfit, termMisfit, volumeMisfit}
 use Rattle.book.specs.Readable.{declared, misfitOf}
 
+-- a list of zeros
+pub zeros-at : (n i : ℕ) → getD (replicate {A = ℕ} n 0) i 0 ≡ 0
+zeros-at zero i = refl
+zeros-at (suc n) zero = refl
+zeros-at (suc n) (suc i) = zeros-at n i
+
 -- declarations that are the same in each period fit alike
 module _ (b : Book) (u : ℕ) where
   pub hour-ext : (d e : Declaration) (p : ℕ) → d .raising p ≡ e .raising p → d .lowering p ≡ e .lowering p → hourFits b u d p ≡ hourFits b u e p
@@ -24,11 +30,20 @@ module _ (b : Book) (u : ℕ) where
   pub misfit-ext : (d e : Declaration) → ((p : ℕ) → d .raising p ≡ e .raising p) → ((p : ℕ) → d .lowering p ≡ e .lowering p) → misfitOf b u d ≡ misfitOf b u e
   unfolding misfitOf termFits volumeFits
   misfit-ext d e f g =
+      let n = periods (b .days) in
       rw (
-        all-ext (periods (b .days)) (hourFits b u d) (hourFits b u e) (λ p l. hour-ext d e p (f p) (g p)),
-        sum-ext (periods (b .days)) (λ p. figuresOf b u p .held + (raisingToday b u p + d .raising p)) (λ p. figuresOf b u p .held + (raisingToday b u p + e .raising p)) (λ p l. rw (f p)),
-        sum-ext (periods (b .days)) (λ p. figuresOf b u p .volume + (openRaising b u p + openLowering b u p + (d .raising p + d .lowering p))) (λ p. figuresOf b u p .volume + (openRaising b u p + openLowering b u p + (e .raising p + e .lowering p))) (λ p l. rw (f p, g p)),
+        all-ext n (hourFits b u d) (hourFits b u e) (λ p l. hour-ext d e p (f p) (g p)),
+        sum-ext n _ (λ p. figuresOf b u p .held + (raisingToday b u p + e .raising p)) (λ p l. held p),
+        sum-ext n _ (λ p. figuresOf b u p .volume + (openRaising b u p + openLowering b u p + (e .raising p + e .lowering p))) (λ p l. volume p),
       )
+    where
+      held : (p : ℕ) → figuresOf b u p .held + (raisingToday b u p + d .raising p) ≡ figuresOf b u p .held + (raisingToday b u p + e .raising p)
+      held p = rw (f p)
+
+      volume : (p : ℕ)
+          → figuresOf b u p .volume + (openRaising b u p + openLowering b u p + (d .raising p + d .lowering p))
+          ≡ figuresOf b u p .volume + (openRaising b u p + openLowering b u p + (e .raising p + e .lowering p))
+      volume p = rw (f p, g p)
 
   nothing-fits : unitFits b u ≡ true → misfitOf b u nothing ≡ 0
   unfolding unitFits misfitOf firstOf
