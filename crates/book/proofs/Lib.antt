@@ -10,4 +10,8 @@ pub mod OfferPlaceLaws
 pub mod WithdrawLaws
 pub mod OfferLaws
 pub mod OfferCheckLaws
+pub mod ShareLaws
+pub mod PeriodLaws
+pub mod JoinLaws
+pub mod FitLaws
 pub mod FiguresHold

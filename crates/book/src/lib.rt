@@ -1,6 +1,7 @@
 // The book of a term: opening, the eight calls and the curve (paper 01).
 mod cancelling;
 mod enrolling;
+mod fits;
 mod numbers;
 mod offering;
 mod pairs;
