@@ -1,27 +1,27 @@
 -- Cancel on a sound book in memory: its checks, and the book without the order.
-use Prim.Native.Nat.{ℕ, zero, suc, _+_, _-_, _*_, _≤_, _<_}
+use Prim.Native.Nat.{ℕ, _+_, _-_, _*_, _≤_, _<_}
 use mathlib.Core.Path.{_≡_, refl, sym, ap, _∙_}
 use mathlib.Core.Bool.{Bool, true, false, not, cond, _&&_}
-use mathlib.Core.List.{List, [], _∷_, _++_, map}
+use mathlib.Core.List.{List, [], _∷_, _++_}
 use native.Mathlib.Omega.{arith}
-use native.Mathlib.Decide.{decLt, ℕ-discrete}
-use borrow.Author.Tests.{eq-eqb, ne-eqb, lt-ltb, le-ltb}
+use native.Mathlib.Decide.{decLt}
+use borrow.Author.Tests.{eq-eqb, ne-eqb}
 use borrow.Rule.Slice.PartMut.{putMid}
-use lib.ListN.{length, getD, take, drop, set, length-set}
-use lib.Seq.{getD-set-same, getD-set-other, drop-set-lt, take-set-le, drop-at, take-at, length-take-le}
+use lib.ListN.{length, getD, take, drop, set}
+use lib.Seq.{getD-set-same, getD-set-other, drop-set-lt}
 use lib.Dec.{eqb, ltb}
-use Rattle.measures.specs.Lists.{keep, holds}
-use Rattle.measures.proofs.ListLaws.{all-true, and-true, and-left, and-right, not-both, both-ways}
+use Rattle.measures.specs.Lists.{keep}
+use Rattle.measures.proofs.ListLaws.{all-true, not-both}
 use Rattle.measures.proofs.RangeLaws.{In, inside, outside}
 use Rattle.matching.specs.Orders.{Order as OpenOrder, rising, numbers}
 use Rattle.matching.specs.Memory.{orderAt, ordersIn, noOrder}
-use Rattle.matching.proofs.OrderLaws.{orders-at, orders-length}
-use Rattle.book.specs.Book.{OpenOffer, Book, withOrders, orderOpen, orderOf, ordersOf, known}
+use Rattle.matching.proofs.OrderLaws.{orders-at}
+use Rattle.book.specs.Book.{Book, withOrders, orderOpen, orderOf, ordersOf, known}
 use Rattle.book.specs.Sound.{sound, numbersDiffer}
 use Rattle.book.specs.Opening.{bookWords}
 use Rattle.book.specs.Layout.{word, decode, ordersPart}
-use Rattle.book.specs.Readable.{Readable, offerNumbers}
-use Rattle.book.specs.Refusals.{Check, check, firstOf}
+use Rattle.book.specs.Readable.{offerNumbers}
+use Rattle.book.specs.Refusals.{firstOf}
 use Rattle.book.specs.Contract.{soundIn}
 use Rattle.book.specs.Cancel.{cancelChecks}
 use Rattle.book.proofs.RangeFacts.{units-held, orders-held, order-word}

@@ -5,6 +5,7 @@ pub mod MadeLaws
 pub mod KeepLaws
 pub mod WordLaws
 pub mod CancelLaws
+pub mod CellLaws
 pub mod EnrolLaws
 pub mod OfferPlaceLaws
 pub mod WithdrawLaws
@@ -14,4 +15,6 @@ pub mod ShareLaws
 pub mod PeriodLaws
 pub mod JoinLaws
 pub mod FitLaws
+pub mod OfferChainLaws
+pub mod OfferFitLaws
 pub mod FiguresHold

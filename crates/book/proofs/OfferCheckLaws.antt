@@ -1,8 +1,8 @@
 -- The checks of an offer on a book in memory, one by one and in their chain.
-use Prim.Native.Nat.{ℕ, zero, suc, _+_, _-_, _*_, _≤_, _<_}
-use mathlib.Core.Path.{_≡_, refl, sym, ap, _∙_}
-use mathlib.Core.Bool.{Bool, true, false, not, cond, _&&_}
-use mathlib.Core.List.{List, [], _∷_, _++_}
+use Prim.Native.Nat.{ℕ, _*_, _≤_, _<_}
+use mathlib.Core.Path.{_≡_, refl, sym, _∙_}
+use mathlib.Core.Bool.{Bool, true, false, not, _&&_}
+use mathlib.Core.List.{List, [], _∷_}
 use native.Mathlib.Omega.{arith}
 use native.Mathlib.Decide.{ℕ-discrete}
 use borrow.Author.Tests.{eq-eqb, ne-eqb, le-leb, lt-leb}
@@ -13,7 +13,7 @@ use Rattle.measures.specs.Sharing.{total}
 use Rattle.measures.proofs.ListLaws.{cond-true, cond-false, not-both}
 use Rattle.measures.proofs.RangeLaws.{In, inside, outside}
 use Rattle.limits.specs.Units.{periods}
-use Rattle.book.specs.Book.{Book, known}
+use Rattle.book.specs.Book.{known}
 use Rattle.book.specs.Sound.{energyIn, bilateralSides}
 use Rattle.book.specs.Layout.{word, decode}
 use Rattle.book.specs.Readable.{sidesIn}
@@ -48,7 +48,7 @@ module _ (m : List ℕ) where
       go (yes e) = rw (eq-eqb v 0 e) refl
       go (no e) = rw (ne-eqb v 0 e) (unit-known v (omega arith))
 
-  partner-not : (v : ℕ) → word m 5 < v → (not (eqb v 0) && not (known (decode m) v)) ≡ true
+  pub partner-not : (v : ℕ) → word m 5 < v → (not (eqb v 0) && not (known (decode m) v)) ≡ true
   partner-not v h = rw (ne-eqb v 0 (omega arith)) (unit-not v (omega arith))
 
   price-in : (q : ℕ) → In (word m 1) (word m 2) q → not (between (decode m .floor) (decode m .ceiling) q) ≡ false

@@ -1,15 +1,15 @@
 -- The effect of an offer on a book in memory: its amounts, its head and the two counts.
-use Prim.Native.Nat.{ℕ, zero, suc, _+_, _-_, _*_, _≤_, _<_}
-use mathlib.Core.Path.{_≡_, refl, sym, ap, _∙_}
+use Prim.Native.Nat.{ℕ, _+_, _*_, _≤_, _<_}
+use mathlib.Core.Path.{_≡_, refl, ap, _∙_}
 use mathlib.Core.List.{List, [], _∷_, _++_}
 use native.Mathlib.Omega.{arith}
-use native.Mathlib.Decide.{decLt, ℕ-discrete}
-use lib.ListN.{length, getD, take, drop, set, length-set}
+use native.Mathlib.Decide.{ℕ-discrete}
+use lib.ListN.{length, drop, set, length-set}
 use lib.Seq.{getD-set-same, getD-set-other, drop-set-lt}
 use Rattle.measures.specs.Lists.{table}
 use Rattle.measures.proofs.ListLaws.{table-more, table-is}
 use Rattle.matching.specs.Memory.{ordersIn}
-use Rattle.book.specs.Book.{OpenOffer, Book}
+use Rattle.book.specs.Book.{OpenOffer}
 use Rattle.book.specs.Opening.{bookWords}
 use Rattle.book.specs.Layout.{word, decode, unitAt, offerAt, amountAt, ordersPart}
 use Rattle.book.specs.Readable.{Readable}

@@ -1,5 +1,5 @@
 -- Open offers of a sound book in memory: the offer at a place, the offer of a number, and the checks of a withdraw.
-use Prim.Native.Nat.{ℕ, zero, suc, _+_, _-_, _*_, _≤_, _<_}
+use Prim.Native.Nat.{ℕ, _+_, _*_, _≤_, _<_}
 use mathlib.Core.Path.{_≡_, refl, sym, ap, _∙_}
 use mathlib.Core.Bool.{Bool, true, false, not, cond, _&&_}
 use mathlib.Core.List.{List, [], _∷_, _++_}
@@ -13,7 +13,7 @@ use Rattle.measures.proofs.ListLaws.{table-at, not-both}
 use Rattle.measures.proofs.RangeLaws.{In, inside, outside}
 use Rattle.book.specs.Book.{OpenOffer, Book, noOffer, offerOpen, offerOf, offersOf, known}
 use Rattle.book.specs.Layout.{word, decode, offerAt}
-use Rattle.book.specs.Refusals.{Check, check, firstOf}
+use Rattle.book.specs.Refusals.{firstOf}
 use Rattle.book.specs.Contract.{soundIn}
 use Rattle.book.specs.Withdraw.{withdrawChecks}
 use Rattle.book.proofs.RangeFacts.{units-held, offers-held}

@@ -1,8 +1,8 @@
 -- Words that move up, and the book in memory without an offer.
-use Prim.Native.Nat.{ℕ, zero, suc, _+_, _-_, _*_, _≤_, _<_}
+use Prim.Native.Nat.{ℕ, _+_, _-_, _*_, _≤_, _<_}
 use mathlib.Core.Path.{_≡_, refl, sym, ap, _∙_}
-use mathlib.Core.Bool.{Bool, true, not}
-use mathlib.Core.List.{List, [], _∷_, _++_}
+use mathlib.Core.Bool.{true, not}
+use mathlib.Core.List.{List, _++_}
 use native.Mathlib.Omega.{arith}
 use native.Mathlib.Decide.{decLt, ℕ-discrete}
 use lib.ListN.{length, getD, take, drop, set, length-set, length-append, length-take, length-drop, List·getD-append}
@@ -11,7 +11,7 @@ use lib.Dec.{eqb}
 use Rattle.measures.specs.Lists.{keep, table}
 use Rattle.measures.proofs.ListLaws.{table-is, table-ext, table-at, table-length}
 use Rattle.matching.specs.Memory.{ordersIn}
-use Rattle.book.specs.Book.{OpenOffer, Book, noOffer, withOffers}
+use Rattle.book.specs.Book.{OpenOffer, noOffer, withOffers}
 use Rattle.book.specs.Opening.{bookWords}
 use Rattle.book.specs.Layout.{word, decode, unitAt, offerAt, amountAt, ordersPart}
 use Rattle.book.specs.Readable.{Readable}

@@ -1,18 +1,17 @@
 -- What a book in memory is read from: parts that keep their words are the same, and a book is known by its parts.
-use Prim.Native.Nat.{ℕ, zero, suc, _+_, _-_, _*_, _≤_, _<_}
-use mathlib.Core.Path.{_≡_, refl, sym, ap, _∙_}
-use mathlib.Core.List.{List, [], _∷_, _++_}
+use Prim.Native.Nat.{ℕ, _+_, _-_, _*_, _≤_, _<_}
+use mathlib.Core.Path.{_≡_, sym, ap, _∙_}
+use mathlib.Core.List.{List, _++_}
 use native.Mathlib.Omega.{arith}
 use lib.ListN.{length, getD, take, drop}
 use lib.Seq.{getD-take, getD-drop, drop-drop, drop-at, take-at, length-take-le}
 use borrow.Rule.Slice.PartMut.{putMid, postOf, take-put, drop-put, same-len-mid, mid-len}
 use Rattle.measures.specs.Lists.{table}
 use Rattle.measures.proofs.ListLaws.{table-ext}
-use Rattle.limits.specs.Units.{periods}
 use Rattle.matching.specs.Orders.{Order as OpenOrder}
 use Rattle.matching.specs.Memory.{orderAt, ordersIn}
 use Rattle.matching.proofs.OrderLaws.{order-same}
-use Rattle.book.specs.Book.{Figures, Unit, OpenOffer, Book, withOrders}
+use Rattle.book.specs.Book.{Unit, OpenOffer, Book, withOrders}
 use Rattle.book.specs.Layout.{word, figuresAt, unitAt, amountAt, offerAt, ordersPart, decode}
 use Rattle.book.proofs.RangeFacts.{order-word}
 

@@ -1,9 +1,8 @@
 // Cancel (paper 01): "Cancel removes what is left of an own order."
 ghost use mathlib.Core.Path.{_≡_};
 ghost use mathlib.Core.Bool.{true, not};
-ghost use mathlib.Core.List.{List};
 ghost use Prim.Native.Nat.{ℕ, _+_, _*_, _-_, _<_, _≤_};
-ghost use lib.ListN.{length, drop};
+ghost use lib.ListN.{drop};
 ghost use lib.Dec.{eqb};
 ghost use Rattle.measures.specs.Lists.{keep};
 ghost use Rattle.book.specs.Book.{withOrders, orderOpen};

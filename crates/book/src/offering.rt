@@ -1,21 +1,21 @@
 // Offer (paper 01): "a unit, a partner or 0, a price, an amount for each period".
+use crate::fits::misfit;
 use crate::ranges::Offer;
 use crate::ranges::sides_fit;
 use measures::Energy;
 ghost use mathlib.Core.Path.{_≡_};
 ghost use mathlib.Core.Bool.{true};
-ghost use mathlib.Core.List.{List, [], _∷_};
+ghost use mathlib.Core.List.{[], _∷_};
 ghost use Prim.Native.Nat.{ℕ, _+_, _*_, _-_, _<_, _≤_, min};
 ghost use lib.ListN.{length, drop};
 ghost use Rattle.measures.specs.Ranges.{mostEnergy};
 ghost use Rattle.measures.specs.Sharing.{total};
-ghost use Rattle.limits.specs.Units.{periods};
 ghost use Rattle.book.specs.Opening.{bookWords};
 ghost use Rattle.book.specs.Layout.{word, decode};
-ghost use Rattle.book.specs.Refusals.{firstOf, unknownUnit, unknownPartner, badPrice, badAmounts, wrongPartner, offersFull, numbersUsed};
+ghost use Rattle.book.specs.Refusals.{firstOf, unknownUnit, unknownPartner, badPrice, badAmounts, wrongPartner, offersFull, numbersUsed, hourMisfit, termMisfit, volumeMisfit};
 ghost use Rattle.book.specs.Readable.{Readable};
 ghost use Rattle.book.specs.Contract.{soundIn};
-ghost use Rattle.book.specs.Offer.{offered};
+ghost use Rattle.book.specs.Offer.{offered, offerChecks, raisingAmounts};
 
 // The sum of lent amounts, or one more than Energy::MOST where it is more than that.
 fn amounts_total(amounts: &[u64]) -> u64
@@ -82,6 +82,45 @@ fn offer_room(book: &[u64], unit: u64, partner: u64) -> u64
         return 18;
     }
     0
+}
+
+// The amounts, copied to the front of a list that has room for them.
+fn copy_amounts(amounts: &[u64], copy: &mut [u64])
+    requires { ⌜ length (now amounts) ≤ length (now copy) ⌝ }
+    ensures { λ _. ⌜ ((k : ℕ) → k < length (now (amounts .entry)) → word (now (copy .exit)) k ≡ word (now (amounts .entry)) k) × ((k : ℕ) → length (now (amounts .entry)) ≤ k → word (now (copy .exit)) k ≡ word (now (copy .entry)) k) ⌝ }
+{
+    let mut i = 0;
+    while i < amounts.len() {
+        copy[i] = amounts[i];
+        i += 1;
+    }
+}
+
+// Whether the amounts fit the unit's limits.
+fn offer_fit(book: &[u64], unit: u64, amounts: &[u64]) -> u64
+    requires { ⌜ (soundIn (now book) ≡ true) × (1 ≤ unit) × (unit ≤ word (now book) 5) × (length (now amounts) ≡ 24 * word (now book) 0) × (total (now amounts) ≤ mostEnergy) ⌝ }
+    ensures { λ r. ⌜ r ≡ firstOf (hourMisfit (decode (now (book .entry))) unit (raisingAmounts (now (amounts .entry))) ∷ termMisfit (decode (now (book .entry))) unit (raisingAmounts (now (amounts .entry))) ∷ volumeMisfit (decode (now (book .entry))) unit (raisingAmounts (now (amounts .entry))) ∷ []) ⌝ }
+{
+    let mut raising = [0u64; 744];
+    let mut lowering = [0u64; 744];
+    copy_amounts(amounts, &mut raising);
+    misfit(book, unit, &mut raising, &mut lowering)
+}
+
+// The checks of an offer behind that of soundness.
+pub fn offer_checks(book: &[u64], unit: u64, partner: u64, price: u64, amounts: &[u64]) -> u64
+    requires { ⌜ soundIn (now book) ≡ true ⌝ }
+    ensures { λ r. ⌜ r ≡ firstOf (offerChecks (decode (now (book .entry))) unit partner price (now (amounts .entry))) ⌝ }
+{
+    let terms = offer_terms(book, unit, partner, price, amounts);
+    if terms != 0 {
+        return terms;
+    }
+    let room = offer_room(book, unit, partner);
+    if room != 0 {
+        return room;
+    }
+    offer_fit(book, unit, amounts)
 }
 
 // The amounts of the offer at place j.

@@ -1,7 +1,6 @@
 // Withdraw (paper 01): "Withdraw removes an own offer of which nothing is taken."
 ghost use mathlib.Core.Path.{_≡_};
 ghost use mathlib.Core.Bool.{true, not};
-ghost use mathlib.Core.List.{List};
 ghost use Prim.Native.Nat.{ℕ, _+_, _*_, _-_, _<_, _≤_};
 ghost use lib.ListN.{length, drop};
 ghost use lib.Dec.{eqb};

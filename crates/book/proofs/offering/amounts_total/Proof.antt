@@ -1,5 +1,5 @@
 -- `amounts_total`: the running sum and what is left make the total, so a sum past the range is seen at the amount that passes it.
-use Prim.Native.Nat.{ℕ, _+_, _≤_, _-_}
+use Prim.Native.Nat.{_+_, _≤_, _-_}
 use mathlib.Core.Path.{_≡_}
 use native.Mathlib.Omega.{arith}
 use lib.ListN.{length, drop}
