@@ -10,13 +10,13 @@ ok : (c : tie.Start) → Readable (c .args .book .now)
 ok c = sound-readable _ (c .pre)
 
 returns : tie.Need-returns
-returns c = cancel-unknown _ (c .before .before .pre) (c .before .before .args .number) (c .before .before .args .unit) (omega arith)
+returns c = let s = c .before .before in cancel-unknown (s .args .book .now) (s .pre) (s .args .number) (s .args .unit) (omega arith)
 
 shared-slice-read-if2 : tie.Need-shared-slice-read-if2
 shared-slice-read-if2 c = let r = ok (c .before .before .before) in omega arith
 
 returns-2 : tie.Need-returns-2
-returns-2 c = cancel-unknown _ (c .before .before .before .before .pre) (c .before .before .before .before .args .number) (c .before .before .before .before .args .unit) (omega arith)
+returns-2 c = let s = c .before .before .before .before in cancel-unknown (s .args .book .now) (s .pre) (s .args .number) (s .args .unit) (omega arith)
 
 shared-slice-read-n : tie.Need-shared-slice-read-n
 shared-slice-read-n c = let r = ok (c .before .before .before .before .before) in omega arith
@@ -25,7 +25,7 @@ order-place-requires : tie.Need-order-place-requires
 order-place-requires c κs = ok (c .before .before .before .before .before)
 
 returns-3 : tie.Need-returns-3
-returns-3 c = cancel-absent _ (c .before .before .before .before .before .before .before .pre) (c .before .before .before .before .before .before .before .args .number) (c .before .before .before .before .before .before .before .args .unit) (omega arith) (λ k l. c .before .order-place .ensures .1 k (omega arith))
+returns-3 c = let s = c .before .before .before .before .before .before .before in cancel-absent (s .args .book .now) (s .pre) (s .args .number) (s .args .unit) (omega arith) (λ k l. c .before .order-place .ensures .1 k (omega arith))
 
 mul-if4 : tie.Need-mul-if4
 mul-if4 c = let r = ok (c .before .before .before .before .before .before .before) in omega arith
@@ -40,10 +40,16 @@ shared-slice-read-if4 : tie.Need-shared-slice-read-if4
 shared-slice-read-if4 c = let r = ok (c .before .before .before .before .before .before .before .before) in omega arith
 
 returns-4 : tie.Need-returns-4
-returns-4 c = cancel-other _ (c .before .before .before .before .before .before .before .before .before .pre) (c .before .before .before .before .before .before .before .before .before .args .number) (c .before .before .before .before .before .before .before .before .before .args .unit) (omega arith) (c .before .before .before .order-place .result) (omega arith) (c .before .before .before .order-place .ensures .2 (omega arith)) (omega arith)
+returns-4 c =
+    let s = c .before .before .before .before .before .before .before .before .before in
+    let w = c .before .before .before .order-place in
+    cancel-other (s .args .book .now) (s .pre) (s .args .number) (s .args .unit) (omega arith) (w .result) (omega arith) (w .ensures .2 (omega arith)) (omega arith)
 
 returns-5 : tie.Need-returns-5
-returns-5 c = cancel-passes _ (c .before .before .before .before .before .before .before .before .before .pre) (c .before .before .before .before .before .before .before .before .before .args .number) (c .before .before .before .before .before .before .before .before .before .args .unit) (omega arith) (c .before .before .before .order-place .result) (omega arith) (c .before .before .before .order-place .ensures .2 (omega arith)) (omega arith)
+returns-5 c =
+    let s = c .before .before .before .before .before .before .before .before .before in
+    let w = c .before .before .before .order-place in
+    cancel-passes (s .args .book .now) (s .pre) (s .args .number) (s .args .unit) (omega arith) (w .result) (omega arith) (w .ensures .2 (omega arith)) (omega arith)
 
 pub cancel-checks-spec : {M : Type 1} → statement M
 cancel-checks-spec =
