@@ -27,7 +27,7 @@ use Rattle.book.specs.Cancel.{cancelChecks}
 use Rattle.book.proofs.RangeFacts.{units-held, orders-held, order-word}
 use Rattle.book.proofs.NumberLaws.{orders-from}
 use Rattle.book.proofs.MadeLaws.{sound-book, sound-readable}
-use Rattle.book.proofs.KeepLaws.{number-kept, number-gone, number-none}
+use Rattle.book.proofs.KeptLaws.{number-kept, number-gone, number-none}
 use Rattle.book.proofs.WordLaws.{orders-changed, word-before, word-behind, drop-behind, put-length, part-back}
 
 -- open numbers rise

@@ -21,7 +21,7 @@ use Rattle.book.specs.Contract.{soundIn}
 use Rattle.book.specs.Offer.{raisingAmounts}
 use Rattle.book.proofs.RangeFacts.{units-held, unit-at}
 use Rattle.book.proofs.MadeLaws.{sound-book, sound-readable}
-use Rattle.book.proofs.FitLaws.{misfit-ext, misfit-declared}
+use Rattle.book.proofs.MisfitLaws.{misfit-ext, misfit-declared}
 use Rattle.book.proofs.OfferChainLaws.{fitOf}
 
 module _ (m : List ℕ) (s : soundIn m ≡ true) where

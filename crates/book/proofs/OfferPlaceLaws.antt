@@ -17,7 +17,7 @@ use Rattle.book.specs.Refusals.{firstOf}
 use Rattle.book.specs.Contract.{soundIn}
 use Rattle.book.specs.Withdraw.{withdrawChecks}
 use Rattle.book.proofs.RangeFacts.{units-held, offers-held}
-use Rattle.book.proofs.KeepLaws.{number-kept, number-gone, number-none}
+use Rattle.book.proofs.KeptLaws.{number-kept, number-gone, number-none}
 use Rattle.book.proofs.CancelLaws.{sound-rises}
 
 -- the offer at a place

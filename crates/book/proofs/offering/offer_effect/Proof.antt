@@ -3,7 +3,7 @@ use native.Mathlib.Omega.{arith}
 use lib.ListN.{length-set}
 use Rattle.book.specs.Readable.{Readable}
 use Rattle.book.proofs.MadeLaws.{sound-head, sound-readable}
-use Rattle.book.proofs.OfferLaws.{offered-in, offered-past}
+use Rattle.book.proofs.OfferedLaws.{offered-in, offered-past}
 use borrow.Author.Needs.{needs}
 use Rattle.book.proofs.offering.offer_effect.Statement.{statement}
 use Rattle.book.proofs.offering.offer_effect.Tie as tie

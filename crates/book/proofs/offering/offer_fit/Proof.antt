@@ -4,7 +4,7 @@ use mathlib.Core.Path.{_≡_, refl}
 use native.Mathlib.Omega.{arith}
 use lib.ListN.{length, getD, replicate}
 use Rattle.book.proofs.MadeLaws.{sound-readable}
-use Rattle.book.proofs.FitLaws.{zeros-at}
+use Rattle.book.proofs.MisfitLaws.{zeros-at}
 use Rattle.book.proofs.OfferFitLaws.{sound-ranged, offer-fits, copied-at, copied-small, zeros-small}
 use borrow.Author.Needs.{needs}
 use Rattle.book.proofs.offering.offer_fit.Statement.{statement}
