@@ -1,13 +1,17 @@
 // The book of a term: opening, the eight calls and the curve (paper 01).
 pub mod calls;
+mod cancelling;
 mod closing;
 mod curve;
+mod enrolling;
 mod fits;
 mod numbers;
+mod offering;
 pub mod opening;
 mod pairs;
 mod ranges;
 mod sound;
+mod withdrawing;
 
 // What a call answers: its number and count of rows, or the refusal.
 pub enum Answer {

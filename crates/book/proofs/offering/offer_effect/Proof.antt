@@ -1,0 +1,139 @@
+-- `offer_effect`: the amounts, the five words of the head and the two counts are one offer more.
+use native.Mathlib.Omega.{arith}
+use lib.ListN.{length-set}
+use Rattle.book.specs.Readable.{Readable}
+use Rattle.book.proofs.MadeLaws.{sound-head, sound-readable}
+use Rattle.book.proofs.OfferedLaws.{offered-in, offered-past}
+use borrow.Author.Needs.{needs}
+use Rattle.book.proofs.offering.offer_effect.Statement.{statement}
+use Rattle.book.proofs.offering.offer_effect.Tie as tie
+
+ok : (c : tie.Start) → Readable (c .args .book .now)
+ok c = sound-readable _ (c .pre .0)
+
+slice-read-j : tie.Need-slice-read-j
+slice-read-j c = let r = ok (c .before .before .before) in omega arith
+
+slice-read-number : tie.Need-slice-read-number
+slice-read-number c = let r = ok (c .before .before .before .before) in omega arith
+
+add-number : tie.Need-add-number
+add-number c = let h = sound-head (c .before .before .before .before .args .book .now) (c .before .before .before .before .pre .0) in omega arith
+
+put-amounts-requires : tie.Need-put-amounts-requires
+put-amounts-requires c κs = (ok (c .before .before .before .before .before), c .before .before .before .before .before .pre .1, c .before .before .before .before .before .pre .2)
+
+mul-book : tie.Need-mul-book
+mul-book c = search needs
+
+add-book : tie.Need-add-book
+add-book c = search needs
+
+mul-book-2 : tie.Need-mul-book-2
+mul-book-2 c = search needs
+
+slice-write-book : tie.Need-slice-write-book
+slice-write-book c = let r = ok (c .before .before .before .before .before .before .before .before) in omega arith
+
+mul-book-3 : tie.Need-mul-book-3
+mul-book-3 c = search needs
+
+add-book-2 : tie.Need-add-book-2
+add-book-2 c = search needs
+
+mul-book-4 : tie.Need-mul-book-4
+mul-book-4 c = search needs
+
+slice-write-book-2 : tie.Need-slice-write-book-2
+slice-write-book-2 c = let r = ok (c .before .before .before .before .before .before .before .before) in simp length-set (omega arith)
+
+mul-book-5 : tie.Need-mul-book-5
+mul-book-5 c = search needs
+
+add-book-3 : tie.Need-add-book-3
+add-book-3 c = search needs
+
+mul-book-6 : tie.Need-mul-book-6
+mul-book-6 c = search needs
+
+slice-write-book-3 : tie.Need-slice-write-book-3
+slice-write-book-3 c = let r = ok (c .before .before .before .before .before .before .before .before) in simp length-set (omega arith)
+
+mul-book-7 : tie.Need-mul-book-7
+mul-book-7 c = search needs
+
+add-book-4 : tie.Need-add-book-4
+add-book-4 c = search needs
+
+mul-book-8 : tie.Need-mul-book-8
+mul-book-8 c = search needs
+
+slice-write-book-4 : tie.Need-slice-write-book-4
+slice-write-book-4 c = let r = ok (c .before .before .before .before .before .before .before .before) in simp length-set (omega arith)
+
+mul-book-9 : tie.Need-mul-book-9
+mul-book-9 c = search needs
+
+add-book-5 : tie.Need-add-book-5
+add-book-5 c = search needs
+
+mul-book-10 : tie.Need-mul-book-10
+mul-book-10 c = search needs
+
+slice-write-book-5 : tie.Need-slice-write-book-5
+slice-write-book-5 c = let r = ok (c .before .before .before .before .before .before .before .before) in simp length-set (omega arith)
+
+add-book-6 : tie.Need-add-book-6
+add-book-6 c = search needs
+
+slice-write-book-6 : tie.Need-slice-write-book-6
+slice-write-book-6 c = let r = ok (c .before .before .before .before .before .before .before .before) in simp length-set (omega arith)
+
+slice-write-book-7 : tie.Need-slice-write-book-7
+slice-write-book-7 c = let r = ok (c .before .before .before .before .before .before .before .before) in simp length-set (omega arith)
+
+same-length : tie.Need-same-length
+same-length c = simp length-set (c .before .before .put-amounts .kept .0)
+
+returns : tie.Need-returns
+returns c =
+    let s = c .before .before .before .before .before .before .before .before in
+    let a = s .args in
+    let w = c .before .before .put-amounts in (
+      offered-in (a .book .now) (w .last .0) (a .unit) (a .partner) (a .price) (a .amounts .now) (ok s) (s .pre .1) (s .pre .2) (w .kept .0) (w .ensures .0) (w .ensures .1) (w .ensures .2),
+      offered-past (a .book .now) (w .last .0) (a .unit) (a .partner) (a .price) (a .amounts .now) (ok s) (s .pre .1) (s .pre .2) (w .kept .0) (w .ensures .0) (w .ensures .1) (w .ensures .2),
+    )
+
+pub offer-effect-spec : {M : Type 1} → statement M
+offer-effect-spec =
+    tie.close
+    (tie.spec
+    slice-read-j
+    slice-read-number
+    add-number
+    put-amounts-requires
+    mul-book
+    add-book
+    mul-book-2
+    slice-write-book
+    mul-book-3
+    add-book-2
+    mul-book-4
+    slice-write-book-2
+    mul-book-5
+    add-book-3
+    mul-book-6
+    slice-write-book-3
+    mul-book-7
+    add-book-4
+    mul-book-8
+    slice-write-book-4
+    mul-book-9
+    add-book-5
+    mul-book-10
+    slice-write-book-5
+    add-book-6
+    slice-write-book-6
+    slice-write-book-7
+    same-length
+    returns)

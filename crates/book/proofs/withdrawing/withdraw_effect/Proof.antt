@@ -1,0 +1,87 @@
+-- `withdraw_effect`: the place found is the number's, so what moves up there is what is kept.
+use Prim.Native.Nat.{_<_}
+use mathlib.Core.Path.{_≡_, _∙_}
+use native.Mathlib.Omega.{arith}
+use lib.ListN.{length, length-set}
+use Rattle.book.specs.Layout.{word}
+use Rattle.book.specs.Readable.{Readable}
+use Rattle.book.proofs.MadeLaws.{sound-readable}
+use Rattle.book.proofs.OfferPlaceLaws.{offer-placed}
+use Rattle.book.proofs.WithdrawLaws.{withdrawn, withdrawn-past}
+use Rattle.book.proofs.withdrawing.withdraw_effect.Statement.{statement}
+use Rattle.book.proofs.withdrawing.withdraw_effect.Tie as tie
+
+ok : (c : tie.Start) → Readable (c .args .book .now)
+ok c = sound-readable _ (c .pre .0)
+
+found : (c : tie.After-offer-place) → c .offer-place .result < word (c .before .before .before .before .args .book .now) 6
+found c = offer-placed _ (c .before .before .before .before .pre .0) _ (c .before .before .before .before .pre .1) (c .offer-place .result) (c .offer-place .ensures .0) (c .offer-place .ensures .1)
+
+slice-read-n : tie.Need-slice-read-n
+slice-read-n c = let r = ok (c .before .before) in omega arith
+
+offer-place-requires : tie.Need-offer-place-requires
+offer-place-requires c κs = ok (c .before .before .before)
+
+shift-amounts-requires : tie.Need-shift-amounts-requires
+shift-amounts-requires c κs = (ok (c .before .before .before .before .before), found (c .before), ok (c .before .before .before .before .before) .offersTo)
+
+mul-shift : tie.Need-mul-shift
+mul-shift c = let r = ok (c .before .before .before .before .before .before .before .before .before) in let f = found (c .before .before .before .before .before) in omega arith
+
+add-shift : tie.Need-add-shift
+add-shift c = let r = ok (c .before .before .before .before .before .before .before .before .before) in let f = found (c .before .before .before .before .before) in omega arith
+
+mul-shift-2 : tie.Need-mul-shift-2
+mul-shift-2 c = let r = ok (c .before .before .before .before .before .before .before .before .before) in omega arith
+
+add-shift-2 : tie.Need-add-shift-2
+add-shift-2 c = let r = ok (c .before .before .before .before .before .before .before .before .before) in omega arith
+
+shift-requires : tie.Need-shift-requires
+shift-requires c κs =
+    let r = ok (c .before .before .before .before .before .before .before .before .before) in
+    let f = found (c .before .before .before .before .before) in
+    let l : length (c .before .before .before .shift-amounts .last .0) ≡ length (c .before .before .before .before .before .before .before .before .before .args .book .now) = c .before .before .before .shift-amounts .kept .0 in
+    (omega arith, omega arith)
+
+sub-book : tie.Need-sub-book
+sub-book c = let f = found (c .before .before .before .before .before .before .before .before) in omega arith
+
+slice-write-book : tie.Need-slice-write-book
+slice-write-book c =
+    let r = ok (c .before .before .before .before .before .before .before .before .before .before .before .before) in
+    let l : length (c .before .before .shift .last .0) ≡ length (c .before .before .before .before .before .before .before .before .before .before .before .before .args .book .now) = c .before .before .shift .kept .0 ∙ c .before .before .before .before .before .before .shift-amounts .kept .0 in
+    omega arith
+
+same-length : tie.Need-same-length
+same-length c = simp length-set (c .before .before .shift .kept .0 ∙ c .before .before .before .before .before .before .shift-amounts .kept .0)
+
+returns : tie.Need-returns
+returns c =
+    let s = c .before .before .before .before .before .before .before .before .before .before .before .before in
+    let a = s .args in
+    let f = found (c .before .before .before .before .before .before .before .before) in
+    let p = c .before .before .before .before .before .before .before .before .offer-place in
+    let u = c .before .before .before .before .before .before .shift-amounts in
+    let w = c .before .before .shift in (
+      withdrawn (a .book .now) (u .last .0) (w .last .0) (a .number) (p .result) (s .pre .0) f (p .ensures .2 f) (u .kept .0) (w .kept .0) (u .ensures .0) (u .ensures .1) (u .ensures .2) (w .ensures .0) (w .ensures .1) (w .ensures .2) (w .ensures .3),
+      withdrawn-past (a .book .now) (u .last .0) (w .last .0) (a .number) (p .result) (s .pre .0) f (p .ensures .2 f) (u .kept .0) (w .kept .0) (u .ensures .0) (u .ensures .1) (u .ensures .2) (w .ensures .0) (w .ensures .1) (w .ensures .2) (w .ensures .3),
+    )
+
+pub withdraw-effect-spec : {M : Type 1} → statement M
+withdraw-effect-spec =
+    tie.close
+    (tie.spec
+    slice-read-n
+    offer-place-requires
+    shift-amounts-requires
+    mul-shift
+    add-shift
+    mul-shift-2
+    add-shift-2
+    shift-requires
+    sub-book
+    slice-write-book
+    same-length
+    returns)
