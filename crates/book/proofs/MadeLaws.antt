@@ -5,7 +5,7 @@ use mathlib.Core.Bool.{Bool, true, false, cond, not, _&&_}
 use mathlib.Core.List.{List, [], _∷_}
 use native.Mathlib.Omega.{arith}
 use borrow.Author.Tests.{eq-eqb, ne-eqb, leb-true}
-use lib.ListN.{length, drop}
+use lib.ListN.{length, drop, length-append}
 use lib.Dec.{eqb, leb}
 use Rattle.measures.proofs.ListLaws.{cond-true, cond-false, and-left, and-right, all-true, both-ways, not-fails}
 use Rattle.matching.specs.Orders.{Row}
@@ -33,7 +33,7 @@ use Rattle.book.specs.Close.{closing, dayClosed}
 use Rattle.book.specs.Calls.{Call, enrol, offer, take, withdraw, order, cancel, clear, close, outcome}
 use Rattle.book.specs.Contract.{Told, toldBy, soundIn, outcomeOn, Made}
 use Rattle.book.specs.Readable.{Readable, Ranged, unitsFieldsIn}
-use Rattle.book.proofs.RangeFacts.{Head, head-facts, readable}
+use Rattle.book.proofs.RangeFacts.{Head, head-facts, readable, units-held}
 
 -- a sound book in memory is long enough, and sound
 pub sound-enough : (m : List ℕ) → soundIn m ≡ true → enough m ≡ true
@@ -167,3 +167,18 @@ made-done m rows c n rs b k m′ rows′ e f g =
     (outcome-sound m c e ∙ outcome-is (decode m) c
     ∙ ap (λ (x : ℕ). decided x (decode m) (effectOf (decode m) c)) (chain-sound (decode m) (checksOf (decode m) c) (sound-book m e) ∙ sym f)
     ∙ decided-accepted 0 (decode m) (effectOf (decode m) c) refl ∙ g)
+
+-- the numbers that enrol and offer return, in memory
+pub enrol-number : (m : List ℕ) (kind capacity asset : ℕ) → effectOf (decode m) (enrol kind capacity asset) ≡ accepted (word m 5 + 1) [] (enrolled (decode m) kind capacity asset)
+enrol-number m kind capacity asset =
+    ap (λ (n : ℕ). accepted n [] (enrolled (decode m) kind capacity asset))
+    (length-append (decode m .units) _ ∙ ap (λ (n : ℕ). n + 1) (units-held m))
+
+pub offer-number : (m : List ℕ) (unit partner price : ℕ) (amounts : List ℕ) → effectOf (decode m) (offer unit partner price amounts) ≡ accepted (word m 4 + 1) [] (offered (decode m) unit partner price amounts)
+unfolding decode
+offer-number m unit partner price amounts = refl
+
+-- a call with no check but soundness
+pub no-checks : 0 ≡ firstOf []
+unfolding firstOf
+no-checks = refl

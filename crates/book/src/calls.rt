@@ -1,12 +1,22 @@
 // The public calls: each checks for itself, and answers for every memory and argument.
 use crate::Answer;
+use crate::cancelling::cancel_checks;
+use crate::cancelling::cancel_effect;
+use crate::closing::close_day;
 use crate::curve::curve_checks;
 use crate::curve::write_points;
+use crate::enrolling::enrol_checks;
+use crate::enrolling::enrol_effect;
+use crate::offering::offer_checks;
+use crate::offering::offer_effect;
 use crate::sound::sound_book;
+use crate::withdrawing::withdraw_checks;
+use crate::withdrawing::withdraw_effect;
 ghost use mathlib.Core.Path.{_≡_};
 ghost use mathlib.Core.List.{List, []};
 ghost use lib.ListN.{length};
-ghost use Rattle.book.specs.Contract.{Curved};
+ghost use Rattle.book.specs.Contract.{Made, Curved};
+ghost use Rattle.book.specs.Calls.{enrol as callEnrol, offer as callOffer, withdraw as callWithdraw, cancel as callCancel, close as callClose};
 
 // The 48 points of a unit on a day.
 pub fn curve(book: &[u64], unit: u64, day: u64, points: &mut [u64]) -> Answer
@@ -20,5 +30,78 @@ pub fn curve(book: &[u64], unit: u64, day: u64, points: &mut [u64]) -> Answer
         return Answer::Refused(no);
     }
     write_points(book, unit as usize - 1, day as usize, points);
+    Answer::Done(0, 0)
+}
+
+// Adds a unit.
+pub fn enrol(book: &mut [u64], kind: u64, capacity: u64, asset: u64) -> Answer
+    ensures { λ r. ⌜ Made (now (book .entry)) [] (callEnrol kind capacity asset) r (now (book .exit)) [] ⌝ }
+{
+    if !sound_book(book) {
+        return Answer::Refused(1);
+    }
+    let no = enrol_checks(book, kind, capacity, asset);
+    if no != 0 {
+        return Answer::Refused(no);
+    }
+    let number = book[5] + 1;
+    enrol_effect(book, kind, capacity, asset);
+    Answer::Done(number, 0)
+}
+
+// Offers an amount for each period, to a partner or as a listing.
+pub fn offer(book: &mut [u64], unit: u64, partner: u64, price: u64, amounts: &[u64]) -> Answer
+    ensures { λ r. ⌜ Made (now (book .entry)) [] (callOffer unit partner price (now (amounts .entry))) r (now (book .exit)) [] ⌝ }
+{
+    if !sound_book(book) {
+        return Answer::Refused(1);
+    }
+    let no = offer_checks(book, unit, partner, price, amounts);
+    if no != 0 {
+        return Answer::Refused(no);
+    }
+    let number = book[4] + 1;
+    offer_effect(book, unit, partner, price, amounts);
+    Answer::Done(number, 0)
+}
+
+// Removes an own offer of which nothing is taken.
+pub fn withdraw(book: &mut [u64], unit: u64, number: u64) -> Answer
+    ensures { λ r. ⌜ Made (now (book .entry)) [] (callWithdraw unit number) r (now (book .exit)) [] ⌝ }
+{
+    if !sound_book(book) {
+        return Answer::Refused(1);
+    }
+    let no = withdraw_checks(book, unit, number);
+    if no != 0 {
+        return Answer::Refused(no);
+    }
+    withdraw_effect(book, number);
+    Answer::Done(0, 0)
+}
+
+// Removes what is left of an own order.
+pub fn cancel(book: &mut [u64], unit: u64, number: u64) -> Answer
+    ensures { λ r. ⌜ Made (now (book .entry)) [] (callCancel unit number) r (now (book .exit)) [] ⌝ }
+{
+    if !sound_book(book) {
+        return Answer::Refused(1);
+    }
+    let no = cancel_checks(book, unit, number);
+    if no != 0 {
+        return Answer::Refused(no);
+    }
+    cancel_effect(book, number);
+    Answer::Done(0, 0)
+}
+
+// Closes the day.
+pub fn close(book: &mut [u64]) -> Answer
+    ensures { λ r. ⌜ Made (now (book .entry)) [] callClose r (now (book .exit)) [] ⌝ }
+{
+    if !sound_book(book) {
+        return Answer::Refused(1);
+    }
+    close_day(book);
     Answer::Done(0, 0)
 }
