@@ -23,6 +23,8 @@ pub mod TradeLaws
 pub mod ExchangedLaws
 pub mod LeftLaws
 pub mod ClearedLaws
+pub mod RowCountLaws
+pub mod PassingLaws
 pub mod RolledLaws
 pub mod TakeLaws
 pub mod TakingLaws

@@ -14,6 +14,7 @@ pub mod Withdraw
 pub mod Order
 pub mod Cancel
 pub mod Clear
+pub mod Periods
 pub mod Close
 pub mod Curve
 pub mod Calls

@@ -1,9 +1,10 @@
 // The book of a term: opening, the eight calls and the curve (paper 01).
 mod curve;
+mod fits;
 mod numbers;
 pub mod opening;
 mod pairs;
-mod fits;
+mod periods;
 mod ranges;
 
 // What a call answers: its number and count of rows, or the refusal.
