@@ -8,6 +8,10 @@ pub mod ShareLaws
 pub mod PeriodLaws
 pub mod JoinLaws
 pub mod MisfitLaws
+pub mod KeptLaws
+pub mod WordLaws
+pub mod CancelLaws
+pub mod EnrolLaws
 pub mod FiguresHold
 pub mod RemainLaws
 pub mod FitLaws

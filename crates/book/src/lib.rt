@@ -1,5 +1,7 @@
 // The book of a term: opening, the eight calls and the curve (paper 01).
 mod curve;
+mod cancelling;
+mod enrolling;
 mod numbers;
 pub mod opening;
 mod pairs;
