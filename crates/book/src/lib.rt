@@ -2,6 +2,7 @@
 mod numbers;
 mod pairs;
 mod ranges;
+mod trades;
 
 // What a call answers: its number and count of rows, or the refusal.
 pub enum Answer {
