@@ -5,4 +5,8 @@ pub mod MadeLaws
 pub mod FigureLaws
 pub mod BookingLaws
 pub mod SmallLaws
+pub mod ShareLaws
+pub mod PeriodLaws
+pub mod JoinLaws
+pub mod FitLaws
 pub mod FiguresHold

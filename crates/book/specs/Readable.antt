@@ -5,6 +5,7 @@ use mathlib.Core.Bool.{Bool, true, false, not, _&&_, _||_}
 use mathlib.Core.List.{List, [], _∷_, map}
 use lib.ListN.{length, getD}
 use lib.Dec.{eqb, leb}
+use Rattle.measures.specs.Ranges.{mostEnergy}
 use Rattle.measures.specs.Lists.{holds, every, all}
 use Rattle.limits.specs.Units.{mostDays, periods, kindIn, capacityIn, assetIn}
 use Rattle.matching.specs.Orders.{Order as OpenOrder}
@@ -48,6 +49,10 @@ waysIn b u = every (λ (f : Figures). leb (f .way) 2) (unitOf b u .figures)
 -- what a declaration lent as amounts by period raises and lowers
 abbrev pub declared : List ℕ → List ℕ → Declaration
 declared raising lowering = record { raising = λ p. getD raising p 0; lowering = λ p. getD lowering p 0 }
+
+-- that each amount is an energy in range
+abbrev pub small : List ℕ → Type 0
+small l = (i : ℕ) → getD l i 0 ≤ mostEnergy
 
 -- 19, 20 or 21 for the first of hours, term and volume that does not fit with a declaration added, or 0; here every
 -- period is looked at, which on a sound book is the same as looking at those where the declaration has energy

@@ -1,6 +1,7 @@
 // The book of a term: opening, the eight calls and the curve (paper 01).
 mod numbers;
 mod pairs;
+mod fits;
 mod ranges;
 mod trades;
 
