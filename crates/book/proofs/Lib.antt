@@ -12,6 +12,9 @@ pub mod KeptLaws
 pub mod WordLaws
 pub mod CancelLaws
 pub mod EnrolLaws
+pub mod FigureLaws
+pub mod BookingLaws
+pub mod SmallLaws
 pub mod FiguresHold
 pub mod RemainLaws
 pub mod FitLaws

@@ -7,6 +7,7 @@ pub mod opening;
 mod pairs;
 mod fits;
 mod ranges;
+mod trades;
 
 // What a call answers: its number and count of rows, or the refusal.
 pub enum Answer {
