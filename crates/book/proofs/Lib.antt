@@ -8,6 +8,13 @@ pub mod ShareLaws
 pub mod PeriodLaws
 pub mod JoinLaws
 pub mod MisfitLaws
+pub mod KeptLaws
+pub mod WordLaws
+pub mod CancelLaws
+pub mod EnrolLaws
+pub mod FigureLaws
+pub mod BookingLaws
+pub mod SmallLaws
 pub mod FiguresHold
 pub mod RemainLaws
 pub mod FitLaws
@@ -25,6 +32,8 @@ pub mod LeftLaws
 pub mod ClearedLaws
 pub mod RowCountLaws
 pub mod PassingLaws
+pub mod SweepLaws
+pub mod ClearEffectLaws
 pub mod RolledLaws
 pub mod TakeLaws
 pub mod TakingLaws

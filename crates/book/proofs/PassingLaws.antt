@@ -1,15 +1,15 @@
 -- Clearing period by period on the orders' part: periods without an order are passed over, and the rows have room.
 use Prim.Native.Nat.{ℕ, zero, suc, _+_, _-_, _*_, _≤_, _<_}
 use mathlib.Core.Path.{_≡_, refl, sym, ap, _∙_}
-use mathlib.Core.Bool.{true, false}
+use mathlib.Core.Bool.{Bool, true, false, cond}
 use mathlib.Core.List.{List, [], _++_, append-assoc, append-nil}
 use native.Mathlib.Omega.{arith}
 use native.Mathlib.Decide.{ℕ-discrete}
-use borrow.Author.Tests.{eq-eqb, ne-eqb, lt-ltb, le-ltb, le-leb}
+use borrow.Author.Tests.{eq-eqb, ne-eqb, lt-ltb, le-ltb, le-leb, ltb-false}
 use borrow.Rule.Slice.PartMut.{putMid}
 use lib.ListN.{length, getD, take, drop, length-append, length-take, length-drop, drop-of-length-le}
 use lib.Seq.{take-at, drop-at, take-all, drop-drop}
-use lib.Dec.{eqb}
+use lib.Dec.{eqb, ltb}
 use Rattle.measures.specs.Ranges.{mostEnergy}
 use Rattle.measures.specs.Lists.{Each, keep}
 use Rattle.measures.proofs.ListLaws.{and-right-false, both-ways}
@@ -24,6 +24,7 @@ use Rattle.matching.proofs.RowLaws.{flat-length, flat-append, written-none}
 use Rattle.matching.proofs.FitLaws.{is-fit}
 use Rattle.matching.proofs.PeriodLaws.{isBid, isAsk}
 use Rattle.matching.proofs.RestLaws.{numbers-rise-after}
+use Rattle.book.specs.Book.{Book}
 use Rattle.book.specs.Refusals.{firstOf}
 use Rattle.book.specs.Layout.{word, decode}
 use Rattle.book.specs.Clear.{clearChecks, clearFrom}
@@ -46,6 +47,15 @@ module _ (m : List ℕ) (lent : ℕ) where
   pub clear-passes : 4464 ≤ lent → (word m 3 ≡ 1 → ⊥) → 0 ≡ firstOf (clearChecks (decode m) lent)
   unfolding firstOf decode
   clear-passes h e = rw (le-ltb lent 4464 h, ne-eqb (word m 3) 1 e) refl
+
+-- where the checks of a clear give 0, 744 rows are lent
+pub clear-room : (b : Book) (lent : ℕ) → 0 ≡ firstOf (clearChecks b lent) → 4464 ≤ lent
+unfolding firstOf
+clear-room b lent e = go (ltb lent 4464) (eqb (b .phase) 1) refl e
+  where
+    go : (p q : Bool) → ltb lent 4464 ≡ p → _≡_ {A = ℕ} 0 (cond p 7 (cond q 14 0)) → 4464 ≤ lent
+    go true q ep h = absurd (omega arith)
+    go false q ep h = ltb-false lent 4464 ep
 
 -- a period of which there is no order
 abbrev NoneOf : ℕ → List OpenOrder → Type 0

@@ -6,6 +6,7 @@ pub mod Refusals
 pub mod Opening
 pub mod Layout
 pub mod Readable
+pub mod RowsIn
 pub mod Fitting
 pub mod Enrol
 pub mod Offer

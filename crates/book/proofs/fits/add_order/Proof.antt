@@ -66,7 +66,9 @@ shared-slice-read-totals : tie.Need-shared-slice-read-totals
 shared-slice-read-totals c = search needs
 
 add-totals-2 : tie.Need-add-totals-2
-add-totals-2 c = omega (arith, facts (c .before .before .before .before .before .before .before), c .before .before .before .before .before .before .before .pre .1 .1 (word (c .before .before .before .before .before .before .before .args .book .now) (240 + 6 * c .before .before .before .before .before .before .before .args .k + 3)))
+add-totals-2 c =
+    let s = c .before .before .before .before .before .before .before in
+    omega (arith, facts s, s .pre .1 .1 (word (s .args .book .now) (240 + 6 * s .args .k + 3)))
 
 mul-totals-3 : tie.Need-mul-totals-3
 mul-totals-3 c = omega (arith, facts (c .before .before .before .before .before .before .before))

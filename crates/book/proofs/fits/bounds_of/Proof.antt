@@ -10,12 +10,17 @@ use borrow.Author.Needs.{needs}
 use Rattle.book.proofs.fits.bounds_of.Statement.{statement}
 use Rattle.book.proofs.fits.bounds_of.Tie as tie
 
+abbrev start : tie.After-unit-limits → tie.Start
+start c = c .before .before .before .before
+
 limits-given : (c : tie.After-unit-limits) → answerOf (c .unit-limits .result)
-    ≡ given (hourLimit (word (c .before .before .before .before .args .book .now) (8 + 3 * c .before .before .before .before .args .k)) (word (c .before .before .before .before .args .book .now) (9 + 3 * c .before .before .before .before .args .k)) 0) (termAt (c .before .before .before .before .args .book .now) (c .before .before .before .before .args .k)) (volumeAt (c .before .before .before .before .args .book .now) (c .before .before .before .before .args .k))
+    ≡ given
+    (hourLimit (word (start c .args .book .now) (8 + 3 * start c .args .k)) (word (start c .args .book .now) (9 + 3 * start c .args .k)) 0)
+    (termAt (start c .args .book .now) (start c .args .k))
+    (volumeAt (start c .args .book .now) (start c .args .k))
 limits-given c =
-    let s = c .before .before .before .before in
     let u = c .before .before .unit-at .ensures in
-    bounds-given _ _ (s .pre .0) (s .pre .1) _ _ _ (u .0) (u .1) (u .2) (c .unit-limits .result) (c .unit-limits .ensures)
+    bounds-given _ _ (start c .pre .0) (start c .pre .1) _ _ _ (u .0) (u .1) (u .2) (c .unit-limits .result) (c .unit-limits .ensures)
 
 unit-at-requires : tie.Need-unit-at-requires
 unit-at-requires c κs = search needs

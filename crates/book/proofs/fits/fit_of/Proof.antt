@@ -14,20 +14,35 @@ use Rattle.book.proofs.fits.fit_of.Tie as tie
 abbrev Inv-loop : tie.InvT-loop
 Inv-loop book k raising lowering most top whole₀ volume₀ p₀ whole volume p =
     (p ≤ 24 * word book 0)
-    × (Passing (wayHolds book k) (λ i. hourHolds book k i (getD raising i 0) (getD lowering i 0)) (λ i. termPart book k i (getD raising i 0)) (λ i. volumePart book k i (getD raising i 0) (getD lowering i 0)) p whole volume)
+    × (Passing
+    (wayHolds book k)
+    (λ i. hourHolds book k i (getD raising i 0) (getD lowering i 0))
+    (λ i. termPart book k i (getD raising i 0))
+    (λ i. volumePart book k i (getD raising i 0) (getD lowering i 0))
+    p whole volume)
 
 abbrev μ-loop : tie.MeasureT-loop
 μ-loop book k raising lowering most top whole₀ volume₀ p₀ whole volume p = 24 * word book 0 - p
 
+abbrev turn : tie.Else1 Inv-loop μ-loop → tie.At-loop Inv-loop μ-loop
+turn c = c .before .before .before .before .before
+
+abbrev start : tie.Else1 Inv-loop μ-loop → tie.Start Inv-loop μ-loop
+start c = turn c .before .before .before .before .before .before
+
+-- what a period that passed says
 passed : (c : tie.Else1 Inv-loop μ-loop)
-    → (wayHolds (c .before .before .before .before .before .before .before .before .before .before .before .args .book .now) (c .before .before .before .before .before .before .before .before .before .before .before .args .k) (c .before .before .before .before .before .loop .p) ≡ true)
-    × (hourHolds (c .before .before .before .before .before .before .before .before .before .before .before .args .book .now) (c .before .before .before .before .before .before .before .before .before .before .before .args .k) (c .before .before .before .before .before .loop .p) (getD (c .before .before .before .before .before .before .before .before .before .before .before .args .raising .now) (c .before .before .before .before .before .loop .p) 0) (getD (c .before .before .before .before .before .before .before .before .before .before .before .args .lowering .now) (c .before .before .before .before .before .loop .p) 0) ≡ true)
+    → (wayHolds (start c .args .book .now) (start c .args .k) (turn c .loop .p) ≡ true)
+    × (hourHolds (start c .args .book .now) (start c .args .k) (turn c .loop .p)
+    (getD (start c .args .raising .now) (turn c .loop .p) 0)
+    (getD (start c .args .lowering .now) (turn c .loop .p) 0)
+    ≡ true)
 passed c = period-passed _ _ _ (c .before .period-fit .ensures) (c .if1 .left)
 
 little : (c : tie.Else1 Inv-loop μ-loop)
-    → word (c .before .before .before .before .before .before .before .before .before .before .before .args .book .now) (1776 + 328 * c .before .before .before .before .before .loop .p + 5 * c .before .before .before .before .before .before .before .before .before .before .before .args .k)
-    + (word (c .before .before .before .before .before .before .before .before .before .before .before .args .book .now) (1777 + 328 * c .before .before .before .before .before .loop .p + 5 * c .before .before .before .before .before .before .before .before .before .before .before .args .k) + getD (c .before .before .before .before .before .before .before .before .before .before .before .args .raising .now) (c .before .before .before .before .before .loop .p) 0) ≤ 5_000_000
-little c = hour-small _ _ (c .before .before .before .before .before .before .before .before .before .before .before .pre .0 .0) (c .before .before .before .before .before .before .before .before .before .before .before .pre .0 .1) _ _ _ (passed c .1)
+    → word (start c .args .book .now) (1776 + 328 * turn c .loop .p + 5 * start c .args .k)
+    + (word (start c .args .book .now) (1777 + 328 * turn c .loop .p + 5 * start c .args .k) + getD (start c .args .raising .now) (turn c .loop .p) 0) ≤ 5_000_000
+little c = hour-small _ _ (start c .pre .0 .0) (start c .pre .0 .1) _ _ _ (passed c .1)
 
 bounds-of-requires : tie.Need-bounds-of-requires Inv-loop μ-loop
 bounds-of-requires c κs = search needs
@@ -126,7 +141,9 @@ capped-requires : tie.Need-capped-requires Inv-loop μ-loop
 capped-requires c κs = search needs
 
 add-capped-3 : tie.Need-add-capped-3 Inv-loop μ-loop
-add-capped-3 c = omega (arith, c .before .before .before .before .before .before .before .before .before .before .before .before .before .before .before .pre .1 .2 (c .before .before .before .before .before .before .before .before .before .loop .p), c .before .before .before .before .before .before .before .before .before .before .before .before .before .before .before .pre .1 .3 (c .before .before .before .before .before .before .before .before .before .loop .p))
+add-capped-3 c =
+    let e = c .before .before .before .before in
+    omega (arith, start e .pre .1 .2 (turn e .loop .p), start e .pre .1 .3 (turn e .loop .p))
 
 capped-requires-2 : tie.Need-capped-requires-2 Inv-loop μ-loop
 capped-requires-2 c κs = search needs
@@ -140,9 +157,11 @@ loop-less c = search needs
 loop-again : tie.Need-loop-again Inv-loop μ-loop
 unfolding termPart volumePart
 loop-again c =
-    let l = c .before .before .before .before .before .before .before .before .before .before in
     let e = c .before .before .before .before .before in
-    (search needs, passing-more _ _ _ _ (l .loop .p) (l .loop .whole) (l .loop .volume) _ _ (l .loop .inv .1) (passed e .0) (passed e .1) (omega arith) (little e) (omega arith))
+    let l = turn e .loop in (
+      search needs,
+      passing-more _ _ _ _ (l .p) (l .whole) (l .volume) _ _ (l .inv .1) (passed e .0) (passed e .1) (omega arith) (little e) (omega arith),
+    )
 
 returns-2 : tie.Need-returns-2 Inv-loop μ-loop
 returns-2 c = came-term _ _ _ _ _ _ _ _ _ _ (c .before .before .before .loop .inv .1) (omega arith) (omega arith)
@@ -151,7 +170,9 @@ returns-3 : tie.Need-returns-3 Inv-loop μ-loop
 returns-3 c = came-volume _ _ _ _ _ _ _ _ _ _ (c .before .before .before .before .before .loop .inv .1) (omega arith) (omega arith) (omega arith)
 
 returns-4 : tie.Need-returns-4 Inv-loop μ-loop
-returns-4 c = came-fits _ _ _ _ _ _ _ _ _ _ (c .before .before .before .before .before .loop .inv .1) (omega arith) (omega arith) (omega arith) (volume-at-most _ _ (c .before .before .before .before .before .before .before .before .before .before .before .pre .0 .0) (c .before .before .before .before .before .before .before .before .before .before .before .pre .0 .1))
+returns-4 c =
+    let s = c .before .before .before .before .before .before .before .before .before .before .before in
+    came-fits _ _ _ _ _ _ _ _ _ _ (c .before .before .before .before .before .loop .inv .1) (omega arith) (omega arith) (omega arith) (volume-at-most _ _ (s .pre .0 .0) (s .pre .0 .1))
 
 pub fit-of-spec : {M : Type 1} → statement M
 fit-of-spec =

@@ -33,8 +33,15 @@ fit-of-requires c κs =
     let s = c .before .before .before .before .before .before .before .before .before .before .before .before .before .before .before .before .before .before in
     let a = c .before .before .before .before .before .before .before .before .before .before .before .before .add-offers .ensures in
     let b = c .before .before .before .before .before .before .before .before .add-orders .ensures in
-    let d = c .before .before .before .before .add-orders2 .ensures in
-    ((s .pre .0 .0, omega arith), (omega arith, omega arith, λ i. omega (arith, a .grown i, b .grown i, s .pre .1 .2 i), λ i. omega (arith, d .grown i, s .pre .1 .3 i)))
+    let d = c .before .before .before .before .add-orders2 .ensures in (
+      (s .pre .0 .0, omega arith),
+      (
+        omega arith,
+        omega arith,
+        λ i. omega (arith, a .grown i, b .grown i, s .pre .1 .2 i),
+        λ i. omega (arith, d .grown i, s .pre .1 .3 i),
+      ),
+    )
 
 same-length : tie.Need-same-length
 same-length c = search needs
@@ -44,8 +51,13 @@ same-length-2 c = search needs
 
 returns : tie.Need-returns
 returns c =
-    fitted-all _ _ _ _ _ _ _ _ _ _ _ _ (omega arith) (omega arith) (c .before .before .before .before .before .before .before .before .before .before .before .before .before .before .before .raising-way .ensures .1)
-    (c .before .before .before .before .before .before .before .before .before .before .before .before .before .add-offers .ensures) (c .before .before .before .before .before .before .before .before .before .add-orders .ensures) (c .before .before .before .before .before .add-orders2 .ensures) (c .fit-of .ensures)
+    let lowers = c .before .before .before .before .before in
+    let raises = lowers .before .before .before .before in
+    let offers = raises .before .before .before .before in
+    let way = offers .before .before in
+    let pre = way .before .before .before .before .pre .0 in
+    fitted-all _ _ _ _ _ _ _ _ _ _ _ _ (pre .1, pre .2) (pre .0 .readable .ordersTo) (way .raising-way .ensures .1)
+    (offers .add-offers .ensures) (raises .add-orders .ensures) (lowers .add-orders2 .ensures) (c .fit-of .ensures)
 
 pub misfit-spec : {M : Type 1} → statement M
 misfit-spec =

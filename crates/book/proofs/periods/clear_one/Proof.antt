@@ -1,6 +1,6 @@
 -- `clear_one`: the orders fit, so the period is cleared, and its rows are written behind the others.
 use Prim.Native.Nat.{_≤_}
-use mathlib.Core.Path.{_≡_, ap}
+use mathlib.Core.Path.{ap}
 use native.Mathlib.Omega.{arith}
 use Rattle.matching.specs.declared.orders.Matched.{Matched}
 use Rattle.matching.specs.Answers.{answerOf}

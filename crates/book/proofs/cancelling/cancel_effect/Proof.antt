@@ -1,0 +1,73 @@
+-- `cancel_effect`: the place found is the number's, so what is removed there is what is not kept.
+use Prim.Native.Nat.{_<_}
+use native.Mathlib.Omega.{arith}
+use mathlib.Core.Path.{_≡_, _∙_}
+use borrow.Rule.Slice.PartMut.{mid-len}
+use lib.ListN.{length, length-take, length-drop}
+use Rattle.book.specs.Layout.{word}
+use Rattle.book.specs.Readable.{Readable}
+use Rattle.book.proofs.MadeLaws.{sound-readable}
+use Rattle.book.proofs.CancelLaws.{order-placed, cancelled, cancelled-past}
+use borrow.Author.Needs.{needs}
+use Rattle.book.proofs.cancelling.cancel_effect.Statement.{statement}
+use Rattle.book.proofs.cancelling.cancel_effect.Tie as tie
+
+ok : (c : tie.Start) → Readable (c .args .book .now)
+ok c = sound-readable _ (c .pre .0)
+
+found : (c : tie.After-order-place) → c .order-place .result < word (c .before .before .before .before .args .book .now) 7
+found c = order-placed _ (c .before .before .before .before .pre .0) _ (c .before .before .before .before .pre .1) (c .order-place .result) (c .order-place .ensures .0) (c .order-place .ensures .1)
+
+long : (c : tie.After-slice-known3) → length (c .before .before .remove .last .0) ≡ 1536
+long c = let r = ok (c .before .before .before .before .before .before .before .before) in c .before .before .remove .kept .0 ∙ mid-len 240 1776 (c .before .before .before .before .before .before .before .before .args .book .now) (omega arith)
+
+slice-read-n : tie.Need-slice-read-n
+slice-read-n c = let r = ok (c .before .before) in omega arith
+
+order-place-requires : tie.Need-order-place-requires
+order-place-requires c κs = ok (c .before .before .before)
+
+sub-remove : tie.Need-sub-remove
+sub-remove c = search needs
+
+part-remove-start : tie.Need-part-remove-start
+part-remove-start c = search needs
+
+part-remove-end : tie.Need-part-remove-end
+part-remove-end c = let r = ok (c .before .before .before .before) in omega arith
+
+remove-requires : tie.Need-remove-requires
+remove-requires c κs = let r = ok (c .before .before .before .before .before) in let f = found (c .before) in (simp (length-take, length-drop) (omega arith), f, r .ordersTo)
+
+sub-book : tie.Need-sub-book
+sub-book c = let f = found (c .before .before .before .before) in omega arith
+
+slice-write-book : tie.Need-slice-write-book
+slice-write-book c = let r = ok (c .before .before .before .before .before .before .before .before) in omega arith
+
+same-length : tie.Need-same-length
+same-length c = search needs
+
+returns : tie.Need-returns
+returns c =
+    let s = c .before .before .before .before .before .before .before .before in
+    let f = found (c .before .before .before .before) in
+    let w = c .before .before .before .before .order-place in (
+      cancelled (s .args .book .now) (c .before .before .remove .last .0) (s .args .number) (w .result) (s .pre .0) f (w .ensures .2 f) (long c) (c .before .before .remove .ensures .0),
+      cancelled-past (s .args .book .now) (c .before .before .remove .last .0) (s .args .number) (w .result) (s .pre .0) f (w .ensures .2 f) (long c) (c .before .before .remove .ensures .0),
+    )
+
+pub cancel-effect-spec : {M : Type 1} → statement M
+cancel-effect-spec =
+    tie.close
+    (tie.spec
+    slice-read-n
+    order-place-requires
+    sub-remove
+    part-remove-start
+    part-remove-end
+    remove-requires
+    sub-book
+    slice-write-book
+    same-length
+    returns)

@@ -1,0 +1,47 @@
+-- `clear_effect`: the rows of the cleared orders are booked, and the phase is set.
+use mathlib.Core.Path.{_∙_}
+use lib.ListN.{length-set}
+use native.Mathlib.Omega.{arith}
+use Rattle.book.proofs.MadeLaws.{sound-readable}
+use Rattle.book.proofs.ClearEffectLaws.{swept-readable, swept-room, swept-rows, swept-small, all-cleared}
+use borrow.Author.Needs.{needs}
+use Rattle.book.proofs.periods.clear_effect.Statement.{statement}
+use Rattle.book.proofs.periods.clear_effect.Tie as tie
+
+sweep-requires : tie.Need-sweep-requires
+sweep-requires c κs = search needs
+
+book-rows-requires : tie.Need-book-rows-requires
+book-rows-requires c κs =
+    let s = c .before .before .before .before .before .before .before .before .before .before .before in
+    let w = c .before .before .before .before .before .before .sweep in
+    let f = w .ensures .few in (
+      swept-readable (s .args .book .now) (s .args .rows .now) (w .last .0) (w .last .1 .0) (w .result) (s .pre .0) (s .pre .1) (w .ensures),
+      swept-room (s .args .book .now) (s .args .rows .now) (w .last .0) (w .last .1 .0) (w .result) (s .pre .0) (s .pre .1) (w .ensures),
+      omega arith,
+      swept-rows (s .args .book .now) (s .args .rows .now) (w .last .0) (w .last .1 .0) (w .result) (s .pre .0) (s .pre .1) (w .ensures),
+      swept-small (s .args .book .now) (s .args .rows .now) (w .last .0) (w .last .1 .0) (w .result) (s .pre .0) (s .pre .1) (w .ensures),
+    )
+
+slice-write-book : tie.Need-slice-write-book
+slice-write-book c =
+    let r = sound-readable (c .before .before .before .before .before .before .before .before .before .before .before .before .before .before .args .book .now) (c .before .before .before .before .before .before .before .before .before .before .before .before .before .before .pre .0) in
+    let a = c .before .before .before .before .before .before .before .before .before .sweep .ensures .long in
+    let b = c .before .before .book-rows .ensures .kept .long in
+    omega arith
+
+same-length : tie.Need-same-length
+same-length c = length-set (c .before .before .book-rows .last .0) 3 1 ∙ c .before .before .book-rows .ensures .kept .long ∙ c .before .before .before .before .before .before .before .before .before .sweep .ensures .long
+
+same-length-2 : tie.Need-same-length-2
+same-length-2 c = search needs
+
+returns : tie.Need-returns
+returns c =
+    let s = c .before .before .before .before .before .before .before .before .before .before .before .before .before .before in
+    all-cleared (s .args .book .now) (s .args .rows .now) (c .before .before .before .before .before .before .before .before .before .sweep .last .0) (c .before .before .before .before .before .before .before .before .before .sweep .last .1 .0) (c .before .before .before .before .before .before .before .before .before .sweep .result) (c .before .before .book-rows .last .0) (s .pre .0) (s .pre .1) (c .before .before .before .before .before .before .before .before .before .sweep .ensures) (c .before .before .book-rows .ensures)
+
+pub clear-effect-spec : {M : Type 1} → statement M
+clear-effect-spec =
+    tie.close
+    (tie.spec sweep-requires book-rows-requires slice-write-book same-length same-length-2 returns)

@@ -1,0 +1,64 @@
+// Cancel (paper 01): "Cancel removes what is left of an own order."
+ghost use mathlib.Core.Path.{_≡_};
+ghost use mathlib.Core.Bool.{true, not};
+ghost use mathlib.Core.List.{List};
+ghost use Prim.Native.Nat.{ℕ, _+_, _*_, _-_, _<_, _≤_};
+ghost use lib.ListN.{length, drop};
+ghost use lib.Dec.{eqb};
+ghost use Rattle.measures.specs.Lists.{keep};
+ghost use Rattle.book.specs.Book.{withOrders, orderOpen};
+ghost use Rattle.book.specs.Opening.{bookWords};
+ghost use Rattle.book.specs.Layout.{word, decode};
+ghost use Rattle.book.specs.Refusals.{firstOf};
+ghost use Rattle.book.specs.Readable.{Readable};
+ghost use Rattle.book.specs.Contract.{soundIn};
+ghost use Rattle.book.specs.Cancel.{cancelChecks};
+
+// The place of the open order of a number, or how many stand open.
+fn order_place(book: &[u64], number: u64) -> usize
+    requires { ⌜ Readable (now book) ⌝ }
+    ensures { λ r. ⌜ (r ≤ word (now (book .entry)) 7) × ((k : ℕ) → k < r → word (now (book .entry)) (240 + 6 * k) ≡ number → ⊥) × (r < word (now (book .entry)) 7 → word (now (book .entry)) (240 + 6 * r) ≡ number) ⌝ }
+{
+    let n = book[7] as usize;
+    let mut k: usize = 0;
+    while k < n {
+        if book[240 + 6 * k] == number {
+            return k;
+        }
+        k += 1;
+    }
+    k
+}
+
+// The checks of a cancel behind that of soundness.
+pub fn cancel_checks(book: &[u64], unit: u64, number: u64) -> u64
+    requires { ⌜ soundIn (now book) ≡ true ⌝ }
+    ensures { λ r. ⌜ r ≡ firstOf (cancelChecks (decode (now (book .entry))) unit number) ⌝ }
+{
+    if unit < 1 {
+        return 6;
+    }
+    if book[5] < unit {
+        return 6;
+    }
+    let n = book[7] as usize;
+    let k = order_place(book, number);
+    if n <= k {
+        return 11;
+    }
+    if book[241 + 6 * k] != unit {
+        return 11;
+    }
+    0
+}
+
+// The open order of a number goes.
+pub fn cancel_effect(book: &mut [u64], number: u64)
+    requires { ⌜ (soundIn (now book) ≡ true) × (orderOpen (decode (now book)) number ≡ true) ⌝ }
+    ensures { λ _. ⌜ (decode (now (book .exit)) ≡ withOrders (decode (now (book .entry))) (keep (λ o. not (eqb (o .number) number)) (decode (now (book .entry)) .orders))) × (drop (bookWords (word (now (book .entry)) 0)) (now (book .exit)) ≡ drop (bookWords (word (now (book .entry)) 0)) (now (book .entry))) ⌝ }
+{
+    let n = book[7];
+    let k = order_place(book, number);
+    matching::orders::remove(&mut book[240..1776], n as usize, k);
+    book[7] = n - 1;
+}
