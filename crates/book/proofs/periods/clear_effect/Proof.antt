@@ -16,11 +16,11 @@ book-rows-requires c κs =
     let s = c .before .before .before .before .before .before .before .before .before .before .before in
     let w = c .before .before .before .before .before .before .sweep in
     let f = w .ensures .few in (
-      swept-readable (s .args .book .now) (s .args .rows .now) (w .last .0) (w .last .1 .0) (w .result) (s .pre .0) (s .pre .1) (w .ensures),
-      swept-room (s .args .book .now) (s .args .rows .now) (w .last .0) (w .last .1 .0) (w .result) (s .pre .0) (s .pre .1) (w .ensures),
+      swept-readable _ _ _ _ _ (s .pre .0) (s .pre .1) (w .ensures),
+      swept-room _ _ _ _ _ (s .pre .0) (s .pre .1) (w .ensures),
       omega arith,
-      swept-rows (s .args .book .now) (s .args .rows .now) (w .last .0) (w .last .1 .0) (w .result) (s .pre .0) (s .pre .1) (w .ensures),
-      swept-small (s .args .book .now) (s .args .rows .now) (w .last .0) (w .last .1 .0) (w .result) (s .pre .0) (s .pre .1) (w .ensures),
+      swept-rows _ _ _ _ _ (s .pre .0) (s .pre .1) (w .ensures),
+      swept-small _ _ _ _ _ (s .pre .0) (s .pre .1) (w .ensures),
     )
 
 slice-write-book : tie.Need-slice-write-book
@@ -31,15 +31,16 @@ slice-write-book c =
     omega arith
 
 same-length : tie.Need-same-length
-same-length c = length-set (c .before .before .book-rows .last .0) 3 1 ∙ c .before .before .book-rows .ensures .kept .long ∙ c .before .before .before .before .before .before .before .before .before .sweep .ensures .long
+same-length c =
+    let w = c .before .before .before .before .before .before .before .before .before .sweep in
+    let b = c .before .before .book-rows in
+    length-set (b .last .0) 3 1 ∙ b .ensures .kept .long ∙ w .ensures .long
 
 same-length-2 : tie.Need-same-length-2
 same-length-2 c = search needs
 
 returns : tie.Need-returns
-returns c =
-    let s = c .before .before .before .before .before .before .before .before .before .before .before .before .before .before in
-    all-cleared (s .args .book .now) (s .args .rows .now) (c .before .before .before .before .before .before .before .before .before .sweep .last .0) (c .before .before .before .before .before .before .before .before .before .sweep .last .1 .0) (c .before .before .before .before .before .before .before .before .before .sweep .result) (c .before .before .book-rows .last .0) (s .pre .0) (s .pre .1) (c .before .before .before .before .before .before .before .before .before .sweep .ensures) (c .before .before .book-rows .ensures)
+returns c = all-cleared _ _ _ _ _ _ (c .before .before .before .before .before .before .before .before .before .before .before .before .before .before .pre .0) (c .before .before .before .before .before .before .before .before .before .before .before .before .before .before .pre .1) (c .before .before .before .before .before .before .before .before .before .sweep .ensures) (c .before .before .book-rows .ensures)
 
 pub clear-effect-spec : {M : Type 1} → statement M
 clear-effect-spec =

@@ -35,9 +35,8 @@ enum-known-l c = search needs
 
 add-t18 : tie.Need-add-t18
 add-t18 c =
-    let s = c .before .before .before .before .before .before .before .before .before .before .before .before in
-    let f : c .before .l .given .0 .1 .0 ≤ 256 = step-few (s .args .orders .now) (s .args .rows .now) (s .args .n) (s .args .period) (s .args .count) (s .pre) (c .before .before .before .before .before .before .before .clear-period .result) _ _ (c .before .before .before .before .before .before .before .clear-period .ensures) _ (ap (λ (a : Matched). answerOf a .count) (c .before .l .given .1)) in
-    let r = s .pre .lent in
+    let f : c .before .l .given .0 .1 .0 ≤ 256 = step-few _ _ _ _ _ (c .before .before .before .before .before .before .before .before .before .before .before .before .pre) _ _ _ (c .before .before .before .before .before .before .before .clear-period .ensures) _ (ap (λ (a : Matched). answerOf a .count) (c .before .l .given .1)) in
+    let r = c .before .before .before .before .before .before .before .before .before .before .before .before .pre .lent in
     omega arith
 
 same-length : tie.Need-same-length
@@ -47,9 +46,7 @@ same-length-2 : tie.Need-same-length-2
 same-length-2 c = search needs
 
 returns : tie.Need-returns
-returns c =
-    let s = c .before .before .before .before .before .before .before .before .before .before .before in
-    never-unfit (s .args .orders .now) (s .args .rows .now) (s .args .n) (s .args .period) (s .args .count) (s .pre) (c .before .before .before .before .before .before .clear-period .result) _ _ (c .before .before .before .before .before .before .clear-period .ensures) (ap (λ (a : Matched). answerOf a .fits) (c .enum-told .given .1))
+returns c = never-unfit _ _ _ _ _ (c .before .before .before .before .before .before .before .before .before .before .before .pre) _ _ _ (c .before .before .before .before .before .before .clear-period .ensures) (ap (λ (a : Matched). answerOf a .fits) (c .enum-told .given .1))
 
 same-length-3 : tie.Need-same-length-3
 same-length-3 c = search needs
@@ -58,9 +55,7 @@ same-length-4 : tie.Need-same-length-4
 same-length-4 c = search needs
 
 returns-2 : tie.Need-returns-2
-returns-2 c =
-    let s = c .before .before .before .before .before .before .before .before .before .before .before .before in
-    stepped (s .args .orders .now) (s .args .rows .now) (s .args .n) (s .args .period) (s .args .count) (s .pre) (c .before .before .before .before .before .before .before .clear-period .result) _ _ (c .before .before .before .before .before .before .before .clear-period .ensures) _ _ (ap (λ (a : Matched). answerOf a .count) (c .before .l .given .1)) (ap (λ (a : Matched). answerOf a .standing) (c .before .l .given .1))
+returns-2 c = stepped _ _ _ _ _ (c .before .before .before .before .before .before .before .before .before .before .before .before .pre) _ _ _ (c .before .before .before .before .before .before .before .clear-period .ensures) _ _ (ap (λ (a : Matched). answerOf a .count) (c .before .l .given .1)) (ap (λ (a : Matched). answerOf a .standing) (c .before .l .given .1))
 
 pub clear-one-spec : {M : Type 1} → statement M
 clear-one-spec =

@@ -14,19 +14,16 @@ abbrev μ-loop : tie.MeasureT-loop
 
 -- after a period is cleared
 turned : (c : tie.After-clear-one Inv-loop μ-loop) → Passing (c .before .before .before .before .before .before .before .before .before .args .orders .now) (c .before .before .before .before .before .before .before .before .before .args .rows .now) (c .before .before .before .before .before .before .before .before .before .args .n) (c .before .before .before .before .before .before .before .before .before .args .end) (c .clear-one .last .0) (c .clear-one .last .1 .1 .1 .0) (c .clear-one .result .count) (c .clear-one .result .standing) (c .before .before .before .before .loop .p + 1)
-turned c =
-    let s = c .before .before .before .before .before .before .before .before .before in
-    let l = c .before .before .before .before in
-    passing-more (s .args .orders .now) (s .args .rows .now) (s .args .n) (s .args .end) (s .pre) (l .loop .orders) (l .loop .rows) (l .loop .count) (l .loop .standing) (l .loop .p) (l .loop .inv) _ _ (c .clear-one .last .0) (c .clear-one .last .1 .1 .1 .0) (c .before .before .before .loop-test .taken) (c .clear-one .ensures) (c .clear-one .kept .0) (c .clear-one .kept .1 .1 .1 .0)
+turned c = passing-more _ _ _ _ (c .before .before .before .before .before .before .before .before .before .pre) _ _ _ _ _ (c .before .before .before .before .loop .inv) _ _ _ _ (c .before .before .before .loop-test .taken) (c .clear-one .ensures) (c .clear-one .kept .0) (c .clear-one .kept .1 .1 .1 .0)
 
 next-period-requires : tie.Need-next-period-requires Inv-loop μ-loop
 next-period-requires c κs = search needs
 
 loop-holds : tie.Need-loop-holds Inv-loop μ-loop
-loop-holds c = passing-first (c .before .before .before .before .args .orders .now) (c .before .before .before .before .args .rows .now) (c .before .before .before .before .args .n) (c .before .before .before .before .args .end) (c .before .before .before .before .pre) _ (c .next-period .ensures .1) (c .next-period .ensures .2)
+loop-holds c = passing-first _ _ _ _ (c .before .before .before .before .pre) _ (c .next-period .ensures .1) (c .next-period .ensures .2)
 
 clear-one-requires : tie.Need-clear-one-requires Inv-loop μ-loop
-clear-one-requires c κs = passing-ready (c .before .before .before .before .before .before .before .before .args .orders .now) (c .before .before .before .before .before .before .before .before .args .rows .now) (c .before .before .before .before .before .before .before .before .args .n) (c .before .before .before .before .before .before .before .before .args .end) (c .before .before .before .before .before .before .before .before .pre) (c .before .before .before .loop .orders) (c .before .before .before .loop .rows) (c .before .before .before .loop .count) (c .before .before .before .loop .standing) (c .before .before .before .loop .p) (c .before .before .before .loop .inv)
+clear-one-requires c κs = passing-ready _ _ _ _ (c .before .before .before .before .before .before .before .before .pre) _ _ _ _ _ (c .before .before .before .loop .inv)
 
 add-next-period : tie.Need-add-next-period Inv-loop μ-loop
 add-next-period c = search needs
@@ -41,9 +38,7 @@ loop-less : tie.Need-loop-less Inv-loop μ-loop
 loop-less c = omega arith
 
 loop-again : tie.Need-loop-again Inv-loop μ-loop
-loop-again c =
-    let s = c .before .before .before .before .before .before .before .before .before .before .before .before .before .before .before in
-    passing-next (s .args .orders .now) (s .args .rows .now) (s .args .n) (s .args .end) (s .pre) (c .before .before .before .before .before .before .clear-one .last .0) (c .before .before .before .before .before .before .clear-one .last .1 .1 .1 .0) (c .before .before .before .before .before .before .clear-one .result .count) (c .before .before .before .before .before .before .clear-one .result .standing) (c .before .before .before .before .before .before .before .before .before .before .loop .p + 1) _ (turned (c .before .before .before .before .before .before)) (c .next-period2 .ensures .0) (c .next-period2 .ensures .1) (c .next-period2 .ensures .2)
+loop-again c = passing-next _ _ _ _ (c .before .before .before .before .before .before .before .before .before .before .before .before .before .before .before .pre) _ _ _ _ _ _ (turned (c .before .before .before .before .before .before)) (c .next-period2 .ensures .0) (c .next-period2 .ensures .1) (c .next-period2 .ensures .2)
 
 same-length : tie.Need-same-length Inv-loop μ-loop
 same-length c = c .before .loop .inv .long
@@ -52,9 +47,7 @@ same-length-2 : tie.Need-same-length-2 Inv-loop μ-loop
 same-length-2 c = c .before .loop .inv .lent
 
 returns : tie.Need-returns Inv-loop μ-loop
-returns c =
-    let s = c .before .before .before .before .before .before in
-    passing-end (s .args .orders .now) (s .args .rows .now) (s .args .n) (s .args .end) (s .pre) (c .before .loop .orders) (c .before .loop .rows) (c .before .loop .count) (c .before .loop .standing) (c .before .loop .p) (c .before .loop .inv) (omega arith)
+returns c = passing-end _ _ _ _ (c .before .before .before .before .before .before .pre) _ _ _ _ _ (c .before .loop .inv) (omega arith)
 
 pub clear-orders-spec : {M : Type 1} → statement M
 clear-orders-spec =

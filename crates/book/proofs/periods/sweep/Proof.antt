@@ -31,7 +31,7 @@ part-clear-orders-end : tie.Need-part-clear-orders-end
 part-clear-orders-end c = let r = ok (c .before .before .before .before) in omega arith
 
 clear-orders-requires : tie.Need-clear-orders-requires
-clear-orders-requires c κs = clear-asks (c .before .before .before .before .before .before .args .book .now) (c .before .before .before .before .before .before .args .rows .now) (c .before .before .before .before .before .before .pre .0) (c .before .before .before .before .before .before .pre .1)
+clear-orders-requires c κs = clear-asks _ _ (c .before .before .before .before .before .before .pre .0) (c .before .before .before .before .before .before .pre .1)
 
 slice-write-book : tie.Need-slice-write-book
 slice-write-book c = let r = ok (c .before .before .before .before .before .before .before .before .before .before .before) in omega arith
@@ -46,7 +46,7 @@ returns : tie.Need-returns
 returns c =
     let s = c .before .before .before .before .before .before .before .before .before .before .before in
     let r = ok s in
-    swept (s .args .book .now) (s .args .rows .now) (c .before .before .before .before .clear-orders .last .0) (c .before .before .before .before .clear-orders .last .1 .1 .1 .0) _ _ (s .pre .0) (c .before .before .before .before .clear-orders .kept .0 ∙ mid-len 240 1776 (s .args .book .now) (omega arith)) (c .before .before .before .before .clear-orders .ensures)
+    swept _ _ _ _ _ _ (s .pre .0) (c .before .before .before .before .clear-orders .kept .0 ∙ mid-len 240 1776 (s .args .book .now) (omega arith)) (c .before .before .before .before .clear-orders .ensures)
 
 pub sweep-spec : {M : Type 1} → statement M
 sweep-spec =
