@@ -22,6 +22,9 @@ pub mod JoinLaws
 pub mod MisfitLaws
 pub mod OfferChainLaws
 pub mod OfferFitLaws
+pub mod FigureLaws
+pub mod BookingLaws
+pub mod SmallLaws
 pub mod FiguresHold
 pub mod RemainLaws
 pub mod FitLaws
@@ -37,6 +40,10 @@ pub mod TradeLaws
 pub mod ExchangedLaws
 pub mod LeftLaws
 pub mod ClearedLaws
+pub mod RowCountLaws
+pub mod PassingLaws
+pub mod SweepLaws
+pub mod ClearEffectLaws
 pub mod RolledLaws
 pub mod TakeLaws
 pub mod TakingLaws

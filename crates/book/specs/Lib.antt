@@ -7,6 +7,7 @@ pub mod Opening
 pub mod Layout
 pub mod Readable
 pub mod Closing
+pub mod RowsIn
 pub mod Fitting
 pub mod Enrol
 pub mod Offer
@@ -15,6 +16,7 @@ pub mod Withdraw
 pub mod Order
 pub mod Cancel
 pub mod Clear
+pub mod Periods
 pub mod Close
 pub mod Curve
 pub mod Calls

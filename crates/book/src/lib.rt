@@ -9,8 +9,10 @@ mod numbers;
 mod offering;
 pub mod opening;
 mod pairs;
+mod periods;
 mod ranges;
 mod sound;
+mod trades;
 mod withdrawing;
 
 // What a call answers: its number and count of rows, or the refusal.

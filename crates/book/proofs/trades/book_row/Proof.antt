@@ -1,0 +1,109 @@
+-- `book_row`: the seller sold, the buyer bought.
+use Rattle.book.specs.RowsIn.{rowAt}
+use mathlib.Core.Path.{_≡_, sym, _∙_}
+use native.Mathlib.Omega.{arith}
+use Rattle.book.proofs.BookingLaws.{row-traded, seller-asks, buyer-asks}
+use borrow.Author.Needs.{needs}
+use Rattle.book.proofs.trades.book_row.Statement.{statement}
+use Rattle.book.proofs.trades.book_row.Tie as tie
+
+mul-way : tie.Need-mul-way
+mul-way c = search needs
+
+mul-way-2 : tie.Need-mul-way-2
+mul-way-2 c = search needs
+
+shared-slice-read-way : tie.Need-shared-slice-read-way
+shared-slice-read-way c = search needs
+
+mul-period : tie.Need-mul-period
+mul-period c = search needs
+
+add-period : tie.Need-add-period
+add-period c = search needs
+
+mul-period-2 : tie.Need-mul-period-2
+mul-period-2 c = search needs
+
+shared-slice-read-period : tie.Need-shared-slice-read-period
+shared-slice-read-period c = search needs
+
+mul-seller : tie.Need-mul-seller
+mul-seller c = search needs
+
+add-seller : tie.Need-add-seller
+add-seller c = search needs
+
+mul-seller-2 : tie.Need-mul-seller-2
+mul-seller-2 c = search needs
+
+shared-slice-read-seller : tie.Need-shared-slice-read-seller
+shared-slice-read-seller c = search needs
+
+mul-buyer : tie.Need-mul-buyer
+mul-buyer c = search needs
+
+add-buyer : tie.Need-add-buyer
+add-buyer c = search needs
+
+mul-buyer-2 : tie.Need-mul-buyer-2
+mul-buyer-2 c = search needs
+
+shared-slice-read-buyer : tie.Need-shared-slice-read-buyer
+shared-slice-read-buyer c = search needs
+
+mul-quantity : tie.Need-mul-quantity
+mul-quantity c = search needs
+
+add-quantity : tie.Need-add-quantity
+add-quantity c = search needs
+
+mul-quantity-2 : tie.Need-mul-quantity-2
+mul-quantity-2 c = search needs
+
+shared-slice-read-quantity : tie.Need-shared-slice-read-quantity
+shared-slice-read-quantity c = search needs
+
+book-trade-requires : tie.Need-book-trade-requires
+book-trade-requires c κs =
+    let s = c .before .before .before .before .before .before .before .before in
+    seller-asks (s .args .book .now) (rowAt (s .args .rows .now) (s .args .i)) (s .pre .0) (s .pre .3) (s .pre .4)
+
+book-trade-requires-2 : tie.Need-book-trade-requires-2
+book-trade-requires-2 c κs =
+    let s = c .before .before .before .before .before .before .before .before .before .before .before .before in
+    buyer-asks (s .args .book .now) _ (rowAt (s .args .rows .now) (s .args .i)) (s .pre .0) (s .pre .3) (s .pre .4) (c .before .before .before .book-trade .ensures)
+
+same-length : tie.Need-same-length
+same-length c = search needs
+
+returns : tie.Need-returns
+returns c = row-traded _ _ _ _ (c .before .before .before .before .before .before .before .before .before .before .before .before .before .before .before .pre .3) (c .before .before .before .before .before .before .book-trade .ensures) (c .before .before .book-trade2 .ensures)
+
+pub book-row-spec : {M : Type 1} → statement M
+book-row-spec =
+    tie.close
+    (tie.spec
+    mul-way
+    mul-way-2
+    shared-slice-read-way
+    mul-period
+    add-period
+    mul-period-2
+    shared-slice-read-period
+    mul-seller
+    add-seller
+    mul-seller-2
+    shared-slice-read-seller
+    mul-buyer
+    add-buyer
+    mul-buyer-2
+    shared-slice-read-buyer
+    mul-quantity
+    add-quantity
+    mul-quantity-2
+    shared-slice-read-quantity
+    book-trade-requires
+    book-trade-requires-2
+    same-length
+    returns)

@@ -1,0 +1,97 @@
+// Rows entered in the figures of seller and buyer: paper 01, "Limits".
+use crate::ranges::is_generator;
+ghost use mathlib.Core.Path.{_≡_};
+ghost use mathlib.Core.List.{List};
+ghost use Prim.Native.Nat.{ℕ, _+_, _*_, _-_, _<_, _≤_};
+ghost use lib.ListN.{length};
+ghost use Rattle.measures.specs.Ranges.{mostEnergy};
+ghost use Rattle.book.specs.Book.{Book, unitOf};
+ghost use Rattle.book.specs.Trades.{raises, wayAfter};
+ghost use Rattle.book.specs.Layout.{word, decode};
+ghost use Rattle.book.specs.Readable.{Readable};
+ghost use Rattle.book.specs.RowsIn.{rowAt, Small, SmallAt, FiguresPut, Traded, RowTraded, RowFits, RowsFit, smallFigures, RowsTraded};
+
+// Whether a trade in this direction (0 sold, 1 bought) raises the unit's net.
+fn raises_net(book: &[u64], unit: u64, direction: u64) -> bool
+    requires { ⌜ (Readable (now book)) × (1 ≤ unit) × (unit ≤ word (now book) 5) ⌝ }
+    ensures { λ r. ⌜ r ≡ raises (unitOf (decode (now (book .entry))) unit .kind) direction ⌝ }
+{
+    if is_generator(book, unit) {
+        return direction == 0;
+    }
+    direction == 1
+}
+
+// Today's direction of a unit after a trade.
+fn way_after(way: u64, direction: u64, old: u64) -> u64
+    requires { ⌜ direction ≤ 1 ⌝ }
+    ensures { λ r. ⌜ r ≡ wayAfter way direction old ⌝ }
+{
+    if 3 <= way {
+        return direction + 1;
+    }
+    old
+}
+
+// New figures of the unit at place k in period p.
+fn put_figures(
+    book: &mut [u64],
+    k: usize,
+    p: usize,
+    raised: u64,
+    lowered: u64,
+    volume: u64,
+    way: u64,
+)
+    requires { ⌜ (1780 + 328 * p + 5 * k < length (now book)) × (k < 64) × (p < 744) ⌝ }
+    ensures { λ _. ⌜ FiguresPut (now (book .entry)) (now (book .exit)) k p raised lowered volume way ⌝ }
+{
+    book[1777 + 328 * p + 5 * k] = raised;
+    book[1778 + 328 * p + 5 * k] = lowered;
+    book[1779 + 328 * p + 5 * k] = volume;
+    book[1780 + 328 * p + 5 * k] = way;
+}
+
+// One party of a row.
+pub fn book_trade(book: &mut [u64], way: u64, direction: u64, period: u64, quantity: u64, unit: u64)
+    requires { ⌜ (Readable (now book)) × (period < 24 * word (now book) 0) × (1 ≤ unit) × (unit ≤ word (now book) 5) × (direction ≤ 1) × (quantity ≤ mostEnergy) × (SmallAt (now book) (unit - 1) period 2000000000000000000) ⌝ }
+    ensures { λ _. ⌜ Traded (now (book .entry)) (now (book .exit)) way direction period quantity unit ⌝ }
+{
+    let k = unit as usize - 1;
+    let p = period as usize;
+    let raised = book[1777 + 328 * p + 5 * k];
+    let lowered = book[1778 + 328 * p + 5 * k];
+    let volume = book[1779 + 328 * p + 5 * k] + quantity;
+    let w = way_after(way, direction, book[1780 + 328 * p + 5 * k]);
+    if raises_net(book, unit, direction) {
+        put_figures(book, k, p, raised + quantity, lowered, volume, w);
+    } else {
+        put_figures(book, k, p, raised, lowered + quantity, volume, w);
+    }
+}
+
+// The row at place i.
+fn book_row(book: &mut [u64], rows: &[u64], i: usize)
+    requires { ⌜ (Readable (now book)) × (6 * i + 6 ≤ length (now rows)) × (i < 744) × (RowFits (now book) (rowAt (now rows) i)) × (Small (now book) 1900000000000000000) ⌝ }
+    ensures { λ _. ⌜ RowTraded (now (book .entry)) (now (book .exit)) (rowAt (now (rows .entry)) i) ⌝ }
+{
+    let way = rows[6 * i];
+    let period = rows[6 * i + 1];
+    let seller = rows[6 * i + 2];
+    let buyer = rows[6 * i + 3];
+    let quantity = rows[6 * i + 4];
+    book_trade(book, way, 0, period, quantity, seller);
+    book_trade(book, way, 1, period, quantity, buyer);
+}
+
+// The first count rows.
+pub fn book_rows(book: &mut [u64], rows: &[u64], count: usize)
+    requires { ⌜ (Readable (now book)) × (6 * count ≤ length (now rows)) × (count ≤ 744) × (RowsFit (now book) (now rows) count) × (Small (now book) smallFigures) ⌝ }
+    ensures { λ _. ⌜ RowsTraded (now (book .entry)) (now (book .exit)) (now (rows .entry)) count ⌝ }
+{
+    let mut i: usize = 0;
+    while i < count {
+        book_row(book, rows, i);
+        i += 1;
+    }
+}
