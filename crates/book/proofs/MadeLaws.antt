@@ -4,7 +4,7 @@ use mathlib.Core.Path.{_≡_, refl, sym, ap, _∙_}
 use mathlib.Core.Bool.{Bool, true, false, cond, not, _&&_}
 use mathlib.Core.List.{List, [], _∷_}
 use native.Mathlib.Omega.{arith}
-use borrow.Author.Tests.{eq-eqb, ne-eqb, leb-true}
+use borrow.Author.Tests.{eq-eqb, ne-eqb, leb-true, ltb-false}
 use lib.ListN.{length, drop, length-append}
 use lib.Dec.{eqb, leb}
 use Rattle.measures.proofs.ListLaws.{cond-true, cond-false, and-left, and-right, all-true, both-ways, not-fails}
@@ -34,6 +34,7 @@ use Rattle.book.specs.Calls.{Call, enrol, offer, take, withdraw, order, 
 use Rattle.book.specs.Contract.{Told, toldBy, soundIn, outcomeOn, Made}
 use Rattle.book.specs.Readable.{Readable, Ranged, unitsFieldsIn}
 use Rattle.book.proofs.RangeFacts.{Head, head-facts, readable, units-held}
+use Rattle.book.proofs.RefusalLaws.{none-applies}
 
 -- a sound book in memory is long enough, and sound
 pub sound-enough : (m : List ℕ) → soundIn m ≡ true → enough m ≡ true
@@ -182,3 +183,9 @@ offer-number m unit partner price amounts = refl
 pub no-checks : 0 ≡ firstOf []
 unfolding firstOf
 no-checks = refl
+
+-- enough rows were lent where a clear's checks passed
+pub clear-passed : (m : List ℕ) (lent : ℕ) → 0 ≡ firstOf (clearChecks (decode m) lent) → 4464 ≤ lent
+clear-passed m lent e =
+    let t = none-applies (clearChecks (decode m) lent) (omega arith, (omega arith, tt)) (sym e) in
+    ltb-false lent 4464 (t .0)

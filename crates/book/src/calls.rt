@@ -9,6 +9,8 @@ use crate::enrolling::enrol_checks;
 use crate::enrolling::enrol_effect;
 use crate::offering::offer_checks;
 use crate::offering::offer_effect;
+use crate::periods::clear_checks;
+use crate::periods::clear_effect;
 use crate::sound::sound_book;
 use crate::withdrawing::withdraw_checks;
 use crate::withdrawing::withdraw_effect;
@@ -16,7 +18,7 @@ ghost use mathlib.Core.Path.{_≡_};
 ghost use mathlib.Core.List.{List, []};
 ghost use lib.ListN.{length};
 ghost use Rattle.book.specs.Contract.{Made, Curved};
-ghost use Rattle.book.specs.Calls.{enrol as callEnrol, offer as callOffer, withdraw as callWithdraw, cancel as callCancel, close as callClose};
+ghost use Rattle.book.specs.Calls.{enrol as callEnrol, offer as callOffer, withdraw as callWithdraw, cancel as callCancel, close as callClose, clear as callClear};
 
 // The 48 points of a unit on a day.
 pub fn curve(book: &[u64], unit: u64, day: u64, points: &mut [u64]) -> Answer
@@ -104,4 +106,19 @@ pub fn close(book: &mut [u64]) -> Answer
     }
     close_day(book);
     Answer::Done(0, 0)
+}
+
+// Clears each period of the call phase, and begins the rolling phase.
+pub fn clear(book: &mut [u64], rows: &mut [u64]) -> Answer
+    ensures { λ r. ⌜ Made (now (book .entry)) (now (rows .entry)) (callClear (length (now (rows .entry)))) r (now (book .exit)) (now (rows .exit)) ⌝ }
+{
+    if !sound_book(book) {
+        return Answer::Refused(1);
+    }
+    let no = clear_checks(book, rows.len());
+    if no != 0 {
+        return Answer::Refused(no);
+    }
+    let count = clear_effect(book, rows);
+    Answer::Done(0, count)
 }
