@@ -63,3 +63,4 @@ pub mod MatchTallyLaws
 pub mod RolledTallyLaws
 pub mod OrderTallyLaws
 pub mod ListsLaws
+pub mod TraceLaws

@@ -4,20 +4,23 @@ use mathlib.Core.Path.{_≡_, refl, sym, ap, _∙_}
 use mathlib.Core.Bool.{Bool, true, false, cond, not, _&&_}
 use mathlib.Core.List.{List, [], _∷_}
 use native.Mathlib.Omega.{arith}
-use borrow.Author.Tests.{le-leb, lt-leb, lt-ltb, le-ltb}
+use borrow.Author.Tests.{le-leb, lt-leb, lt-ltb, le-ltb, ltb-false, not-false}
 use lib.ListN.{length, getD, drop, set}
 use lib.Dec.{leb, ltb}
 use lib.Seq.{drop-set-lt, drop-drop}
 use Rattle.measures.specs.Ranges.{mostPrice}
 use Rattle.measures.specs.Lists.{table, tableFrom}
 use Rattle.measures.proofs.RangeLaws.{In, inside, outside}
-use Rattle.limits.specs.Units.{mostDays}
+use Rattle.limits.specs.Units.{mostDays, daysIn}
+use Rattle.measures.proofs.ListLaws.{and-left}
 use Rattle.matching.specs.Memory.{ordersIn}
 use Rattle.book.specs.declared.Answer.{Answer}
 use Rattle.book.specs.declared.Answer.the-variants.{Done, Refused}
 use Rattle.book.specs.Book.{Book}
-use Rattle.book.specs.Refusals.{firstOf}
-use Rattle.book.specs.Opening.{bookWords, wordsFor, fresh, openingRefusal}
+use Rattle.book.specs.Sound.{pricesIn}
+use Rattle.book.specs.Refusals.{firstOf, badOpening}
+use Rattle.book.proofs.RefusalLaws.{none-applies}
+use Rattle.book.specs.Opening.{bookWords, wordsFor, fresh, tooShort, openingRefusal}
 use Rattle.book.specs.Layout.{word, decode}
 use Rattle.book.specs.Contract.{Told, toldBy, Opened}
 
@@ -105,3 +108,12 @@ opened-fresh m days floor ceiling m′ e d p l = record {
   past = past-book days m m′ p;
   long = l;
 }
+
+-- an accepted opening was lent the words of its days
+pub opening-long : (words days floor ceiling : ℕ) → openingRefusal words days floor ceiling ≡ 0 → bookWords days ≤ words
+unfolding openingRefusal
+opening-long words days floor ceiling e =
+    let t = none-applies (tooShort words days ∷ badOpening days floor ceiling ∷ []) (omega arith, (omega arith, tt)) e in
+    let p : (daysIn days && pricesIn floor ceiling) ≡ true = not-false _ (t .1 .0) in
+    let d : daysIn days ≡ true = and-left (daysIn days) (pricesIn floor ceiling) p in
+    ltb-false words (bookWords days) (rw d at (t .0))

@@ -23,4 +23,5 @@ pub mod Calls
 pub mod Contract
 pub mod Tally
 pub mod Demand3
+pub mod Trace
 pub mod Figures
