@@ -9,4 +9,8 @@ pub mod ShareLaws
 pub mod PeriodLaws
 pub mod JoinLaws
 pub mod FitLaws
+pub mod FoundLaws
+pub mod PartyLaws
+pub mod GatherLaws
+pub mod CheckedLaws
 pub mod FiguresHold

@@ -54,7 +54,7 @@ module _ (b : Book) (u : ℕ) (fit : unitFits b u ≡ true) where
 
 -- each unit of a sound book fits, and its capacity is in range
 module _ (m : List ℕ) (e : soundIn m ≡ true) where
-  unit-fits : (u : ℕ) → In 1 (word m 5) u → unitFits (decode m) u ≡ true
+  pub unit-fits : (u : ℕ) → In 1 (word m 5) u → unitFits (decode m) u ≡ true
   unfolding sound
   unit-fits u h =
       let t = all-true _ (sound-book m e) in

@@ -6,11 +6,11 @@ pub mod Refusals
 pub mod Opening
 pub mod Layout
 pub mod Readable
-pub mod RowsIn
 pub mod Fitting
 pub mod Enrol
 pub mod Offer
 pub mod Take
+pub mod RowsIn
 pub mod Withdraw
 pub mod Order
 pub mod Cancel

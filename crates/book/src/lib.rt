@@ -1,8 +1,9 @@
 // The book of a term: opening, the eight calls and the curve (paper 01).
+mod fits;
 mod numbers;
 mod pairs;
-mod fits;
 mod ranges;
+mod taking;
 mod trades;
 
 // What a call answers: its number and count of rows, or the refusal.
