@@ -13,4 +13,8 @@ pub mod FoundLaws
 pub mod PartyLaws
 pub mod GatherLaws
 pub mod CheckedLaws
+pub mod WritingLaws
+pub mod LessenedLaws
+pub mod TakenLaws
+pub mod EnterLaws
 pub mod FiguresHold

@@ -88,7 +88,7 @@ module _ (m : List ℕ) (e : soundIn m ≡ true) where
       record { raised = omega arith; lowered = omega arith; volume = omega arith }
 
 -- rows that were written, read back
-abbrev noRow : Row
+abbrev pub noRow : Row
 noRow = record { way = 0; period = 0; seller = 0; buyer = 0; quantity = 0; price = 0 }
 
 row-same : {a b c d e f a′ b′ c′ d′ e′ f′ : ℕ} → a ≡ a′ → b ≡ b′ → c ≡ c′ → d ≡ d′ → e ≡ e′ → f ≡ f′

@@ -3,17 +3,18 @@ use Prim.Native.Nat.{ℕ, _+_, _-_, _*_, _≤_, _<_}
 use mathlib.Core.Path.{_≡_}
 use mathlib.Core.Bool.{Bool}
 use mathlib.Core.List.{List, [], _∷_, _++_}
-use lib.ListN.{length, getD, drop}
+use lib.ListN.{length, getD, set, take, drop}
 use Rattle.measures.specs.Ranges.{mostEnergy}
 use Rattle.measures.specs.Lists.{table}
 use Rattle.measures.specs.Sharing.{parts}
 use Rattle.limits.specs.Units.{periods}
 use Rattle.matching.specs.Orders.{Row}
-use Rattle.book.specs.Book.{Book}
+use Rattle.matching.specs.Memory.{written}
+use Rattle.book.specs.Book.{Book, withOffers}
 use Rattle.book.specs.Trades.{booked, rowBooked, rowsBooked}
 use Rattle.book.specs.Fit.{Declaration}
 use Rattle.book.specs.Offer.{raisingAmounts}
-use Rattle.book.specs.Take.{takenParts, takeChecks}
+use Rattle.book.specs.Take.{takenParts, takeChecks, takeRows, offerLess}
 use Rattle.book.specs.Refusals.{Check, firstOf, unknownUnit, fewRows, badQuantity, noSuchOffer, canTake, cannotTake, hourMisfit, termMisfit, volumeMisfit}
 use Rattle.book.specs.Opening.{bookWords}
 use Rattle.book.specs.Layout.{word, amountAt, offerAt, decode}
@@ -115,3 +116,33 @@ pub record TakeFit (m : List ℕ) (u j q r : ℕ) (l x : List ℕ) : Type 0 wher
 pub record TakeChecked (m : List ℕ) (u n q lent r : ℕ) (l x : List ℕ) : Type 0 where
   pub answer : r ≡ firstOf (takeChecks (decode m) u n q lent)
   pub memory : r ≡ 0 → x ≡ takenParts (decode m) n q ++ drop (periods (word m 0)) l
+
+-- k rows rs stand in the lent memory x, which was m
+pub record RowsPut (m x : List ℕ) (k : ℕ) (rs : List Row) : Type 0 where
+  pub count : k ≡ length rs
+  pub rows : x ≡ written m rs
+
+-- x is m with the first n parts taken off the amounts of the offer at place j
+pub record AmountsLess (m x : List ℕ) (j : ℕ) (ps : List ℕ) (n : ℕ) : Type 0 where
+  pub long : length x ≡ length m
+  pub own : (p : ℕ) → p < n → word x (2096 + 328 * p + j) ≡ word m (2096 + 328 * p + j) - getD ps p 0
+  pub other : (i : ℕ) → ((p : ℕ) → p < n → i ≡ 2096 + 328 * p + j → ⊥) → word x i ≡ word m i
+
+-- each part is there to be taken
+abbrev pub PartsThere : List ℕ → ℕ → List ℕ → Type 0
+PartsThere m j ps = (p : ℕ) → p < 24 * word m 0 → getD ps p 0 ≤ word m (2096 + 328 * p + j)
+
+-- x is m with parts taken off the offer at place j, which stays; no figure changed
+pub record OfferLessened (m x : List ℕ) (j : ℕ) (ps : List ℕ) : Type 0 where
+  pub book : decode x ≡ withOffers (decode m) (set (decode m .offers) j (offerLess (offerAt m (word m 0) j) ps))
+  pub long : length x ≡ length m
+  pub head : (i : ℕ) → i < 8 → word x i ≡ word m i
+  pub figures : (p c : ℕ) → c < 320 → word x (1776 + 328 * p + c) ≡ word m (1776 + 328 * p + c)
+  pub past : (i : ℕ) → bookWords (word m 0) ≤ i → word x i ≡ word m i
+
+-- x is m after a take by unit u of parts l from the offer at place j, which stays; its rows stand in the lent memory
+pub record PartTaken (m x : List ℕ) (u j : ℕ) (l lent out : List ℕ) (k : ℕ) : Type 0 where
+  pub rows : RowsPut lent out k (takeRows (decode m) (offerAt m (word m 0) j) u (take (24 * word m 0) l))
+  pub book : decode x ≡ rowsBooked (takeRows (decode m) (offerAt m (word m 0) j) u (take (24 * word m 0) l)) (withOffers (decode m) (set (decode m .offers) j (offerLess (offerAt m (word m 0) j) (take (24 * word m 0) l))))
+  pub long : length x ≡ length m
+  pub past : (i : ℕ) → bookWords (word m 0) ≤ i → word x i ≡ word m i

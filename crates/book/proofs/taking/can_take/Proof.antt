@@ -1,5 +1,5 @@
 -- `can_take`: the partner takes all, a unit of the other side takes of a listing.
-use mathlib.Core.Path.{_≡_, sym, _∙_}
+use mathlib.Core.Path.{sym, _∙_}
 use native.Mathlib.Omega.{arith}
 use Rattle.book.proofs.FoundLaws.{takes-other, takes-unlike, takes-whole, takes-over, takes-load, takes-generator}
 use borrow.Author.Needs.{needs}

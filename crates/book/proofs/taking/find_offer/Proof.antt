@@ -1,6 +1,5 @@
 -- `find_offer`: no offer passed has the number.
-use Prim.Native.Nat.{ℕ, _≤_, _-_}
-use mathlib.Core.Path.{_≡_}
+use Prim.Native.Nat.{_≤_, _-_}
 use native.Mathlib.Omega.{arith}
 use Rattle.book.specs.Layout.{word}
 use Rattle.book.proofs.FoundLaws.{Unmet, unmet-more, found-here, found-nowhere}

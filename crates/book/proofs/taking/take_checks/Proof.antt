@@ -1,5 +1,4 @@
 -- `take_checks`: the checks before the fit, then the fit.
-use mathlib.Core.Path.{_≡_, sym, _∙_}
 use native.Mathlib.Omega.{arith}
 use Rattle.book.proofs.MadeLaws.{sound-readable}
 use Rattle.book.proofs.CheckedLaws.{checked-refused, fit-asks, checked-fit}

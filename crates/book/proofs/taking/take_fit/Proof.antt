@@ -1,6 +1,6 @@
 -- `take_fit`: the parts are shared twice, once to be lent to the fit.
-use Prim.Native.Nat.{ℕ, _*_}
-use mathlib.Core.Path.{_≡_, refl, sym, _∙_}
+use Prim.Native.Nat.{_*_}
+use mathlib.Core.Path.{refl}
 use native.Mathlib.Omega.{arith}
 use Rattle.book.specs.Layout.{word}
 use Rattle.book.proofs.MadeLaws.{sound-readable}

@@ -1,5 +1,5 @@
 -- `take_party`: each check in its order.
-use mathlib.Core.Path.{_≡_, sym, _∙_}
+use mathlib.Core.Path.{sym, _∙_}
 use native.Mathlib.Omega.{arith}
 use borrow.Author.Tests.{not-true, not-false}
 use Rattle.book.proofs.MadeLaws.{sound-readable}
