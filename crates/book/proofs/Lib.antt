@@ -17,4 +17,5 @@ pub mod WritingLaws
 pub mod LessenedLaws
 pub mod TakenLaws
 pub mod EnterLaws
+pub mod EffectLaws
 pub mod FiguresHold
