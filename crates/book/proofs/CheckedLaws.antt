@@ -1,12 +1,12 @@
 -- The checks of a take, joined: before the fit, and the fit.
-use Prim.Native.Nat.{ℕ, zero, suc, _+_, _-_, _*_, _≤_, _<_}
-use mathlib.Core.Path.{_≡_, refl, sym, ap, _∙_}
+use Prim.Native.Nat.{ℕ, _+_, _*_, _≤_, _<_}
+use mathlib.Core.Path.{_≡_, sym, ap, _∙_}
 use mathlib.Core.Bool.{Bool, true, false, cond, not, _&&_}
-use mathlib.Core.List.{List, [], _∷_, _++_}
+use mathlib.Core.List.{List, _++_}
 use native.Mathlib.Omega.{arith}
 use native.Mathlib.Decide.{decLt}
 use borrow.Author.Tests.{leb-true, eqb-true, not-false}
-use lib.ListN.{length, getD, drop}
+use lib.ListN.{length, drop}
 use lib.Dec.{eqb, leb}
 use Rattle.measures.specs.Ranges.{mostEnergy}
 use Rattle.measures.specs.Lists.{table}
@@ -14,12 +14,12 @@ use Rattle.measures.specs.Sharing.{total, parts}
 use Rattle.measures.proofs.RangeLaws.{In, within}
 use Rattle.measures.proofs.ListLaws.{and-right, not-both}
 use Rattle.limits.specs.Units.{periods}
-use Rattle.book.specs.Book.{OpenOffer, Book, known, offerOf, offerOpen}
+use Rattle.book.specs.Book.{OpenOffer, known, offerOf, offerOpen}
 use Rattle.book.specs.Sound.{energyIn}
-use Rattle.book.specs.Refusals.{Check, firstOf, sameSide, canTake}
+use Rattle.book.specs.Refusals.{firstOf, sameSide, canTake}
 use Rattle.book.specs.Offer.{raisingAmounts}
-use Rattle.book.specs.Take.{takenParts, takeChecks}
-use Rattle.book.specs.Layout.{word, amountAt, offerAt, decode}
+use Rattle.book.specs.Take.{takenParts}
+use Rattle.book.specs.Layout.{word, amountAt, decode}
 use Rattle.book.specs.Contract.{soundIn}
 use Rattle.book.specs.RowsIn.{Found, takes, partyChecks, fitChecks, partsAt, TakeFit, TakeChecked}
 use Rattle.book.proofs.RangeFacts.{units-held}

@@ -1,5 +1,5 @@
 -- From a take by place to the take of a number: what its effect promises.
-use Prim.Native.Nat.{ℕ, zero, suc, _+_, _-_, _*_, _≤_, _<_}
+use Prim.Native.Nat.{ℕ, zero, suc, _+_, _*_, _≤_, _<_}
 use mathlib.Core.Path.{_≡_, refl, sym, ap, _∙_}
 use mathlib.Core.List.{List, [], _∷_, _++_}
 use native.Mathlib.Omega.{arith}
@@ -7,16 +7,16 @@ use lib.ListN.{length, getD, set, take, drop, List·getD-append}
 use lib.Seq.{take-at}
 use Rattle.measures.specs.Lists.{table}
 use Rattle.measures.specs.Sharing.{total, parts}
-use Rattle.measures.proofs.SharingLaws.{parts-length, Within, no-part-exceeds}
+use Rattle.measures.proofs.SharingLaws.{parts-length, parts-sum, Within, no-part-exceeds}
 use Rattle.measures.proofs.ListLaws.{table-length, table-at}
 use Rattle.limits.specs.Units.{periods}
 use Rattle.matching.specs.Orders.{Row}
 use Rattle.matching.specs.Memory.{written}
-use Rattle.book.specs.Book.{OpenOffer, noOffer, Book, offerOf, withOffers}
+use Rattle.book.specs.Book.{OpenOffer, offerOf, withOffers}
 use Rattle.book.specs.Trades.{rowsBooked}
 use Rattle.book.specs.Take.{takenParts, takeRows, lessEach, offerLess, offersLess}
 use Rattle.book.specs.Layout.{word, amountAt, offerAt, decode}
-use Rattle.book.specs.RowsIn.{Found, RowsPut, PartsThere, PartTaken}
+use Rattle.book.specs.RowsIn.{Found, PartsThere, PartTaken}
 use Rattle.book.proofs.RangeFacts.{offers-held}
 use Rattle.book.proofs.FoundLaws.{offer-at, unmet-before, met-there, found-offer}
 use Rattle.book.proofs.TakenLaws.{less-stays}
@@ -26,6 +26,29 @@ within-at [] rs w i h = omega arith
 within-at (p ∷ ps) [] w i h = absurd (omega arith)
 within-at (p ∷ ps) (r ∷ rs) w zero h = w .0
 within-at (p ∷ ps) (r ∷ rs) w (suc i) h = within-at ps rs (w .1) i (omega arith)
+
+-- what is left of amounts is what was not taken
+within-left : (rs ps : List ℕ) → Within ps rs → total (lessEach rs ps) + total ps ≡ total rs
+unfolding lessEach
+within-left [] [] w = refl
+within-left [] (p ∷ ps) w = absurd w
+within-left (r ∷ rs) [] w = absurd w
+within-left (r ∷ rs) (p ∷ ps) w =
+    let a = within-left rs ps (w .1) in
+    let b = w .0 in
+    omega arith
+
+pub left-some : (rs : List ℕ) (q : ℕ) → 1 ≤ q → q < total rs → total (lessEach rs (parts q rs)) ≡ 0 → ⊥
+left-some rs q some less z =
+    let a = within-left rs (parts q rs) (no-part-exceeds q rs (omega arith) (omega arith)) in
+    let b = parts-sum q rs (omega arith) in
+    omega arith
+
+pub left-none : (rs : List ℕ) (q : ℕ) → 1 ≤ q → q ≡ total rs → total (lessEach rs (parts q rs)) ≡ 0
+left-none rs q some all =
+    let a = within-left rs (parts q rs) (no-part-exceeds q rs (omega arith) (omega arith)) in
+    let b = parts-sum q rs (omega arith) in
+    omega arith
 
 module _ (m : List ℕ) (n q j : ℕ) (f : Found m n j) (h : j < 8) where
   amounts-are : takenParts (decode m) n q ≡ parts q (table (periods (word m 0)) (amountAt m j))

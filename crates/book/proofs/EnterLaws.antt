@@ -1,31 +1,28 @@
 -- A take's rows fit the book that they are entered in.
-use Prim.Native.Nat.{ℕ, zero, suc, _+_, _-_, _*_, _≤_, _<_}
+use Prim.Native.Nat.{ℕ, zero, suc, _+_, _*_, _≤_, _<_}
 use mathlib.Core.Path.{_≡_, refl, sym, ap, _∙_, subst}
 use mathlib.Core.Bool.{Bool, true, false, cond}
 use mathlib.Core.List.{List, [], _∷_}
 use native.Mathlib.Omega.{arith}
 use native.Mathlib.Decide.{decLt}
-use lib.ListN.{length, getD, take, length-take}
+use lib.ListN.{length, getD, take}
 use lib.Seq.{getD-take, length-take-le}
 use lib.Dec.{eqb}
 use Rattle.measures.specs.Ranges.{mostEnergy}
 use Rattle.measures.specs.Lists.{table}
-use Rattle.measures.specs.Sharing.{total}
 use Rattle.measures.proofs.RangeLaws.{In}
 use Rattle.measures.proofs.ListLaws.{cond-case, table-at}
 use Rattle.limits.specs.Units.{periods, generator}
 use Rattle.matching.specs.Orders.{Row}
 use Rattle.matching.specs.Memory.{written}
 use Rattle.matching.proofs.RowLaws.{written-length}
-use Rattle.book.specs.Book.{Book, unitOf, withOffers}
+use Rattle.book.specs.Book.{Book, unitOf}
 use Rattle.book.specs.Trades.{rowsBooked}
-use Rattle.book.specs.Take.{wayOf, takeRowsFrom, takeRows, offerLess}
-use Rattle.book.specs.Opening.{bookWords}
+use Rattle.book.specs.Take.{wayOf, takeRowsFrom, takeRows}
 use Rattle.book.specs.Layout.{word, amountAt, offerAt, decode}
 use Rattle.book.specs.Contract.{soundIn}
 use Rattle.book.specs.Readable.{Readable}
-use Rattle.book.specs.RowsIn.{rowAt, rowsIn, SmallAt, Small, RowFits, RowsFit, smallFigures, RowsTraded, RowsPut, PartsThere, OfferLessened, PartTaken}
-use Rattle.book.proofs.RangeFacts.{OfferWords}
+use Rattle.book.specs.RowsIn.{rowAt, rowsIn, Small, RowFits, RowsFit, smallFigures, RowsTraded, RowsPut, PartsThere, OfferLessened, PartTaken}
 use Rattle.book.proofs.MadeLaws.{sound-readable}
 use Rattle.book.proofs.SmallLaws.{noRow, row-written, rows-written, sound-small}
 use Rattle.book.proofs.PartyLaws.{offer-sound}

@@ -1,18 +1,16 @@
 -- Memory that differs in the figures of one unit in one period: what it keeps, and the book that it holds.
-use Prim.Native.Nat.{ℕ, _+_, _-_, _*_, _≤_, _<_}
+use Prim.Native.Nat.{ℕ, _+_, _*_, _≤_, _<_}
 use mathlib.Core.Path.{_≡_, refl, sym, ap, _∙_}
 use mathlib.Core.List.{List}
 use native.Mathlib.Omega.{arith}
 use native.Mathlib.Decide.{ℕ-discrete, decLt}
-use lib.ListN.{length, getD, take, drop, set, length-set, length-take, length-drop}
+use lib.ListN.{length, getD, drop, set, length-set, length-take, length-drop}
 use lib.Seq.{ext-getD, getD-set-same, getD-set-other, getD-take, getD-drop}
 use Rattle.measures.specs.Lists.{table}
 use Rattle.measures.proofs.ListLaws.{table-set, table-ext}
 use Rattle.limits.specs.Units.{periods}
 use Rattle.matching.specs.Orders.{Order as OpenOrder}
-use Rattle.matching.specs.Memory.{ordersIn}
 use Rattle.book.specs.Book.{Figures, noFigures, Unit, noUnit, OpenOffer, Book, withUnits}
-use Rattle.book.specs.Opening.{bookWords}
 use Rattle.book.specs.Layout.{word, figuresAt, unitAt, amountAt, offerAt, ordersPart, decode}
 use Rattle.book.specs.Readable.{Readable}
 use Rattle.book.specs.RowsIn.{SmallAt, Small, FiguresPut, Kept}

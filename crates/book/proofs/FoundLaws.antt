@@ -1,11 +1,11 @@
 -- The open offer of a number, by its place in memory, and who can take it.
-use Prim.Native.Nat.{ℕ, zero, suc, _+_, _-_, _*_, _≤_, _<_, min}
+use Prim.Native.Nat.{ℕ, zero, suc, _+_, _*_, _≤_, _<_, min}
 use mathlib.Core.Path.{_≡_, refl, sym, ap, _∙_}
-use mathlib.Core.Bool.{Bool, true, false, cond, not, _&&_}
-use mathlib.Core.List.{List, [], _∷_, _++_}
+use mathlib.Core.Bool.{Bool, true, false, not, _&&_}
+use mathlib.Core.List.{List, [], _∷_}
 use native.Mathlib.Omega.{arith}
 use native.Mathlib.Decide.{ℕ-discrete}
-use borrow.Author.Tests.{eq-eqb, ne-eqb, le-leb, lt-leb, lt-ltb, le-ltb}
+use borrow.Author.Tests.{eq-eqb, ne-eqb, le-leb, lt-leb, lt-ltb}
 use lib.ListN.{length, getD}
 use lib.Dec.{eqb, leb, ltb}
 use Rattle.measures.specs.Ranges.{mostEnergy}
@@ -13,7 +13,7 @@ use Rattle.measures.specs.Lists.{keep, table}
 use Rattle.measures.specs.Sharing.{total}
 use Rattle.measures.proofs.ListLaws.{cond-true, cond-false, and-true, and-left-false, and-right-false, table-at}
 use Rattle.limits.specs.Units.{periods, generator}
-use Rattle.book.specs.Book.{OpenOffer, noOffer, Book, unitOf, offersOf, offerOf, offerOpen}
+use Rattle.book.specs.Book.{OpenOffer, noOffer, unitOf, offerOf, offerOpen}
 use Rattle.book.specs.Refusals.{sameSide}
 use Rattle.book.specs.Layout.{word, amountAt, offerAt, decode}
 use Rattle.book.specs.RowsIn.{Found, takes}

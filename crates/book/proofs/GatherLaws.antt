@@ -1,30 +1,28 @@
 -- An offer's amounts gathered and shared, and the fit of the parts.
-use Prim.Native.Nat.{ℕ, zero, suc, _+_, _-_, _*_, _≤_, _<_}
+use Prim.Native.Nat.{ℕ, zero, suc, _+_, _-_, _≤_, _<_}
 use mathlib.Core.Path.{_≡_, refl, sym, ap, _∙_}
-use mathlib.Core.Bool.{Bool, true, false, not}
+use mathlib.Core.Bool.{true}
 use mathlib.Core.List.{List, [], _∷_, _++_, append-assoc}
 use native.Mathlib.Omega.{arith}
 use native.Mathlib.Numerals.{add-one}
-use lib.ListN.{length, getD, take, drop, set, replicate, length-append, length-drop}
+use lib.ListN.{length, getD, take, drop, set, replicate}
 use lib.Dec.{leb}
 use lib.Seq.{drop-cons, set-at, take-at, getD-drop}
 use Rattle.measures.specs.Ranges.{mostEnergy}
 use Rattle.measures.specs.Lists.{tableFrom, table, every}
 use Rattle.measures.specs.Sharing.{total, parts, sharing, Is}
-use Rattle.measures.proofs.SharingLaws.{is-shared, parts-sum, parts-length}
+use Rattle.measures.proofs.SharingLaws.{is-shared, parts-sum}
 use Rattle.measures.proofs.ListLaws.{table-length, table-more, table-at, all-by, all-true, holds-all, every-at}
 use Rattle.measures.proofs.RangeLaws.{In}
 use Rattle.limits.specs.Units.{periods}
-use Rattle.book.specs.Book.{Figures, Unit, noUnit, Book, unitOf}
-use Rattle.book.specs.Fit.{Declaration, unitFits}
+use Rattle.book.specs.Book.{Figures, Unit, noUnit}
 use Rattle.book.specs.Sound.{sound, unitIn}
-use Rattle.book.specs.Refusals.{firstOf}
 use Rattle.book.specs.Offer.{raisingAmounts}
 use Rattle.book.specs.Layout.{word, amountAt, unitAt, decode}
 use Rattle.book.specs.Contract.{soundIn}
-use Rattle.book.specs.Readable.{Readable, Ranged, unitFieldsIn, waysIn, declared, misfitOf, Fitted, small}
+use Rattle.book.specs.Readable.{Ranged, unitFieldsIn, waysIn, declared, Fitted, small}
 use Rattle.book.specs.RowsIn.{fitChecks, partsAt, TakeFit}
-use Rattle.book.proofs.RangeFacts.{units-held, unit-at, OfferWords}
+use Rattle.book.proofs.RangeFacts.{units-held, unit-at}
 use Rattle.book.proofs.MadeLaws.{sound-book, sound-readable}
 use Rattle.book.proofs.FitLaws.{zeros-at, misfit-ext, misfit-declared}
 use Rattle.book.proofs.SmallLaws.{unit-fits}

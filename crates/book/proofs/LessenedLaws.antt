@@ -1,5 +1,5 @@
 -- An offer with parts taken off, that stays: the book in memory.
-use Prim.Native.Nat.{ℕ, zero, suc, _+_, _-_, _*_, _≤_, _<_}
+use Prim.Native.Nat.{ℕ, zero, suc, _+_, _-_, _*_, _<_}
 use mathlib.Core.Path.{_≡_, refl, sym, ap, _∙_}
 use mathlib.Core.List.{List, [], _∷_}
 use native.Mathlib.Omega.{arith}
@@ -9,11 +9,9 @@ use lib.Seq.{getD-set-same, getD-set-other}
 use Rattle.measures.specs.Lists.{table}
 use Rattle.measures.proofs.ListLaws.{table-length, table-at, table-is, table-ext, table-set}
 use Rattle.limits.specs.Units.{periods}
-use Rattle.matching.specs.Memory.{ordersIn}
-use Rattle.book.specs.Book.{OpenOffer, noOffer, Book, withOffers}
+use Rattle.book.specs.Book.{noOffer}
 use Rattle.book.specs.Take.{lessEach, offerLess}
-use Rattle.book.specs.Opening.{bookWords}
-use Rattle.book.specs.Layout.{word, figuresAt, unitAt, amountAt, offerAt, ordersPart, decode}
+use Rattle.book.specs.Layout.{word, figuresAt, unitAt, amountAt, offerAt, decode}
 use Rattle.book.specs.Readable.{Readable}
 use Rattle.book.specs.RowsIn.{AmountsLess, OfferLessened}
 use Rattle.book.proofs.FigureLaws.{figures-same, unit-same, offer-same, book-same, orders-part-same}

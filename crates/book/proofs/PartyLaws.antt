@@ -1,22 +1,18 @@
 -- The checks of a take on a sound book in memory, one by one.
-use Prim.Native.Nat.{ℕ, zero, suc, _+_, _-_, _*_, _≤_, _<_}
+use Prim.Native.Nat.{ℕ, _+_, _*_, _≤_, _<_}
 use mathlib.Core.Path.{_≡_, refl, sym, ap, _∙_}
-use mathlib.Core.Bool.{Bool, true, false, cond, not, _&&_}
+use mathlib.Core.Bool.{Bool, true, false, cond, not}
 use mathlib.Core.List.{List, [], _∷_, _++_}
-use native.Mathlib.Omega.{arith}
-use borrow.Author.Tests.{lt-ltb, le-ltb, leb-true, eqb-true}
-use lib.ListN.{length, getD}
-use lib.Dec.{eqb, leb, ltb}
-use Rattle.measures.specs.Ranges.{between, mostEnergy}
-use Rattle.measures.specs.Lists.{Each, every, all, table}
-use Rattle.measures.specs.Sharing.{total}
+use borrow.Author.Tests.{lt-ltb, le-ltb}
+use lib.Dec.{ltb}
+use Rattle.measures.specs.Ranges.{mostEnergy}
+use Rattle.measures.specs.Lists.{Each}
 use Rattle.measures.proofs.RangeLaws.{In, inside, outside}
-use Rattle.measures.proofs.ListLaws.{cond-true, cond-false, and-left, and-right, both-ways, all-true, all-at}
-use Rattle.limits.specs.Units.{periods}
-use Rattle.book.specs.Book.{OpenOffer, Book, known, offerOf, offerOpen}
+use Rattle.measures.proofs.ListLaws.{all-true, all-at}
+use Rattle.book.specs.Book.{OpenOffer, known, offerOf, offerOpen}
 use Rattle.book.specs.Sound.{sound, energyIn, offerIn}
-use Rattle.book.specs.Refusals.{Check, check, firstOf, sameSide, canTake}
-use Rattle.book.specs.Layout.{word, amountAt, offerAt, decode}
+use Rattle.book.specs.Refusals.{Check, check, firstOf, canTake}
+use Rattle.book.specs.Layout.{word, offerAt, decode}
 use Rattle.book.specs.Contract.{soundIn}
 use Rattle.book.specs.Readable.{Readable}
 use Rattle.book.specs.RowsIn.{Found, takes, partyChecks}

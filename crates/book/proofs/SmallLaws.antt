@@ -1,28 +1,28 @@
 -- The figures of a sound book are small, and rows that were written are read back.
 use Prim.Native.Nat.{ℕ, zero, suc, _+_, _-_, _*_, _/_, _≤_, _<_}
-use mathlib.Core.Path.{_≡_, refl, sym, ap, _∙_}
-use mathlib.Core.Bool.{Bool, true, false, cond, _&&_}
+use mathlib.Core.Path.{_≡_, refl, ap, _∙_}
+use mathlib.Core.Bool.{true}
 use mathlib.Core.List.{List, [], _∷_, _++_}
 use native.Mathlib.Omega.{arith}
 use borrow.Author.Tests.{leb-true}
 use lib.ListN.{length, getD, drop}
 use lib.Dec.{leb}
 use Rattle.measures.specs.Ranges.{mostEnergy}
-use Rattle.measures.specs.Lists.{sum, all, every, table}
+use Rattle.measures.specs.Lists.{sum}
 use Rattle.measures.proofs.RangeLaws.{In, within}
 use Rattle.measures.proofs.ListLaws.{and-left, and-right, all-true, all-at, every-at, sum-at, table-at, table-is}
 use Rattle.limits.specs.Units.{periods, mostCapacity, mostDays}
-use Rattle.limits.specs.Limits.{hourOf, hourLimit, termLimit, volumeLimit}
+use Rattle.limits.specs.Limits.{hourOf, hourLimit, volumeLimit}
 use Rattle.limits.proofs.LimitLaws.{term-most, hour-most, volume-most}
 use Rattle.matching.specs.Orders.{Row}
 use Rattle.matching.specs.Memory.{flatRow, flat, written}
 use Rattle.book.specs.Book.{Figures, noFigures, Unit, noUnit, Book, unitOf, figuresOf}
-use Rattle.book.specs.Fit.{Declaration, nothing, raisingToday, loweringToday, openRaising, openLowering, hourFits, termOf, volumeFits, unitFits}
+use Rattle.book.specs.Fit.{nothing, raisingToday, loweringToday, openRaising, openLowering, hourFits, termOf, volumeFits, unitFits}
 use Rattle.book.specs.Sound.{sound, unitIn}
-use Rattle.book.specs.Layout.{word, figuresAt, unitAt, decode}
+use Rattle.book.specs.Layout.{word, figuresAt, decode}
 use Rattle.book.specs.Contract.{soundIn}
-use Rattle.book.specs.RowsIn.{rowAt, rowsIn, SmallAt, Small, smallFigures}
-use Rattle.book.proofs.RangeFacts.{Head, units-held, unit-at}
+use Rattle.book.specs.RowsIn.{rowAt, rowsIn, Small, smallFigures}
+use Rattle.book.proofs.RangeFacts.{units-held, unit-at}
 use Rattle.book.proofs.MadeLaws.{sound-book, sound-head}
 
 -- the figures of a unit in memory

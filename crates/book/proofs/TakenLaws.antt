@@ -1,7 +1,7 @@
 -- A take's rows by the side of the offer's unit, and what is left of the offers.
-use Prim.Native.Nat.{ℕ, zero, suc, _+_, _-_, _*_, _≤_, _<_}
+use Prim.Native.Nat.{ℕ, zero, suc, _+_, _*_, _<_}
 use mathlib.Core.Path.{_≡_, refl, sym, ap, _∙_}
-use mathlib.Core.Bool.{Bool, true, false, cond, not}
+use mathlib.Core.Bool.{true, false, cond, not}
 use mathlib.Core.List.{List, [], _∷_}
 use native.Mathlib.Omega.{arith}
 use borrow.Author.Tests.{eq-eqb, ne-eqb}
@@ -13,7 +13,7 @@ use Rattle.measures.proofs.ListLaws.{cond-true, cond-false}
 use Rattle.limits.specs.Units.{generator}
 use Rattle.matching.specs.Orders.{Row}
 use Rattle.matching.specs.Memory.{written}
-use Rattle.book.specs.Book.{OpenOffer, noOffer, Book, unitOf}
+use Rattle.book.specs.Book.{OpenOffer, noOffer, unitOf}
 use Rattle.book.specs.Take.{takeRowsFrom, takeRows, offerLess, offersLess}
 use Rattle.book.specs.Layout.{word, offerAt, decode}
 use Rattle.book.specs.RowsIn.{RowsPut}

@@ -1,7 +1,6 @@
 -- A take's rows written one by one, and its parts taken off.
-use Prim.Native.Nat.{ℕ, zero, suc, _+_, _-_, _*_, _≤_, _<_}
+use Prim.Native.Nat.{ℕ, _+_, _-_, _*_, _≤_, _<_}
 use mathlib.Core.Path.{_≡_, refl, sym, ap, _∙_}
-use mathlib.Core.Bool.{Bool, true, false, cond}
 use mathlib.Core.List.{List, [], _∷_, _++_, append-assoc, append-nil}
 use native.Mathlib.Omega.{arith}
 use native.Mathlib.Decide.{ℕ-discrete}
@@ -16,7 +15,7 @@ use Rattle.matching.specs.Memory.{written}
 use Rattle.matching.proofs.RowLaws.{written-none}
 use Rattle.book.specs.Take.{takeRowsFrom}
 use Rattle.book.specs.Layout.{word}
-use Rattle.book.specs.RowsIn.{RowsPut, AmountsLess, PartsThere}
+use Rattle.book.specs.RowsIn.{RowsPut, AmountsLess}
 
 abbrev rowAs : ℕ → ℕ → ℕ → ℕ → ℕ → ℕ → Row
 rowAs way s b pr p q = record { way = way; period = p; seller = s; buyer = b; quantity = q; price = pr }
