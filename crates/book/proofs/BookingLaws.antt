@@ -1,24 +1,22 @@
 -- Laws of booking rows in memory: one party, one row, and the rows so far.
-use Prim.Native.Nat.{ℕ, zero, suc, _+_, _-_, _*_, _≤_, _<_}
+use Prim.Native.Nat.{ℕ, _+_, _-_, _*_, _≤_, _<_}
 use mathlib.Core.Path.{_≡_, refl, sym, ap, _∙_}
-use mathlib.Core.Bool.{Bool, true, false, cond}
+use mathlib.Core.Bool.{true, false}
 use mathlib.Core.List.{List, [], _∷_, _++_}
 use native.Mathlib.Omega.{arith}
 use borrow.Author.Tests.{le-leb, lt-leb}
-use lib.ListN.{length, getD, take, drop, set, length-drop}
+use lib.ListN.{length, getD, drop, set, length-drop}
 use lib.Seq.{ext-getD, getD-drop}
 use lib.Dec.{eqb, leb}
 use Rattle.measures.specs.Ranges.{mostEnergy}
 use Rattle.measures.specs.Lists.{table}
-use Rattle.measures.proofs.RangeLaws.{In}
 use Rattle.measures.proofs.ListLaws.{cond-true, cond-false, table-at, table-is, table-more}
 use Rattle.limits.specs.Units.{periods, generator}
 use Rattle.matching.specs.Orders.{Row}
-use Rattle.matching.specs.Memory.{flatRow, flat, written}
-use Rattle.book.specs.Book.{Figures, noFigures, Unit, noUnit, Book, unitOf, withUnits}
+use Rattle.book.specs.Book.{Figures, noFigures, Unit, Book, unitOf, withUnits}
 use Rattle.book.specs.Trades.{raises, wayAfter, traded, unitTraded, booked, rowBooked, rowsBooked}
 use Rattle.book.specs.Opening.{bookWords}
-use Rattle.book.specs.Layout.{word, figuresAt, unitAt, decode}
+use Rattle.book.specs.Layout.{word, figuresAt, decode}
 use Rattle.book.specs.Readable.{Readable}
 use Rattle.book.specs.RowsIn.{rowAt, rowsIn, SmallAt, Small, FiguresPut, Kept, Traded, RowTraded, RowFits, RowsFit, smallFigures, RowsTraded}
 use Rattle.book.proofs.RangeFacts.{unit-at, kind-at}

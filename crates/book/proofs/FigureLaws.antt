@@ -1,18 +1,16 @@
 -- Memory that differs in the figures of one unit in one period: what it keeps, and the book that it holds.
-use Prim.Native.Nat.{ℕ, _+_, _-_, _*_, _≤_, _<_}
+use Prim.Native.Nat.{ℕ, _+_, _*_, _≤_, _<_}
 use mathlib.Core.Path.{_≡_, refl, sym, ap, _∙_}
 use mathlib.Core.List.{List}
 use native.Mathlib.Omega.{arith}
 use native.Mathlib.Decide.{ℕ-discrete, decLt}
-use lib.ListN.{length, getD, take, drop, set, length-set, length-take, length-drop}
+use lib.ListN.{length, getD, drop, set, length-set, length-take, length-drop}
 use lib.Seq.{ext-getD, getD-set-same, getD-set-other, getD-take, getD-drop}
 use Rattle.measures.specs.Lists.{table}
 use Rattle.measures.proofs.ListLaws.{table-set, table-ext}
 use Rattle.limits.specs.Units.{periods}
 use Rattle.matching.specs.Orders.{Order as OpenOrder}
-use Rattle.matching.specs.Memory.{ordersIn}
 use Rattle.book.specs.Book.{Figures, noFigures, Unit, noUnit, OpenOffer, Book, withUnits}
-use Rattle.book.specs.Opening.{bookWords}
 use Rattle.book.specs.Layout.{word, figuresAt, unitAt, amountAt, offerAt, ordersPart, decode}
 use Rattle.book.specs.Readable.{Readable}
 use Rattle.book.specs.RowsIn.{SmallAt, Small, FiguresPut, Kept}
@@ -55,7 +53,7 @@ figures-put m k p r l v w fits = record {
 }
 
 -- records by their fields
-figures-same : {a b c d e a′ b′ c′ d′ e′ : ℕ} → a ≡ a′ → b ≡ b′ → c ≡ c′ → d ≡ d′ → e ≡ e′
+pub figures-same : {a b c d e a′ b′ c′ d′ e′ : ℕ} → a ≡ a′ → b ≡ b′ → c ≡ c′ → d ≡ d′ → e ≡ e′
     → _≡_ {A = Figures} (record { held = a; raised = b; lowered = c; volume = d; way = e }) (record { held = a′; raised = b′; lowered = c′; volume = d′; way = e′ })
 figures-same ha hb hc hd he = rw (ha, hb, hc, hd, he)
 
@@ -72,14 +70,14 @@ pub book-same : {a b c d e a′ b′ c′ d′ e′ : ℕ} {us us′ : List Unit
     (record { days = a′; floor = b′; ceiling = c′; phase = d′; given = e′; units = us′; offers = fs′; orders = os′ })
 book-same ha hb hc hd he hu hf ho = rw (ha, hb, hc, hd, he, hu, hf, ho)
 
--- the orders' part, where no word before the figures changed
-pub orders-part-same : (m x : List ℕ) → length x ≡ length m → ((i : ℕ) → i < 1776 → word x i ≡ word m i) → ordersPart x ≡ ordersPart m
+-- the orders' part, where none of its words changed
+pub orders-part-same : (m x : List ℕ) → length x ≡ length m → ((i : ℕ) → 240 ≤ i → i < 1776 → word x i ≡ word m i) → ordersPart x ≡ ordersPart m
 orders-part-same m x e h = ext-getD 0 (ordersPart x) (ordersPart m) (simp (length-take, length-drop) (rw e refl)) at
   where
     at : (i : ℕ) → i < length (ordersPart x) → getD (ordersPart x) i 0 ≡ getD (ordersPart m) i 0
     at i l =
         let u : i < 1536 = omega (arith, length-take 1536 (drop 240 x)) in
-        getD-take 1536 (drop 240 x) i 0 u ∙ getD-drop 240 x i 0 ∙ h (240 + i) (omega arith)
+        getD-take 1536 (drop 240 x) i 0 u ∙ getD-drop 240 x i 0 ∙ h (240 + i) (omega arith) (omega arith)
         ∙ sym (getD-drop 240 m i 0) ∙ sym (getD-take 1536 (drop 240 m) i 0 u)
 
 module _ (m x : List ℕ) (k p r l v w : ℕ) (f : FiguresPut m x k p r l v w) (hk : k < 64) where
@@ -147,7 +145,7 @@ module _ (m x : List ℕ) (k p r l v w : ℕ) (f : FiguresPut m x k p r l v w) (
       book-same e0 (f .before 1 (omega arith)) (f .before 2 (omega arith)) (f .before 3 (omega arith)) (f .before 4 (omega arith))
       (rw (e0, e5) (table-set (word m 5) (unitAt m (word m 0)) (unitAt x (word m 0)) k _ noUnit hu (unit-own (word m 0) hp) (λ j hj n. unit-other (word m 0) j (omega arith) n)))
       (rw (e0, e6) (table-ext (word m 6) (offerAt x (word m 0)) (offerAt m (word m 0)) (λ j hj. offer-other (word m 0) j (omega arith))))
-      (rw (e7, orders-part-same m x (f .long) (λ i h. f .before i (omega arith))) refl)
+      (rw (e7, orders-part-same m x (f .long) (λ i l′ h. f .before i (omega arith))) refl)
 
   -- figures that rose by at most q
   pub put-small : (q most : ℕ) → r ≤ word m (1777 + 328 * p + 5 * k) + q → l ≤ word m (1778 + 328 * p + 5 * k) + q → v ≤ word m (1779 + 328 * p + 5 * k) + q → k < word m 5 → p < 24 * word m 0 → word m 5 ≤ 64

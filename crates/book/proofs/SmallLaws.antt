@@ -1,28 +1,28 @@
 -- The figures of a sound book are small, and rows that were written are read back.
 use Prim.Native.Nat.{ℕ, zero, suc, _+_, _-_, _*_, _/_, _≤_, _<_}
-use mathlib.Core.Path.{_≡_, refl, sym, ap, _∙_}
-use mathlib.Core.Bool.{Bool, true, false, cond, _&&_}
+use mathlib.Core.Path.{_≡_, refl, ap, _∙_}
+use mathlib.Core.Bool.{true}
 use mathlib.Core.List.{List, [], _∷_, _++_}
 use native.Mathlib.Omega.{arith}
 use borrow.Author.Tests.{leb-true}
 use lib.ListN.{length, getD, drop}
 use lib.Dec.{leb}
 use Rattle.measures.specs.Ranges.{mostEnergy}
-use Rattle.measures.specs.Lists.{sum, all, every, table}
+use Rattle.measures.specs.Lists.{sum}
 use Rattle.measures.proofs.RangeLaws.{In, within}
 use Rattle.measures.proofs.ListLaws.{and-left, and-right, all-true, all-at, every-at, sum-at, table-at, table-is}
 use Rattle.limits.specs.Units.{periods, mostCapacity, mostDays}
-use Rattle.limits.specs.Limits.{hourOf, hourLimit, termLimit, volumeLimit}
+use Rattle.limits.specs.Limits.{hourOf, hourLimit, volumeLimit}
 use Rattle.limits.proofs.LimitLaws.{term-most, hour-most, volume-most}
 use Rattle.matching.specs.Orders.{Row}
 use Rattle.matching.specs.Memory.{flatRow, flat, written}
 use Rattle.book.specs.Book.{Figures, noFigures, Unit, noUnit, Book, unitOf, figuresOf}
-use Rattle.book.specs.Fit.{Declaration, nothing, raisingToday, loweringToday, openRaising, openLowering, hourFits, termOf, volumeFits, unitFits}
+use Rattle.book.specs.Fit.{nothing, raisingToday, loweringToday, openRaising, openLowering, hourFits, termOf, volumeFits, unitFits}
 use Rattle.book.specs.Sound.{sound, unitIn}
-use Rattle.book.specs.Layout.{word, figuresAt, unitAt, decode}
+use Rattle.book.specs.Layout.{word, figuresAt, decode}
 use Rattle.book.specs.Contract.{soundIn}
-use Rattle.book.specs.RowsIn.{rowAt, rowsIn, SmallAt, Small, smallFigures}
-use Rattle.book.proofs.RangeFacts.{Head, units-held, unit-at}
+use Rattle.book.specs.RowsIn.{rowAt, rowsIn, Small, smallFigures}
+use Rattle.book.proofs.RangeFacts.{units-held, unit-at}
 use Rattle.book.proofs.MadeLaws.{sound-book, sound-head}
 
 -- the figures of a unit in memory
@@ -54,7 +54,7 @@ module _ (b : Book) (u : ℕ) (fit : unitFits b u ≡ true) where
 
 -- each unit of a sound book fits, and its capacity is in range
 module _ (m : List ℕ) (e : soundIn m ≡ true) where
-  unit-fits : (u : ℕ) → In 1 (word m 5) u → unitFits (decode m) u ≡ true
+  pub unit-fits : (u : ℕ) → In 1 (word m 5) u → unitFits (decode m) u ≡ true
   unfolding sound
   unit-fits u h =
       let t = all-true _ (sound-book m e) in
@@ -88,7 +88,7 @@ module _ (m : List ℕ) (e : soundIn m ≡ true) where
       record { raised = omega arith; lowered = omega arith; volume = omega arith }
 
 -- rows that were written, read back
-abbrev noRow : Row
+abbrev pub noRow : Row
 noRow = record { way = 0; period = 0; seller = 0; buyer = 0; quantity = 0; price = 0 }
 
 row-same : {a b c d e f a′ b′ c′ d′ e′ f′ : ℕ} → a ≡ a′ → b ≡ b′ → c ≡ c′ → d ≡ d′ → e ≡ e′ → f ≡ f′

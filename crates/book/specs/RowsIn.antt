@@ -1,14 +1,23 @@
 -- What the functions that book rows in a book's memory promise of it.
 use Prim.Native.Nat.{ℕ, _+_, _-_, _*_, _≤_, _<_}
 use mathlib.Core.Path.{_≡_}
-use mathlib.Core.List.{List}
-use lib.ListN.{length, getD}
+use mathlib.Core.Bool.{Bool}
+use mathlib.Core.List.{List, [], _∷_, _++_}
+use lib.ListN.{length, getD, set, take, drop}
 use Rattle.measures.specs.Ranges.{mostEnergy}
 use Rattle.measures.specs.Lists.{table}
+use Rattle.measures.specs.Sharing.{parts}
+use Rattle.limits.specs.Units.{periods}
 use Rattle.matching.specs.Orders.{Row}
+use Rattle.matching.specs.Memory.{written}
+use Rattle.book.specs.Book.{Book, withOffers}
 use Rattle.book.specs.Trades.{booked, rowBooked, rowsBooked}
+use Rattle.book.specs.Fit.{Declaration}
+use Rattle.book.specs.Offer.{raisingAmounts}
+use Rattle.book.specs.Take.{takenParts, takeChecks, takeRows, offerLess}
+use Rattle.book.specs.Refusals.{Check, firstOf, unknownUnit, fewRows, badQuantity, noSuchOffer, canTake, cannotTake, hourMisfit, termMisfit, volumeMisfit}
 use Rattle.book.specs.Opening.{bookWords}
-use Rattle.book.specs.Layout.{word, decode}
+use Rattle.book.specs.Layout.{word, amountAt, offerAt, decode}
 
 -- the row at place k of lent memory, and the first n rows
 abbrev pub rowAt : List ℕ → ℕ → Row
@@ -75,3 +84,65 @@ smallFigures = 1_000_000_000_000_000_000
 pub record RowsTraded (m x rows : List ℕ) (n : ℕ) : Type 0 where
   pub book : decode x ≡ rowsBooked (rowsIn rows n) (decode m)
   pub kept : Kept m x
+
+-- r is the place of the first open offer of a number, or 8
+pub record Found (m : List ℕ) (n r : ℕ) : Type 0 where
+  pub to : r ≤ 8
+  pub unmet : (i : ℕ) → i < word m 6 → i < r → word m (200 + 5 * i) ≡ n → ⊥
+  pub there : r < 8 → r < word m 6
+  pub number : r < 8 → word m (200 + 5 * r) ≡ n
+
+-- whether a unit can take a quantity of the offer at place j
+unfoldable pub takes : List ℕ → ℕ → ℕ → ℕ → Bool
+takes m j u q = canTake (decode m) (offerAt m (word m 0) j) u q
+
+-- the checks of a take before its fit, and those of the fit
+unfoldable pub partyChecks : Book → ℕ → ℕ → ℕ → ℕ → List Check
+partyChecks b u n q lent = unknownUnit b u ∷ fewRows lent ∷ badQuantity q ∷ noSuchOffer b n ∷ cannotTake b u n q ∷ []
+
+unfoldable pub fitChecks : Book → ℕ → Declaration → List Check
+fitChecks b u d = hourMisfit b u d ∷ termMisfit b u d ∷ volumeMisfit b u d ∷ []
+
+-- what each period gives of a quantity taken from the offer at place j
+unfoldable pub partsAt : List ℕ → ℕ → ℕ → List ℕ
+partsAt m j q = parts q (table (periods (word m 0)) (amountAt m j))
+
+-- r is what the fit of a take came to, and its parts stand in the lent memory
+pub record TakeFit (m : List ℕ) (u j q r : ℕ) (l x : List ℕ) : Type 0 where
+  pub answer : r ≡ firstOf (fitChecks (decode m) u (raisingAmounts (partsAt m j q)))
+  pub memory : x ≡ partsAt m j q ++ drop (periods (word m 0)) l
+
+-- r is what the checks of a take came to; where none applies, its parts stand in the lent memory
+pub record TakeChecked (m : List ℕ) (u n q lent r : ℕ) (l x : List ℕ) : Type 0 where
+  pub answer : r ≡ firstOf (takeChecks (decode m) u n q lent)
+  pub memory : r ≡ 0 → x ≡ takenParts (decode m) n q ++ drop (periods (word m 0)) l
+
+-- k rows rs stand in the lent memory x, which was m
+pub record RowsPut (m x : List ℕ) (k : ℕ) (rs : List Row) : Type 0 where
+  pub count : k ≡ length rs
+  pub rows : x ≡ written m rs
+
+-- x is m with the first n parts taken off the amounts of the offer at place j
+pub record AmountsLess (m x : List ℕ) (j : ℕ) (ps : List ℕ) (n : ℕ) : Type 0 where
+  pub long : length x ≡ length m
+  pub own : (p : ℕ) → p < n → word x (2096 + 328 * p + j) ≡ word m (2096 + 328 * p + j) - getD ps p 0
+  pub other : (i : ℕ) → ((p : ℕ) → p < n → i ≡ 2096 + 328 * p + j → ⊥) → word x i ≡ word m i
+
+-- each part is there to be taken
+abbrev pub PartsThere : List ℕ → ℕ → List ℕ → Type 0
+PartsThere m j ps = (p : ℕ) → p < 24 * word m 0 → getD ps p 0 ≤ word m (2096 + 328 * p + j)
+
+-- x is m with parts taken off the offer at place j, which stays; no figure changed
+pub record OfferLessened (m x : List ℕ) (j : ℕ) (ps : List ℕ) : Type 0 where
+  pub book : decode x ≡ withOffers (decode m) (set (decode m .offers) j (offerLess (offerAt m (word m 0) j) ps))
+  pub long : length x ≡ length m
+  pub head : (i : ℕ) → i < 8 → word x i ≡ word m i
+  pub figures : (p c : ℕ) → c < 320 → word x (1776 + 328 * p + c) ≡ word m (1776 + 328 * p + c)
+  pub past : (i : ℕ) → bookWords (word m 0) ≤ i → word x i ≡ word m i
+
+-- x is m after a take by unit u of parts l from the offer at place j, which stays; its rows stand in the lent memory
+pub record PartTaken (m x : List ℕ) (u j : ℕ) (l lent out : List ℕ) (k : ℕ) : Type 0 where
+  pub rows : RowsPut lent out k (takeRows (decode m) (offerAt m (word m 0) j) u (take (24 * word m 0) l))
+  pub book : decode x ≡ rowsBooked (takeRows (decode m) (offerAt m (word m 0) j) u (take (24 * word m 0) l)) (withOffers (decode m) (set (decode m .offers) j (offerLess (offerAt m (word m 0) j) (take (24 * word m 0) l))))
+  pub long : length x ≡ length m
+  pub past : (i : ℕ) → bookWords (word m 0) ≤ i → word x i ≡ word m i

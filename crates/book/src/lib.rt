@@ -12,6 +12,7 @@ mod pairs;
 mod periods;
 mod ranges;
 mod sound;
+mod taking;
 mod trades;
 mod withdrawing;
 

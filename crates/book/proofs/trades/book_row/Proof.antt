@@ -1,7 +1,5 @@
 -- `book_row`: the seller sold, the buyer bought.
 use Rattle.book.specs.RowsIn.{rowAt}
-use mathlib.Core.Path.{_≡_, sym, _∙_}
-use native.Mathlib.Omega.{arith}
 use Rattle.book.proofs.BookingLaws.{row-traded, seller-asks, buyer-asks}
 use borrow.Author.Needs.{needs}
 use Rattle.book.proofs.trades.book_row.Statement.{statement}

@@ -1,6 +1,5 @@
 -- `book_rows`: the rows passed are booked.
-use Prim.Native.Nat.{ℕ, _≤_, _-_}
-use mathlib.Core.Path.{_≡_, sym, _∙_}
+use Prim.Native.Nat.{_≤_, _-_}
 use native.Mathlib.Omega.{arith}
 use Rattle.book.proofs.BookingLaws.{Booking, booking-none, booking-more, booking-end, row-asks}
 use borrow.Author.Needs.{needs}

@@ -1,5 +1,5 @@
 -- `book_trade`: the unit's new figures are those of the definition.
-use mathlib.Core.Path.{_≡_, sym, _∙_}
+use mathlib.Core.Path.{sym, _∙_}
 use native.Mathlib.Omega.{arith}
 use Rattle.book.proofs.BookingLaws.{trade-raised, trade-lowered}
 use borrow.Author.Needs.{needs}

@@ -1,5 +1,5 @@
 -- `raises_net`: a generator raises by selling, a load by buying.
-use mathlib.Core.Path.{_≡_, sym, _∙_}
+use mathlib.Core.Path.{sym, _∙_}
 use Rattle.book.proofs.BookingLaws.{raises-sold, raises-bought}
 use borrow.Author.Needs.{needs}
 use Rattle.book.proofs.trades.raises_net.Statement.{statement}

@@ -1,0 +1,36 @@
+-- `take_checks`: the checks before the fit, then the fit.
+use native.Mathlib.Omega.{arith}
+use Rattle.book.proofs.MadeLaws.{sound-readable}
+use Rattle.book.proofs.CheckedLaws.{checked-refused, fit-asks, checked-fit}
+use borrow.Author.Needs.{needs}
+use Rattle.book.proofs.taking.take_checks.Statement.{statement}
+use Rattle.book.proofs.taking.take_checks.Tie as tie
+
+take-party-requires : tie.Need-take-party-requires
+take-party-requires c κs = search needs
+
+returns : tie.Need-returns
+returns c = checked-refused _ _ _ _ _ (c .before .before .before .before .pre .0) _ _ (omega arith) (c .before .take-party .ensures)
+
+find-offer-requires : tie.Need-find-offer-requires
+find-offer-requires c κs = sound-readable _ (c .before .before .before .before .pre .0)
+
+take-fit-requires : tie.Need-take-fit-requires
+take-fit-requires c κs = fit-asks _ _ _ _ _ (c .before .before .before .before .before .before .pre .0) _ (omega arith) (c .before .before .before .take-party .ensures) _ (c .before .find-offer .ensures) (c .before .before .before .before .before .before .args .parts .now) (c .before .before .before .before .before .before .pre .1)
+
+same-length : tie.Need-same-length
+same-length c = search needs
+
+returns-2 : tie.Need-returns-2
+returns-2 c = checked-fit _ _ _ _ _ (c .before .before .before .before .before .before .before .before .before .pre .0) (c .before .before .before .before .before .before .take-party .result) (omega arith) (c .before .before .before .before .before .before .take-party .ensures) _ (c .before .before .before .before .find-offer .ensures) _ _ _ (c .before .before .take-fit .ensures)
+
+pub take-checks-spec : {M : Type 1} → statement M
+take-checks-spec =
+    tie.close
+    (tie.spec
+    take-party-requires
+    returns
+    find-offer-requires
+    take-fit-requires
+    same-length
+    returns-2)

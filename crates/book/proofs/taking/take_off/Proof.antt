@@ -1,0 +1,110 @@
+-- `take_off`: the amounts of the periods passed are less.
+use Prim.Native.Nat.{_≤_, _-_, _*_}
+use mathlib.Core.Path.{refl}
+use native.Mathlib.Omega.{arith}
+use Rattle.book.specs.Layout.{word}
+use Rattle.book.specs.RowsIn.{AmountsLess}
+use Rattle.book.proofs.WritingLaws.{less-none, less-more, less-end, amount-kept}
+use borrow.Author.Needs.{needs}
+use Rattle.book.proofs.taking.take_off.Statement.{statement}
+use Rattle.book.proofs.taking.take_off.Tie as tie
+
+abbrev Inv-loop : tie.InvT-loop
+Inv-loop book₀ j parts top p₀ book p = (p ≤ 24 * word book₀ 0) × (AmountsLess book₀ book j parts p)
+
+abbrev μ-loop : tie.MeasureT-loop
+μ-loop book₀ j parts top p₀ book p = 24 * word book₀ 0 - p
+
+slice-read-top : tie.Need-slice-read-top Inv-loop μ-loop
+slice-read-top c = search needs
+
+mul-top : tie.Need-mul-top Inv-loop μ-loop
+mul-top c = search needs
+
+loop-holds : tie.Need-loop-holds Inv-loop μ-loop
+loop-holds c = (search needs, less-none _ _ _)
+
+mul-left : tie.Need-mul-left Inv-loop μ-loop
+mul-left c = search needs
+
+add-left : tie.Need-add-left Inv-loop μ-loop
+add-left c = search needs
+
+add-left-2 : tie.Need-add-left-2 Inv-loop μ-loop
+add-left-2 c = search needs
+
+mul-left-2 : tie.Need-mul-left-2 Inv-loop μ-loop
+mul-left-2 c = search needs
+
+slice-read-left : tie.Need-slice-read-left Inv-loop μ-loop
+slice-read-left c = search needs
+
+mul-left-3 : tie.Need-mul-left-3 Inv-loop μ-loop
+mul-left-3 c = search needs
+
+shared-slice-read-left : tie.Need-shared-slice-read-left Inv-loop μ-loop
+shared-slice-read-left c = search needs
+
+sub-left : tie.Need-sub-left Inv-loop μ-loop
+sub-left c =
+    let a = amount-kept (c .before .before .before .before .before .args .book .now) (c .before .before .before .before .before .args .j) (c .before .before .before .before .before .args .parts .now) (c .before .before .before .loop .book) (c .before .before .before .loop .p) (c .before .before .before .loop .inv .1) in
+    let t = c .before .before .before .before .before .pre .3 (c .before .before .before .loop .p) (c .before .before .loop-test .taken) in
+    omega arith
+
+mul-book : tie.Need-mul-book Inv-loop μ-loop
+mul-book c = search needs
+
+add-book : tie.Need-add-book Inv-loop μ-loop
+add-book c = search needs
+
+add-book-2 : tie.Need-add-book-2 Inv-loop μ-loop
+add-book-2 c = search needs
+
+mul-book-2 : tie.Need-mul-book-2 Inv-loop μ-loop
+mul-book-2 c = search needs
+
+slice-write-book : tie.Need-slice-write-book Inv-loop μ-loop
+slice-write-book c = search needs
+
+add-p : tie.Need-add-p Inv-loop μ-loop
+add-p c = search needs
+
+loop-less : tie.Need-loop-less Inv-loop μ-loop
+loop-less c = search needs
+
+loop-again : tie.Need-loop-again Inv-loop μ-loop
+loop-again c = (omega arith, less-more _ _ _ _ (c .before .before .before .loop .p) (c .before .before .before .loop .inv .1) _ (omega arith) refl)
+
+same-length : tie.Need-same-length Inv-loop μ-loop
+same-length c = c .before .loop .inv .1 .long
+
+returns : tie.Need-returns Inv-loop μ-loop
+returns c = less-end _ _ _ _ (c .before .loop .p) _ (omega arith) (c .before .loop .inv .1)
+
+pub take-off-spec : {M : Type 1} → statement M
+take-off-spec =
+    tie.close
+    (tie.spec
+    Inv-loop
+    μ-loop
+    slice-read-top
+    mul-top
+    loop-holds
+    mul-left
+    add-left
+    add-left-2
+    mul-left-2
+    slice-read-left
+    mul-left-3
+    shared-slice-read-left
+    sub-left
+    mul-book
+    add-book
+    add-book-2
+    mul-book-2
+    slice-write-book
+    add-p
+    loop-less
+    loop-again
+    same-length
+    returns)

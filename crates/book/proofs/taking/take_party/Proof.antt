@@ -1,0 +1,57 @@
+-- `take_party`: each check in its order.
+use mathlib.Core.Path.{sym, _∙_}
+use native.Mathlib.Omega.{arith}
+use borrow.Author.Tests.{not-true, not-false}
+use Rattle.book.proofs.MadeLaws.{sound-readable}
+use Rattle.book.proofs.PartyLaws.{party-unknown, party-few, party-energy, party-none, party-cannot, party-passed, can-asks}
+use Rattle.book.proofs.taking.take_party.Statement.{statement}
+use Rattle.book.proofs.taking.take_party.Tie as tie
+
+returns : tie.Need-returns
+returns c = party-unknown _ _ _ _ _ (omega arith)
+
+shared-slice-read-if2 : tie.Need-shared-slice-read-if2
+shared-slice-read-if2 c = let g = sound-readable (c .before .before .before .args .book .now) (c .before .before .before .pre) in omega arith
+
+returns-2 : tie.Need-returns-2
+returns-2 c = party-unknown _ _ _ _ _ (omega arith)
+
+returns-3 : tie.Need-returns-3
+returns-3 c = party-few _ _ _ _ _ (omega arith) (omega arith)
+
+returns-4 : tie.Need-returns-4
+returns-4 c = party-energy _ _ _ _ _ (omega arith) (omega arith) (omega arith)
+
+returns-5 : tie.Need-returns-5
+returns-5 c = party-energy _ _ _ _ _ (omega arith) (omega arith) (omega arith)
+
+find-offer-requires : tie.Need-find-offer-requires
+find-offer-requires c κs = sound-readable _ (c .before .before .before .before .before .before .before .pre)
+
+returns-6 : tie.Need-returns-6
+returns-6 c = party-none _ _ _ _ _ (omega arith) (omega arith) (omega arith) (c .before .before .before .before .before .before .before .before .before .pre) _ (c .before .find-offer .ensures) (omega arith)
+
+can-take-requires : tie.Need-can-take-requires
+can-take-requires c κs = can-asks _ _ _ _ _ (c .before .before .before .before .before .before .before .before .before .pre) (c .before .find-offer .ensures) (omega arith) (omega arith) (omega arith)
+
+returns-7 : tie.Need-returns-7
+returns-7 c = party-cannot _ _ _ _ _ (omega arith) (omega arith) (omega arith) (c .before .before .before .before .before .before .before .before .before .before .before .pre) _ (c .before .before .before .find-offer .ensures) (omega arith) (sym (c .before .can-take .ensures) ∙ not-true _ (c .if7 .taken))
+
+returns-8 : tie.Need-returns-8
+returns-8 c = party-passed _ _ _ _ _ (omega arith) (omega arith) (omega arith) (c .before .before .before .before .before .before .before .before .before .before .before .pre) _ (c .before .before .before .find-offer .ensures) (omega arith) (sym (c .before .can-take .ensures) ∙ not-false _ (c .if7 .left))
+
+pub take-party-spec : {M : Type 1} → statement M
+take-party-spec =
+    tie.close
+    (tie.spec
+    returns
+    shared-slice-read-if2
+    returns-2
+    returns-3
+    returns-4
+    returns-5
+    find-offer-requires
+    returns-6
+    can-take-requires
+    returns-7
+    returns-8)

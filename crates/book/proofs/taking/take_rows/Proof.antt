@@ -1,0 +1,99 @@
+-- `take_rows`: the generator sells.
+use mathlib.Core.Path.{sym, _∙_}
+use Rattle.book.proofs.TakenLaws.{rows-sold, rows-bought}
+use borrow.Author.Needs.{needs}
+use Rattle.book.proofs.taking.take_rows.Statement.{statement}
+use Rattle.book.proofs.taking.take_rows.Tie as tie
+
+shared-slice-read-top : tie.Need-shared-slice-read-top
+shared-slice-read-top c = search needs
+
+mul-top : tie.Need-mul-top
+mul-top c = search needs
+
+mul-owner : tie.Need-mul-owner
+mul-owner c = search needs
+
+add-owner : tie.Need-add-owner
+add-owner c = search needs
+
+mul-owner-2 : tie.Need-mul-owner-2
+mul-owner-2 c = search needs
+
+shared-slice-read-owner : tie.Need-shared-slice-read-owner
+shared-slice-read-owner c = search needs
+
+mul-price : tie.Need-mul-price
+mul-price c = search needs
+
+add-price : tie.Need-add-price
+add-price c = search needs
+
+mul-price-2 : tie.Need-mul-price-2
+mul-price-2 c = search needs
+
+shared-slice-read-price : tie.Need-shared-slice-read-price
+shared-slice-read-price c = search needs
+
+mul-way-of : tie.Need-mul-way-of
+mul-way-of c = search needs
+
+add-way-of : tie.Need-add-way-of
+add-way-of c = search needs
+
+mul-way-of-2 : tie.Need-mul-way-of-2
+mul-way-of-2 c = search needs
+
+shared-slice-read-way-of : tie.Need-shared-slice-read-way-of
+shared-slice-read-way-of c = search needs
+
+way-of-requires : tie.Need-way-of-requires
+way-of-requires c κs = search needs
+
+is-generator-requires : tie.Need-is-generator-requires
+is-generator-requires c κs = search needs
+
+write-rows-requires : tie.Need-write-rows-requires
+write-rows-requires c κs = search needs
+
+same-length : tie.Need-same-length
+same-length c = search needs
+
+returns : tie.Need-returns
+returns c = rows-sold _ _ _ _ _ _ _ _ (c .before .before .before .before .before .before .way-of .ensures) (sym (c .before .before .before .before .before .is-generator .ensures) ∙ c .before .before .before .before .if1 .taken) (c .before .before .write-rows .ensures)
+
+write-rows-requires-2 : tie.Need-write-rows-requires-2
+write-rows-requires-2 c κs = search needs
+
+same-length-2 : tie.Need-same-length-2
+same-length-2 c = search needs
+
+returns-2 : tie.Need-returns-2
+returns-2 c = rows-bought _ _ _ _ _ _ _ _ (c .before .before .before .before .before .before .way-of .ensures) (sym (c .before .before .before .before .before .is-generator .ensures) ∙ c .before .before .before .before .if1 .left) (c .before .before .write-rows2 .ensures)
+
+pub take-rows-spec : {M : Type 1} → statement M
+take-rows-spec =
+    tie.close
+    (tie.spec
+    shared-slice-read-top
+    mul-top
+    mul-owner
+    add-owner
+    mul-owner-2
+    shared-slice-read-owner
+    mul-price
+    add-price
+    mul-price-2
+    shared-slice-read-price
+    mul-way-of
+    add-way-of
+    mul-way-of-2
+    shared-slice-read-way-of
+    way-of-requires
+    is-generator-requires
+    write-rows-requires
+    same-length
+    returns
+    write-rows-requires-2
+    same-length-2
+    returns-2)

@@ -1,0 +1,241 @@
+// Take: its checks behind that of soundness, and its effect (paper 01, "The eight calls").
+use crate::fits::misfit;
+use crate::ranges::is_generator;
+use crate::ranges::offer_total;
+use crate::trades::book_rows;
+use matching::orders::Row;
+use matching::orders::put_row;
+use measures::Energy;
+use measures::Price;
+ghost use mathlib.Core.Path.{_≡_};
+ghost use mathlib.Core.Bool.{true, cond};
+ghost use mathlib.Core.List.{List, _++_};
+ghost use Prim.Native.Nat.{ℕ, _+_, _*_, _-_, _<_, _≤_};
+ghost use lib.ListN.{length, getD, take, drop};
+ghost use lib.Dec.{eqb};
+ghost use Rattle.measures.specs.Ranges.{mostEnergy};
+ghost use Rattle.measures.specs.Lists.{table};
+ghost use Rattle.measures.specs.Sharing.{total};
+ghost use Rattle.limits.specs.Units.{periods};
+ghost use Rattle.book.specs.Take.{takeRowsFrom, takeRows};
+ghost use Rattle.book.specs.Refusals.{firstOf};
+ghost use Rattle.book.specs.Layout.{word, amountAt, offerAt, decode};
+ghost use Rattle.book.specs.Readable.{Readable};
+ghost use Rattle.book.specs.Contract.{soundIn};
+ghost use Rattle.book.specs.RowsIn.{Found, takes, partyChecks, TakeFit, TakeChecked, RowsPut, AmountsLess, PartsThere, OfferLessened, PartTaken};
+
+// The place of the open offer of a number, or 8.
+pub fn find_offer(book: &[u64], number: u64) -> usize
+    requires { ⌜ Readable (now book) ⌝ }
+    ensures { λ r. ⌜ Found (now (book .entry)) number r ⌝ }
+{
+    let n = book[6] as usize;
+    let mut j: usize = 0;
+    while j < n {
+        if book[200 + 5 * j] == number {
+            return j;
+        }
+        j += 1;
+    }
+    8
+}
+
+// Whether a unit can take a quantity of the offer at place j.
+fn can_take(book: &[u64], j: usize, unit: u64, quantity: u64) -> bool
+    requires { ⌜ (Readable (now book)) × (j < 8) × (1 ≤ word (now book) (201 + 5 * j)) × (word (now book) (201 + 5 * j) ≤ word (now book) 5) × (1 ≤ unit) × (unit ≤ word (now book) 5) × (quantity ≤ mostEnergy) ⌝ }
+    ensures { λ r. ⌜ r ≡ takes (now (book .entry)) j unit quantity ⌝ }
+{
+    let whole = offer_total(book, j);
+    let partner = book[202 + 5 * j];
+    if partner != 0 {
+        if partner != unit {
+            return false;
+        }
+        if quantity != whole {
+            return false;
+        }
+        return true;
+    }
+    if whole < quantity {
+        return false;
+    }
+    let own = is_generator(book, book[201 + 5 * j]);
+    let other = is_generator(book, unit);
+    if own {
+        return !other;
+    }
+    other
+}
+
+// The checks of a take before its fit.
+fn take_party(book: &[u64], unit: u64, number: u64, quantity: u64, lent: usize) -> u64
+    requires { ⌜ soundIn (now book) ≡ true ⌝ }
+    ensures { λ r. ⌜ r ≡ firstOf (partyChecks (decode (now (book .entry))) unit number quantity lent) ⌝ }
+{
+    if unit < 1 {
+        return 6;
+    }
+    if book[5] < unit {
+        return 6;
+    }
+    if lent < 4464 {
+        return 7;
+    }
+    if quantity < 1 {
+        return 9;
+    }
+    if Energy::MOST < quantity {
+        return 9;
+    }
+    let j = find_offer(book, number);
+    if 8 <= j {
+        return 11;
+    }
+    if !can_take(book, j, unit, quantity) {
+        return 12;
+    }
+    0
+}
+
+// The amounts of the offer at place j, by period.
+fn gather(book: &[u64], j: usize, amounts: &mut [u64])
+    requires { ⌜ (Readable (now book)) × (j < 8) × (length (now amounts) ≡ 744) ⌝ }
+    ensures { λ _. ⌜ now (amounts .exit) ≡ table (periods (word (now (book .entry)) 0)) (amountAt (now (book .entry)) j) ++ drop (periods (word (now (book .entry)) 0)) (now (amounts .entry)) ⌝ }
+{
+    let top = 24 * (book[0] as usize);
+    let mut p: usize = 0;
+    while p < top {
+        amounts[p] = book[2096 + 328 * p + j];
+        p += 1;
+    }
+}
+
+// The fit of a take from the offer at place j; its parts go to the lent memory.
+fn take_fit(book: &[u64], unit: u64, j: usize, quantity: u64, parts: &mut [u64]) -> u64
+    requires { ⌜ (soundIn (now book) ≡ true) × (j < word (now book) 6) × (1 ≤ unit) × (unit ≤ word (now book) 5) × (1 ≤ quantity) × (quantity ≤ total (table (periods (word (now book) 0)) (amountAt (now book) j))) × (length (now parts) ≡ 744) ⌝ }
+    ensures { λ r. ⌜ TakeFit (now (book .entry)) unit j quantity r (now (parts .entry)) (now (parts .exit)) ⌝ }
+{
+    let top = 24 * (book[0] as usize);
+    let mut amounts = [0u64; 744];
+    gather(book, j, &mut amounts);
+    measures::share(Energy(quantity), &amounts[0..top], parts);
+    let mut raising = [0u64; 744];
+    measures::share(Energy(quantity), &amounts[0..top], &mut raising);
+    let mut lowering = [0u64; 744];
+    misfit(book, unit, &mut raising, &mut lowering)
+}
+
+// The checks of a take behind that of soundness; where none applies, its parts go to the lent memory.
+pub fn take_checks(
+    book: &[u64],
+    unit: u64,
+    number: u64,
+    quantity: u64,
+    lent: usize,
+    parts: &mut [u64],
+) -> u64
+    requires { ⌜ (soundIn (now book) ≡ true) × (length (now parts) ≡ 744) ⌝ }
+    ensures { λ r. ⌜ TakeChecked (now (book .entry)) unit number quantity lent r (now (parts .entry)) (now (parts .exit)) ⌝ }
+{
+    let refusal = take_party(book, unit, number, quantity, lent);
+    if 0 < refusal {
+        return refusal;
+    }
+    let j = find_offer(book, number);
+    take_fit(book, unit, j, quantity, parts)
+}
+
+// A row for each of the first parts that is not 0, periods rising.
+fn write_rows(
+    parts: &[u64],
+    top: usize,
+    rows: &mut [u64],
+    way: u64,
+    seller: u64,
+    buyer: u64,
+    price: u64,
+) -> usize
+    requires { ⌜ (top ≤ 744) × (top ≤ length (now parts)) × (4464 ≤ length (now rows)) ⌝ }
+    ensures { λ r. ⌜ RowsPut (now (rows .entry)) (now (rows .exit)) r (takeRowsFrom 0 way seller buyer price (take top (now (parts .entry)))) ⌝ }
+{
+    let mut k: usize = 0;
+    let mut p: usize = 0;
+    while p < top {
+        let q = parts[p];
+        if q == 0 {
+            p += 1;
+        } else {
+            let row = Row {
+                way: way,
+                period: p as u64,
+                seller: seller,
+                buyer: buyer,
+                quantity: Energy(q),
+                price: Price(price),
+            };
+            put_row(rows, k, row);
+            k += 1;
+            p += 1;
+        }
+    }
+    k
+}
+
+// The parts are taken off the amounts of the offer at place j.
+fn take_off(book: &mut [u64], j: usize, parts: &[u64])
+    requires { ⌜ (Readable (now book)) × (j < 8) × (744 ≤ length (now parts)) × (PartsThere (now book) j (now parts)) ⌝ }
+    ensures { λ _. ⌜ AmountsLess (now (book .entry)) (now (book .exit)) j (now (parts .entry)) (24 * word (now (book .entry)) 0) ⌝ }
+{
+    let top = 24 * (book[0] as usize);
+    let mut p: usize = 0;
+    while p < top {
+        let left = book[2096 + 328 * p + j] - parts[p];
+        book[2096 + 328 * p + j] = left;
+        p += 1;
+    }
+}
+
+// The parts are taken off the offer at place j, which stays.
+fn lessen_offer(book: &mut [u64], j: usize, parts: &[u64])
+    requires { ⌜ (Readable (now book)) × (j < word (now book) 6) × (744 ≤ length (now parts)) × (PartsThere (now book) j (now parts)) ⌝ }
+    ensures { λ _. ⌜ ((ps : List ℕ) → ((p : ℕ) → p < 24 * word (now (book .entry)) 0 → getD (now (parts .entry)) p 0 ≡ getD ps p 0) → OfferLessened (now (book .entry)) (now (book .exit)) j ps) ⌝ }
+{
+    take_off(book, j, parts);
+    book[204 + 5 * j] = 1;
+}
+
+// The way of a take: 1 from a bilateral offer, 2 from a listing.
+fn way_of(partner: u64) -> u64
+    ensures { λ r. ⌜ r ≡ cond (eqb partner 0) 2 1 ⌝ }
+{
+    if partner == 0 {
+        return 2;
+    }
+    1
+}
+
+// The rows of a take by a unit from the offer at place j.
+fn take_rows(book: &[u64], unit: u64, j: usize, parts: &[u64], rows: &mut [u64]) -> usize
+    requires { ⌜ (Readable (now book)) × (j < 8) × (1 ≤ word (now book) (201 + 5 * j)) × (word (now book) (201 + 5 * j) ≤ word (now book) 5) × (744 ≤ length (now parts)) × (4464 ≤ length (now rows)) ⌝ }
+    ensures { λ r. ⌜ RowsPut (now (rows .entry)) (now (rows .exit)) r (takeRows (decode (now (book .entry))) (offerAt (now (book .entry)) (word (now (book .entry)) 0) j) unit (take (24 * word (now (book .entry)) 0) (now (parts .entry)))) ⌝ }
+{
+    let top = 24 * (book[0] as usize);
+    let owner = book[201 + 5 * j];
+    let price = book[203 + 5 * j];
+    let way = way_of(book[202 + 5 * j]);
+    if is_generator(book, owner) {
+        return write_rows(parts, top, rows, way, owner, unit, price);
+    }
+    write_rows(parts, top, rows, way, unit, owner, price)
+}
+
+// A take of parts from the offer at place j, of which some is left.
+fn take_part(book: &mut [u64], unit: u64, j: usize, parts: &[u64], rows: &mut [u64]) -> usize
+    requires { ⌜ (soundIn (now book) ≡ true) × (j < word (now book) 6) × (1 ≤ unit) × (unit ≤ word (now book) 5) × (744 ≤ length (now parts)) × (4464 ≤ length (now rows)) × (PartsThere (now book) j (now parts)) ⌝ }
+    ensures { λ r. ⌜ PartTaken (now (book .entry)) (now (book .exit)) unit j (now (parts .entry)) (now (rows .entry)) (now (rows .exit)) r ⌝ }
+{
+    let count = take_rows(book, unit, j, parts, rows);
+    lessen_offer(book, j, parts);
+    book_rows(book, rows, count);
+    count
+}
