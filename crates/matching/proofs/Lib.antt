@@ -32,3 +32,4 @@ pub mod ExchangeLaws
 pub mod MetLaws
 pub mod FiguresHold
 pub mod RollingFigure
+pub mod Figure2Cleared

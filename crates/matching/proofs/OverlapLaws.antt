@@ -13,8 +13,8 @@ use lib.Seq.{drop-cons, getD-take}
 use Rattle.measures.specs.Lists.{sumOf}
 use Rattle.measures.specs.Ranges.{mostEnergy}
 use Rattle.measures.specs.Sharing.{total}
-use Rattle.measures.proofs.ListLaws.{cond-true, cond-false, sumOf-drop}
-use Rattle.matching.specs.Orders.{Order, Row}
+use Rattle.measures.proofs.ListLaws.{cond-true}
+use Rattle.matching.specs.Orders.{Row}
 use Rattle.matching.specs.Clearing.{Fill, filled, Span, endToEnd, overlap, rowsOfBid, overlapRows}
 use Rattle.matching.specs.Memory.{orderAt, noOrder, written}
 use Rattle.matching.specs.Places.{ordersAt, overlapRow, fillsAt, Filling}

@@ -1,13 +1,12 @@
 -- Laws of the fills of one side: the places that are picked, and the shares at the margin.
-use Prim.Native.Nat.{ℕ, zero, suc, _+_, _*_, _-_, _<_, _≤_}
+use Prim.Native.Nat.{ℕ, suc, _+_, _-_, _<_, _≤_}
 use mathlib.Core.Path.{_≡_, refl, sym, ap, ap₂, _∙_}
 use mathlib.Core.Bool.{Bool, true, false, cond}
 use mathlib.Core.List.{List, [], _∷_, _++_, map, append-assoc, append-nil}
 use native.Mathlib.Omega.{arith}
-use native.Mathlib.Nat.{not-suc-le-zero}
 use native.Mathlib.Numerals.{add-one}
 use lib.Dec.{eqb, ltb}
-use borrow.Author.Tests.{eq-eqb, ne-eqb, eqb-true, ltb-true}
+use borrow.Author.Tests.{eq-eqb, ne-eqb, ltb-true}
 use borrow.Rule.Slice.PartMut.{postOf, putMid, same-len-mid}
 use lib.ListN.{length, getD, take, drop, set, length-append, length-set, length-take, length-drop, drop-of-length-le}
 use lib.Seq.{drop-cons, take-suc-set, getD-take, length-take-le, take-at, drop-at, take-add}
@@ -17,7 +16,7 @@ use Rattle.measures.specs.Sharing.{total, parts, sharing, Is}
 use Rattle.measures.proofs.ListLaws.{cond-true, cond-false, and-left, and-right, and-true, both-ways}
 use Rattle.measures.proofs.SharingLaws.{total-drop, total-end, parts-length, parts-sum, is-shared}
 use Rattle.matching.specs.Orders.{Order, quantities}
-use Rattle.matching.specs.Memory.{orderAt, noOrder}
+use Rattle.matching.specs.Memory.{orderAt}
 use Rattle.matching.specs.Clearing.{Fill, filled, fillsOf}
 use Rattle.matching.specs.Places.{ordersAt, chosen, picked, openAt, Picked, AtMargin, Stand, fillsAt, Filling}
 use Rattle.matching.proofs.LayingLaws.{map-join, length-mapped}

@@ -1,28 +1,28 @@
 -- Laws of the margins: the walk by places, and a volume between what is better than a margin and what is at it too.
 use Prim.Native.Nat.{ℕ, zero, suc, _+_, _*_, _-_, _<_, _≤_, min}
-use mathlib.Core.Path.{_≡_, refl, sym, ap, ap₂, _∙_}
+use mathlib.Core.Path.{_≡_, refl, sym, ap, _∙_}
 use mathlib.Core.Bool.{Bool, true, false, cond}
-use mathlib.Core.List.{List, [], _∷_, _++_, map}
+use mathlib.Core.List.{List, [], _∷_, _++_}
 use native.Mathlib.Omega.{arith}
 use native.Mathlib.Nat.{not-suc-le-zero}
 use native.Mathlib.Decide.{decLe}
-use lib.Dec.{eqb, ltb, leb}
+use lib.Dec.{eqb, leb}
 use borrow.Author.Tests.{eq-eqb, eqb-true, eqb-false, le-leb, lt-leb}
-use lib.ListN.{length, getD, take, length-take, List·getD-eq-default, List·getD-map}
-use lib.Seq.{getD-take, length-take-le}
+use lib.ListN.{length, getD, take, length-take, List·getD-eq-default}
+use lib.Seq.{getD-take}
 use Rattle.measures.specs.Lists.{keep}
 use Rattle.measures.specs.Ranges.{mostEnergy}
 use Rattle.measures.proofs.ListLaws.{both-ways}
-use Rattle.matching.specs.Orders.{Order, quantities, laid, bids, asks}
+use Rattle.matching.specs.Orders.{Order, quantities, laid}
 use Rattle.matching.specs.Memory.{orderAt, ordersIn, noOrder}
 use Rattle.matching.specs.Clearing.{tradedAt, clearedVolume, marginal}
-use Rattle.matching.specs.Places.{ordersAt, aheadOn, belongs, chosen, Stand, Sides, AreMargins, AtMargin}
+use Rattle.matching.specs.Places.{ordersAt, aheadOn, belongs, Stand, Sides, AreMargins, AtMargin}
 use Rattle.matching.proofs.EachLaws.{Each, each-all}
 use Rattle.matching.proofs.LaidLaws.{laid-quantities}
 use Rattle.matching.proofs.AheadLaws.{Strict, Ordered, Falling, Rising, bids-fall, asks-rise}
 use Rattle.matching.proofs.VolumeLaws.{keep-some, keep-none, largest-below, traded}
 use Rattle.matching.proofs.WalkLaws.{priceAt, quantityAt, Walking, walking-start, walking-takes, walking-next-bid, walking-next-ask, walking-bids-end, walking-asks-end, walking-apart}
-use Rattle.matching.proofs.LayingLaws.{length-mapped, stand-length}
+use Rattle.matching.proofs.LayingLaws.{length-mapped}
 
 -- places of laid orders are places
 pub stand-here : (m ps : List ℕ) (n c : ℕ) (l : List Order) → Stand m ps n c l → Stand m ps n c (ordersAt m (take c ps))

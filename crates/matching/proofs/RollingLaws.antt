@@ -2,13 +2,13 @@
 use Prim.Native.Nat.{ℕ, zero, suc, _+_, _-_, _<_, _≤_, min}
 use mathlib.Core.Path.{_≡_, refl, sym, ap, _∙_}
 use mathlib.Core.Logic.{_⊎_, inl, inr}
-use mathlib.Core.Bool.{Bool, true, false, cond, _&&_}
+use mathlib.Core.Bool.{Bool, true, false, cond, _&&_, _||_}
 use mathlib.Core.List.{List, [], _∷_, map}
 use native.Mathlib.Omega.{arith}
 use native.Mathlib.Decide.{decLt}
-use borrow.Author.Tests.{eqb-true, eqb-false, leb-true}
+use borrow.Author.Tests.{eqb-true, eqb-false, leb-true, ltb-false, eq-eqb, ne-eqb}
 use lib.ListN.{length, getD}
-use lib.Dec.{eqb, leb}
+use lib.Dec.{eqb, leb, ltb}
 use Rattle.measures.specs.Lists.{sumOf, keep}
 use Rattle.measures.proofs.ListLaws.{both-ways, cond-case, and-left, and-right}
 use Rattle.matching.specs.Orders.{Order, Row, buys, sells, lessen, rising, numbers, bidAhead, askAhead, laid}
@@ -154,6 +154,18 @@ row-sides i os =
     rows-each i (λ d. Counterpart i os (d .order)) (Sides i os) (matches (i .quantity) (counterparts i os)) (sides i os)
     (matches-each (Counterpart i os) (i .quantity) (counterparts i os) (counterparts-met i os))
 
+-- the price lies between what is asked and what is bid
+pub price-between : (i : Order) (os : List Order) (r : Row) (s : Sides i os r) → (s .sale .price ≤ r .price) × (r .price ≤ s .buy .price)
+price-between i os r s = go (s .incoming)
+  where
+    go : ((s .sale ≡ s .waiting) × (s .buy ≡ i)) ⊎ ((s .sale ≡ i) × (s .buy ≡ s .waiting)) → (s .sale .price ≤ r .price) × (r .price ≤ s .buy .price)
+    go (inl h) =
+        let e : s .sale .price ≡ r .price = ap (λ (o : Order). o .price) (h .0) ∙ sym (s .price) in
+        omega (arith, s .opposite .cross)
+    go (inr h) =
+        let e : s .buy .price ≡ r .price = ap (λ (o : Order). o .price) (h .1) ∙ sym (s .price) in
+        omega (arith, s .opposite .cross)
+
 -- where nothing is laid, there is no candidate
 none-kept : (f : Order → Bool) (os : List Order) → length (keep f os) ≡ 0 → Each (λ o. f o ≡ false) os
 none-kept f [] e = tt
@@ -249,3 +261,54 @@ best-first i os = laid-sorted (aheadFor i) (λ a b. aheadFor i b a ≡ false) on
     far a b c =
         cond-case (λ (g : Order → Order → Bool). g b a ≡ false → g c b ≡ false → g c a ≡ false) (buys (i .direction)) askAhead bidAhead
         (λ e. ask-far a b c) (λ e. bid-far a b c)
+
+-- an order that does not stand ahead has no better price
+or-false : (a b : Bool) → (a || b) ≡ false → a ≡ false
+or-false true b e = e
+or-false false b e = refl
+
+ask-dearer : (a b : Order) → askAhead b a ≡ false → a .price ≤ b .price
+unfolding askAhead
+ask-dearer a b e = ltb-false (b .price) (a .price) (or-false (ltb (b .price) (a .price)) _ e)
+
+bid-cheaper : (a b : Order) → bidAhead b a ≡ false → b .price ≤ a .price
+unfolding bidAhead
+bid-cheaper a b e = ltb-false (a .price) (b .price) (or-false (ltb (a .price) (b .price)) _ e)
+
+-- so the rows' prices get no better for the incoming order: a buy's never fall, a sale's never rise
+matches-pairs : (R : Order → Order → Type 0) (q : ℕ) (cs : List Order) → Pairs R cs → Pairs (λ d e. R (d .order) (e .order)) (matches q cs)
+unfolding matches
+matches-pairs R q [] p = tt
+matches-pairs R q (o ∷ cs) p =
+    matches-case (Pairs (λ d e. R (d .order) (e .order))) q o cs (λ z. tt)
+    (λ ne. (matches-each (R o) (q - min q (o .quantity)) cs (p .0), matches-pairs R (q - min q (o .quantity)) cs (p .1)))
+
+rows-pairs : (i : Order) (P : Match → Match → Type 0) (Q : Row → Row → Type 0) (ms : List Match) → ((d e : Match) → P d e → Q (matchRow i d) (matchRow i e)) → Pairs P ms → Pairs Q (map (matchRow i) ms)
+rows-pairs i P Q [] h p = tt
+rows-pairs i P Q (d ∷ ms) h p = (rows-each i (P d) (Q (matchRow i d)) ms (h d) (p .0), rows-pairs i P Q ms h (p .1))
+
+row-price : (i : Order) (d : Match) → matchRow i d .price ≡ d .order .price
+unfolding matchRow
+row-price i d = cond-case (λ (r : Row). r .price ≡ d .order .price) (buys (i .direction)) _ _ (λ e. refl) (λ e. refl)
+
+pub buy-prices-rise : (i : Order) (os : List Order) → i .direction ≡ 1 → Pairs (λ r s. r .price ≤ s .price) (meet i os .rows)
+unfolding meet
+buy-prices-rise i os b =
+    rows-pairs i (λ d e. aheadFor i (e .order) (d .order) ≡ false) (λ r s. r .price ≤ s .price) (matches (i .quantity) (counterparts i os)) at
+    (matches-pairs (λ x y. aheadFor i y x ≡ false) (i .quantity) (counterparts i os) (best-first i os))
+  where
+    at : (d e : Match) → aheadFor i (e .order) (d .order) ≡ false → matchRow i d .price ≤ matchRow i e .price
+    at d e h =
+        let k = ask-dearer (d .order) (e .order) (rw (eq-eqb (i .direction) 1 b) at h) in
+        omega (arith, row-price i d, row-price i e)
+
+pub sale-prices-fall : (i : Order) (os : List Order) → (i .direction ≡ 1 → ⊥) → Pairs (λ r s. s .price ≤ r .price) (meet i os .rows)
+unfolding meet
+sale-prices-fall i os b =
+    rows-pairs i (λ d e. aheadFor i (e .order) (d .order) ≡ false) (λ r s. s .price ≤ r .price) (matches (i .quantity) (counterparts i os)) at
+    (matches-pairs (λ x y. aheadFor i y x ≡ false) (i .quantity) (counterparts i os) (best-first i os))
+  where
+    at : (d e : Match) → aheadFor i (e .order) (d .order) ≡ false → matchRow i e .price ≤ matchRow i d .price
+    at d e h =
+        let k = bid-cheaper (d .order) (e .order) (rw (ne-eqb (i .direction) 1 b) at h) in
+        omega (arith, row-price i d, row-price i e)

@@ -1,8 +1,8 @@
 -- Laws of clearing a period: what its steps give is what the definition says.
-use Prim.Native.Nat.{ℕ, _+_, _*_, _-_, _<_, _≤_}
+use Prim.Native.Nat.{ℕ, _+_, _*_, _<_, _≤_}
 use mathlib.Core.Path.{_≡_, refl, sym, ap, ap₂, _∙_}
-use mathlib.Core.Bool.{Bool, true, false, cond, _&&_}
-use mathlib.Core.List.{List, [], _∷_, _++_}
+use mathlib.Core.Bool.{true, false}
+use mathlib.Core.List.{List, []}
 use native.Mathlib.Omega.{arith}
 use lib.Dec.{eqb}
 use borrow.Author.Tests.{eq-eqb, ne-eqb, eqb-true}
@@ -11,16 +11,15 @@ use Rattle.measures.specs.Lists.{keep}
 use Rattle.measures.specs.Ranges.{mostEnergy}
 use Rattle.measures.specs.declared.Energy.{Energy}
 use Rattle.measures.proofs.ListLaws.{cond-true, cond-false, both-ways, and-left}
-use Rattle.matching.specs.declared.orders.Matched.{Matched}
 use Rattle.matching.specs.declared.orders.Matched.the-variants.{Unfit, Done}
-use Rattle.matching.specs.Orders.{Order, Row, quantities, bidAhead, askAhead, laid, bids, asks}
+use Rattle.matching.specs.Orders.{Order, quantities, bidAhead, askAhead, laid, bids, asks}
 use Rattle.matching.specs.Memory.{ordersIn, written}
 use Rattle.matching.specs.Clearing.{Fill, clearedVolume, marginal, clearingPrice, fillsOf, bidFills, askFills, endToEnd, overlapRows, afterFills, Cleared, clearPeriod}
 use Rattle.matching.specs.Answers.{fit, Clears}
-use Rattle.matching.specs.Places.{ordersAt, aheadOn, belongs, chosen, fillsAt, Stand, Sides, AreMargins, AtMargin}
+use Rattle.matching.specs.Places.{ordersAt, aheadOn, belongs, chosen, Stand, AreMargins, AtMargin}
 use Rattle.matching.proofs.OrderLaws.{orders-length}
 use Rattle.matching.proofs.RowLaws.{written-none}
-use Rattle.matching.proofs.FitLaws.{Fit, fit-gives}
+use Rattle.matching.proofs.FitLaws.{fit-gives}
 use Rattle.matching.proofs.LaidLaws.{laid-length, laid-quantities}
 use Rattle.matching.proofs.AheadLaws.{dearer, cheaper, dearer-strict, cheaper-strict, bids-ordered, asks-ordered}
 use Rattle.matching.proofs.VolumeLaws.{keep-some}

@@ -1,20 +1,20 @@
 -- Laws of taking fills off orders: by number in the definition, by place in the memory, where an emptied order is marked 0.
 use Prim.Native.Nat.{ℕ, zero, suc, _+_, _*_, _-_, _<_, _≤_}
 use mathlib.Core.Path.{_≡_, refl, sym, ap, ap₂, _∙_}
-use mathlib.Core.Bool.{Bool, true, false, cond, _&&_}
-use mathlib.Core.List.{List, [], _∷_, _++_, map, append-assoc, append-nil}
+use mathlib.Core.Bool.{Bool, true, false, cond}
+use mathlib.Core.List.{List, [], _∷_, _++_, append-assoc, append-nil}
 use native.Mathlib.Omega.{arith}
 use native.Mathlib.Nat.{not-suc-le-zero}
 use native.Mathlib.Numerals.{add-one}
 use lib.Dec.{eqb, leb, ltb}
 use borrow.Author.Tests.{eq-eqb, ne-eqb, ltb-true, le-leb, lt-leb}
-use lib.ListN.{length, getD, take, drop, set, length-set, length-take, length-drop, drop-of-length-le, replicate}
-use lib.Seq.{drop-cons, map-set-same, take-set-lt, getD-take, length-take-le, take-suc-set, drop-set-lt}
+use lib.ListN.{length, getD, take, drop, set, length-take, drop-of-length-le, replicate}
+use lib.Seq.{drop-cons, map-set-same, take-set-lt, getD-take, length-take-le, take-suc-set, drop-set-lt, set-getD}
 use Rattle.measures.specs.Lists.{every}
 use Rattle.measures.proofs.ListLaws.{cond-true, cond-false, and-left, and-right, and-true, every-at}
 use Rattle.matching.specs.Orders.{Order, leaving, less, lessen, rising, numbers}
 use Rattle.matching.specs.Memory.{orderAt, ordersIn, noOrder}
-use Rattle.matching.specs.Clearing.{Fill, filled, afterFills}
+use Rattle.matching.specs.Clearing.{filled, afterFills}
 use Rattle.matching.specs.Places.{ordersAt, standing, fillsAt, Filling, Taken}
 use Rattle.matching.proofs.OrderLaws.{orders-length, orders-at, orders-take}
 use Rattle.matching.proofs.FitLaws.{numbers-at}
@@ -256,6 +256,12 @@ standing-none : (ss : List ℕ) → standing ss [] ≡ []
 unfolding standing
 standing-none [] = refl
 standing-none (s ∷ ss) = refl
+
+-- an order with no gap before it stays
+pub closing-stay : (m₀ ss : List ℕ) (n : ℕ) (m : List ℕ) (to k : ℕ) → n ≤ length ss → k < n → Closing m₀ ss n m to k → (getD ss k 0 ≡ 0 → ⊥) → to ≡ k → Closing m₀ ss n m (to + 1) (k + 1)
+closing-stay m₀ ss n m to k hs hk g ne e =
+    let w : set (ordersIn m n) to (orderAt m k) ≡ ordersIn m n = rw (e, ← orders-at m n k hk) (set-getD (ordersIn m n) k noOrder) in
+    closing-move m₀ ss n m to k hs hk g m ne refl (sym w) refl
 
 pub closing-end : (m₀ ss : List ℕ) (n : ℕ) (m : List ℕ) (to k : ℕ) → n ≤ k → Closing m₀ ss n m to k → ordersIn m to ≡ standing (take n ss) (ordersIn m₀ n)
 closing-end m₀ ss n m to k h g =

@@ -71,7 +71,7 @@ fn together(amounts: &[u64], count: usize) -> u64
 }
 
 // The fills of one side, of a volume and a margin, for the laid orders at the first count places; how many they are.
-pub fn fill(
+pub(crate) fn fill(
     orders: &[u64],
     n: usize,
     direction: u64,

@@ -1,10 +1,10 @@
 // Rolling matching and clearing of the orders of one period: paper 01, "The eight calls", Order and Clear.
 pub mod clearing;
-pub mod fills;
+mod fills;
 pub mod fitness;
-pub mod laying;
-pub mod margins;
+mod laying;
+mod margins;
 pub mod orders;
-pub mod overlaps;
-pub mod rests;
+mod overlaps;
+mod rests;
 pub mod rolling;

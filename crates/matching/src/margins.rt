@@ -24,15 +24,8 @@ fn open_at(orders: &[u64], n: usize, places: &[u64], count: usize, i: usize) -> 
     o.quantity.0
 }
 
-// The smaller of two amounts.
-fn smaller(a: u64, b: u64) -> u64
-    ensures { λ r. ⌜ r ≡ min a b ⌝ }
-{
-    if a < b { a } else { b }
-}
-
 // The margins: the smaller remainder of the next bid and ask is met for as long as their prices meet.
-pub fn find_margins(
+pub(crate) fn find_margins(
     orders: &[u64],
     n: usize,
     bids: &[u64],
@@ -74,7 +67,7 @@ pub fn find_margins(
             j += 1;
             supply = open_at(orders, n, asks, na, j);
         } else {
-            let x = smaller(demand, supply);
+            let x = crate::overlaps::sooner(demand, supply);
             volume += x;
             bid = b.price.0;
             ask = s.price.0;

@@ -21,7 +21,7 @@ fn later(a: u64, b: u64) -> u64
 }
 
 // The smaller of two numbers.
-fn sooner(a: u64, b: u64) -> u64
+pub(crate) fn sooner(a: u64, b: u64) -> u64
     ensures { λ r. ⌜ r ≡ min a b ⌝ }
 {
     if a < b { a } else { b }
@@ -60,7 +60,7 @@ fn unit_at(orders: &[u64], p: usize) -> u64
 }
 
 // The rows of all overlaps, in one walk along both sides; how many they are.
-pub fn put_overlaps(
+pub(crate) fn put_overlaps(
     orders: &[u64],
     n: usize,
     period: u64,

@@ -55,6 +55,9 @@ fn close_gaps(orders: &mut [u64], n: usize, stands: &[u64]) -> usize
     while k < n {
         if stands[k] == 0 {
             k += 1;
+        } else if to == k {
+            to += 1;
+            k += 1;
         } else {
             let o = crate::orders::read(orders, k);
             crate::orders::write(orders, n, to, o);
@@ -66,7 +69,7 @@ fn close_gaps(orders: &mut [u64], n: usize, stands: &[u64]) -> usize
 }
 
 // What is left of the orders after the fills of bids and of asks; how many stand.
-pub fn leave_rests(
+pub(crate) fn leave_rests(
     orders: &mut [u64],
     n: usize,
     bids: &[u64],

@@ -1,107 +1,79 @@
 -- `clear_period`: orders that do not fit stay; a volume of 0 changes nothing; any other is traded.
-use Prim.Native.Nat.{ℕ, _≤_, _<_}
-use mathlib.Core.Path.{_≡_, refl, sym, _∙_}
-use mathlib.Core.Bool.{true}
+use mathlib.Core.Path.{refl, sym, _∙_}
 use native.Mathlib.Omega.{arith}
 use borrow.Author.Tests.{not-true, not-false}
-use Rattle.matching.proofs.FitLaws.{Fit, fit-gives}
+use Rattle.matching.proofs.FitLaws.{fit-gives}
 use Rattle.matching.proofs.StepLaws.{clears-unfit, clears-none}
 use borrow.Author.Needs.{needs}
 use Rattle.matching.proofs.clearing.clear_period.Statement.{statement}
 use Rattle.matching.proofs.clearing.clear_period.Tie as tie
-use Rattle.matching.proofs.clearing.clear_period.Reads as reads
-use Rattle.matching.proofs.clearing.clear_period.Lts as lts
-use Rattle.matching.proofs.clearing.trade.Reads as trade-reads
-use Rattle.matching.proofs.fitness.fits.Reads as fits-reads
-use Rattle.matching.proofs.laying.lay.Reads as lay-reads
-use Rattle.matching.proofs.margins.find_margins.Reads as find-margins-reads
 
--- src/clearing.rt:45:9
 fits-requires : tie.Need-fits-requires
 fits-requires c κs = search needs
 
--- src/clearing.rt:46:9
 same-length : tie.Need-same-length
 same-length c = search needs
 
--- src/clearing.rt:46:9
 same-length-2 : tie.Need-same-length-2
 same-length-2 c = search needs
 
--- src/clearing.rt:46:9
 returns : tie.Need-returns
 returns c = clears-unfit _ _ _ _ (sym (c .before .fits2 .ensures) ∙ not-true _ (c .if1 .taken))
 
--- src/clearing.rt:50:55
 slice-aggregate-lay : tie.Need-slice-aggregate-lay
 slice-aggregate-lay c = search needs
 
--- src/clearing.rt:50:9
 lay-requires : tie.Need-lay-requires
 lay-requires c κs =
     let f = fit-gives _ _ _ (sym (c .before .before .before .fits2 .ensures) ∙ not-false _ (c .before .before .if1 .left)) in
     (f .inside, f .few, f .few)
 
--- src/clearing.rt:51:55
 slice-aggregate-lay-2 : tie.Need-slice-aggregate-lay-2
 slice-aggregate-lay-2 c = search needs
 
--- src/clearing.rt:51:9
 lay-requires-2 : tie.Need-lay-requires-2
 lay-requires-2 c κs =
     let f = fit-gives _ _ _ (sym (c .before .before .before .before .before .before .before .fits2 .ensures) ∙ not-false _ (c .before .before .before .before .before .before .if1 .left)) in
     (f .inside, f .few, f .few)
 
--- src/clearing.rt:52:59
 slice-aggregate-find-margins : tie.Need-slice-aggregate-find-margins
 slice-aggregate-find-margins c = search needs
 
--- src/clearing.rt:52:70
 slice-aggregate-find-margins-2 : tie.Need-slice-aggregate-find-margins-2
 slice-aggregate-find-margins-2 c = search needs
 
--- src/clearing.rt:52:9
 find-margins-requires : tie.Need-find-margins-requires
 find-margins-requires c κs =
     let f = fit-gives _ _ _ (sym (c .before .before .before .before .before .before .before .before .before .before .before .before .fits2 .ensures) ∙ not-false _ (c .before .before .before .before .before .before .before .before .before .before .before .if1 .left)) in
     (f .inside, f .few, record { period = c .before .before .before .before .before .before .before .before .before .before .before .before .before .before .before .before .before .args .period; bidsStand = c .before .before .before .before .before .before .before .before .lay .ensures; asksStand = c .before .before .before .before .lay2 .ensures; small = f .small })
 
--- src/clearing.rt:54:9
 same-length-3 : tie.Need-same-length-3
 same-length-3 c = search needs
 
--- src/clearing.rt:54:9
 same-length-4 : tie.Need-same-length-4
 same-length-4 c = search needs
 
--- src/clearing.rt:54:9
 returns-2 : tie.Need-returns-2
 returns-2 c =
     clears-none _ _ _ _ _ _ _ _ _ _ _ _ (sym (c .before .before .before .before .before .before .before .before .before .before .before .before .before .before .before .fits2 .ensures) ∙ not-false _ (c .before .before .before .before .before .before .before .before .before .before .before .before .before .before .if1 .left)) refl (c .before .before .before .before .before .before .before .before .before .before .before .lay .ensures) (c .before .before .before .before .before .before .before .lay2 .ensures) (c .before .before .find-margins .ensures) (c .if2 .taken)
 
--- src/clearing.rt:56:39
 slice-aggregate-trade : tie.Need-slice-aggregate-trade
 slice-aggregate-trade c = search needs
 
--- src/clearing.rt:56:50
 slice-aggregate-trade-2 : tie.Need-slice-aggregate-trade-2
 slice-aggregate-trade-2 c = search needs
 
--- src/clearing.rt:56:5
 trade-requires : tie.Need-trade-requires
 trade-requires c κs =
     let z = c .before .before .before .before .if2 .left in
     (sym (c .before .before .before .before .before .before .before .before .before .before .before .before .before .before .before .before .before .before .before .fits2 .ensures) ∙ not-false _ (c .before .before .before .before .before .before .before .before .before .before .before .before .before .before .before .before .before .before .if1 .left), omega arith, c .before .before .before .before .before .before .before .before .before .before .before .before .before .before .before .lay .ensures, c .before .before .before .before .before .before .before .before .before .before .before .lay2 .ensures, c .before .before .before .before .before .before .find-margins .ensures)
 
--- src/clearing.rt:42:1
 same-length-5 : tie.Need-same-length-5
 same-length-5 c = search needs
 
--- src/clearing.rt:42:1
 same-length-6 : tie.Need-same-length-6
 same-length-6 c = search needs
 
--- src/clearing.rt:42:1
 returns-3 : tie.Need-returns-3
 returns-3 c = c .before .before .before .before .trade .ensures
 

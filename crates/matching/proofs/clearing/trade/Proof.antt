@@ -1,6 +1,5 @@
 -- `trade`: each step's contract is one part of the definition, and the volume lies at the margin of both sides.
-use Prim.Native.Nat.{ℕ, _+_, _≤_, _<_}
-use mathlib.Core.Path.{_≡_, refl}
+use mathlib.Core.Path.{refl}
 use native.Mathlib.Omega.{arith}
 use Rattle.matching.proofs.FitLaws.{Fit, fit-gives}
 use Rattle.matching.proofs.PlaceLaws.{stand-here}
@@ -8,25 +7,16 @@ use Rattle.matching.proofs.StepLaws.{sides-few, bids-at-margin, asks-at
 use borrow.Author.Needs.{needs}
 use Rattle.matching.proofs.clearing.trade.Statement.{statement}
 use Rattle.matching.proofs.clearing.trade.Tie as tie
-use Rattle.matching.proofs.clearing.trade.Reads as reads
-use Rattle.matching.proofs.clearing.trade.Lts as lts
-use Rattle.matching.proofs.clearing.clearing_price.Reads as clearing-price-reads
-use Rattle.matching.proofs.fills.fill.Reads as fill-reads
-use Rattle.matching.proofs.overlaps.put_overlaps.Reads as put-overlaps-reads
-use Rattle.matching.proofs.rests.leave_rests.Reads as leave-rests-reads
 
 fit-here : (s : tie.Start) → Fit (s .args .orders .now) (s .args .rows .now) (s .args .n)
 fit-here s = fit-gives _ _ _ (s .pre .0)
 
--- src/clearing.rt:33:86
 slice-aggregate-fill : tie.Need-slice-aggregate-fill
 slice-aggregate-fill c = search needs
 
--- src/clearing.rt:33:103
 slice-aggregate-fill-2 : tie.Need-slice-aggregate-fill-2
 slice-aggregate-fill-2 c = search needs
 
--- src/clearing.rt:33:9
 fill-requires : tie.Need-fill-requires
 fill-requires c κs =
     let s = c .before .before .before .before .before .before .before in
@@ -41,15 +31,12 @@ fill-requires c κs =
       bids-at-margin (a .orders .now) (a .rows .now) (a .bids .now) (a .asks .now) (a .n) (a .period) (a .nb) (a .na) (a .margins .volume) (a .margins .bid) (a .margins .ask) (s .pre .0) (s .pre .1) (s .pre .2) (s .pre .3) (s .pre .4),
     )
 
--- src/clearing.rt:34:86
 slice-aggregate-fill-3 : tie.Need-slice-aggregate-fill-3
 slice-aggregate-fill-3 c = search needs
 
--- src/clearing.rt:34:103
 slice-aggregate-fill-4 : tie.Need-slice-aggregate-fill-4
 slice-aggregate-fill-4 c = search needs
 
--- src/clearing.rt:34:9
 fill-requires-2 : tie.Need-fill-requires-2
 fill-requires-2 c κs =
     let s = c .before .before .before .before .before .before .before .before .before .before .before .before .before in
@@ -64,27 +51,21 @@ fill-requires-2 c κs =
       asks-at-margin (a .orders .now) (a .rows .now) (a .bids .now) (a .asks .now) (a .n) (a .period) (a .nb) (a .na) (a .margins .volume) (a .margins .bid) (a .margins .ask) (s .pre .0) (s .pre .1) (s .pre .2) (s .pre .3) (s .pre .4),
     )
 
--- src/clearing.rt:35:9
 clearing-price-requires : tie.Need-clearing-price-requires
 clearing-price-requires c κs = search needs
 
--- src/clearing.rt:36:73
 slice-aggregate-put-overlaps : tie.Need-slice-aggregate-put-overlaps
 slice-aggregate-put-overlaps c = search needs
 
--- src/clearing.rt:36:86
 slice-aggregate-put-overlaps-2 : tie.Need-slice-aggregate-put-overlaps-2
 slice-aggregate-put-overlaps-2 c = search needs
 
--- src/clearing.rt:36:99
 slice-aggregate-put-overlaps-3 : tie.Need-slice-aggregate-put-overlaps-3
 slice-aggregate-put-overlaps-3 c = search needs
 
--- src/clearing.rt:36:112
 slice-aggregate-put-overlaps-4 : tie.Need-slice-aggregate-put-overlaps-4
 slice-aggregate-put-overlaps-4 c = search needs
 
--- src/clearing.rt:36:9
 put-overlaps-requires : tie.Need-put-overlaps-requires
 put-overlaps-requires c κs =
     let s = c .before .before .before .before .before .before .before .before .before .before .before .before .before .before .before .before .before .before .before .before .before .before .before in
@@ -94,37 +75,29 @@ put-overlaps-requires c κs =
     let y = c .before .before .before .before .before .before .before .before .before .fill2 .ensures .0 in
     (f .inside, f .few, f .lent, omega arith, c .before .before .before .before .before .before .before .before .before .before .before .before .before .before .before .fill .ensures .1, c .before .before .before .before .before .before .before .before .before .fill2 .ensures .1)
 
--- src/clearing.rt:37:57
 slice-aggregate-leave-rests : tie.Need-slice-aggregate-leave-rests
 slice-aggregate-leave-rests c = search needs
 
--- src/clearing.rt:37:70
 slice-aggregate-leave-rests-2 : tie.Need-slice-aggregate-leave-rests-2
 slice-aggregate-leave-rests-2 c = search needs
 
--- src/clearing.rt:37:83
 slice-aggregate-leave-rests-3 : tie.Need-slice-aggregate-leave-rests-3
 slice-aggregate-leave-rests-3 c = search needs
 
--- src/clearing.rt:37:96
 slice-aggregate-leave-rests-4 : tie.Need-slice-aggregate-leave-rests-4
 slice-aggregate-leave-rests-4 c = search needs
 
--- src/clearing.rt:37:9
 leave-rests-requires : tie.Need-leave-rests-requires
 leave-rests-requires c κs =
     let f = fit-here (c .before .before .before .before .before .before .before .before .before .before .before .before .before .before .before .before .before .before .before .before .before .before .before .before .before .before .before .before .before .before .before) in
     (f .inside, f .few, f .rises, c .before .before .before .before .before .before .before .before .before .before .before .before .before .before .before .before .before .before .before .before .before .before .before .fill .ensures .1, c .before .before .before .before .before .before .before .before .before .before .before .before .before .before .before .before .before .fill2 .ensures .1)
 
--- src/clearing.rt:25:1
 same-length : tie.Need-same-length
 same-length c = search needs
 
--- src/clearing.rt:25:1
 same-length-2 : tie.Need-same-length-2
 same-length-2 c = search needs
 
--- src/clearing.rt:25:1
 returns : tie.Need-returns
 returns c =
     let s = c .before .before .before .before .before .before .before .before .before .before .before .before .before .before .before .before .before .before .before .before .before .before .before .before .before .before .before .before .before .before .before .before .before .before in

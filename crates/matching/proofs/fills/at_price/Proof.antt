@@ -2,18 +2,13 @@
 use Rattle.matching.proofs.PickLaws.{chosen-at, chosen-dearer, chosen-cheaper}
 use Rattle.matching.proofs.fills.at_price.Statement.{statement}
 use Rattle.matching.proofs.fills.at_price.Tie as tie
-use Rattle.matching.proofs.fills.at_price.Reads as reads
-use Rattle.matching.proofs.fills.at_price.Lts as lts
 
--- src/fills.rt:19:9
 returns : tie.Need-returns
 returns c = chosen-at _ _ _ (c .before .if1 .taken)
 
--- src/fills.rt:22:9
 returns-2 : tie.Need-returns-2
 returns-2 c = chosen-dearer _ _ _ (c .before .before .if1 .left) (c .before .if2 .taken)
 
--- src/fills.rt:15:1
 returns-3 : tie.Need-returns-3
 returns-3 c = chosen-cheaper _ _ _ (c .before .before .if1 .left) (c .before .if2 .left)
 

@@ -1,6 +1,5 @@
 -- `fill`: the two picks are all orders at or above the margin's price, and what better ones leave is within the margin's.
-use Prim.Native.Nat.{ℕ, _+_, _-_, _≤_, _<_}
-use mathlib.Core.Path.{_≡_, sym, ap, _∙_}
+use Prim.Native.Nat.{ℕ, _+_, _≤_}
 use mathlib.Core.List.{List}
 use native.Mathlib.Omega.{arith}
 use lib.ListN.{length, take}
@@ -9,11 +8,6 @@ use Rattle.matching.proofs.PickLaws.{both-few, better-sum, side-filled}
 use borrow.Author.Needs.{needs}
 use Rattle.matching.proofs.fills.fill.Statement.{statement}
 use Rattle.matching.proofs.fills.fill.Tie as tie
-use Rattle.matching.proofs.fills.fill.Reads as reads
-use Rattle.matching.proofs.fills.fill.Lts as lts
-use Rattle.matching.proofs.fills.pick.Reads as pick-reads
-use Rattle.matching.proofs.fills.together.Reads as together-reads
-use Rattle.measures.proofs.share.Reads as share-reads
 
 few : (s : tie.Start)
     → length (picked (s .args .orders .now) (s .args .direction) (s .args .margin) (take (s .args .count) (s .args .places .now)))
@@ -24,18 +18,15 @@ few s = both-few (s .args .orders .now) (s .args .places .now) (s .args .n) (s .
 abbrev Room : ℕ → List ℕ → Type 0
 Room n l = n ≤ length l
 
--- src/fills.rt:68:9
 pick-requires : tie.Need-pick-requires
 pick-requires c κs =
     let s = c .before .before .before .before .before .before in
     let w = few s in
     (s .pre .0, s .pre .1, s .pre .5, omega arith, omega arith)
 
--- src/fills.rt:70:61
 slice-aggregate-pick : tie.Need-slice-aggregate-pick
 slice-aggregate-pick c = search needs
 
--- src/fills.rt:70:9
 pick-requires-2 : tie.Need-pick-requires-2
 pick-requires-2 c κs =
     let s = c .before .before .before .before .before .before .before .before .before .before .before .before .before in
@@ -43,7 +34,6 @@ pick-requires-2 c κs =
     let e = c .before .before .before .before .before .before .pick .ensures .count in
     (s .pre .0, s .pre .1, s .pre .5, omega arith, omega arith)
 
--- src/fills.rt:71:9
 together-requires : tie.Need-together-requires
 together-requires c κs =
     let s = c .before .before .before .before .before .before .before .before .before .before .before .before .before .before .before .before .before .before in
@@ -53,7 +43,6 @@ together-requires c κs =
     let a = s .pre .6 .small in
     (omega arith, omega arith)
 
--- src/fills.rt:72:28
 sub-t25 : tie.Need-sub-t25
 sub-t25 c =
     let s = c .before .before .before .before .before .before .before .before .before .before .before .before .before .before .before .before .before .before .before in
@@ -62,22 +51,18 @@ sub-t25 c =
     let e = c .together .ensures in
     omega arith
 
--- src/fills.rt:72:45
 mul-share : tie.Need-mul-share
 mul-share c =
     let w = few (c .before .before .before .before .before .before .before .before .before .before .before .before .before .before .before .before .before .before .before) in
     let e = c .before .before .before .before .before .before .before .before .before .before .before .before .pick .ensures .count in
     omega arith
 
--- src/fills.rt:72:45
 sub-share : tie.Need-sub-share
 sub-share c = search needs
 
--- src/fills.rt:72:45
 part-share-start : tie.Need-part-share-start
 part-share-start c = search needs
 
--- src/fills.rt:72:45
 part-share-end : tie.Need-part-share-end
 part-share-end c =
     let w = few (c .before .before .before .before .before .before .before .before .before .before .before .before .before .before .before .before .before .before .before .before) in
@@ -85,22 +70,18 @@ part-share-end c =
     let f = c .before .before .before .before .before .before .pick2 .ensures .count in
     omega arith
 
--- src/fills.rt:72:65
 mul-share-2 : tie.Need-mul-share-2
 mul-share-2 c =
     let w = few (c .before .before .before .before .before .before .before .before .before .before .before .before .before .before .before .before .before .before .before .before .before) in
     let e = c .before .before .before .before .before .before .before .before .before .before .before .before .before .before .pick .ensures .count in
     omega arith
 
--- src/fills.rt:72:65
 sub-share-2 : tie.Need-sub-share-2
 sub-share-2 c = search needs
 
--- src/fills.rt:72:65
 part-share-start-2 : tie.Need-part-share-start-2
 part-share-start-2 c = search needs
 
--- src/fills.rt:72:65
 part-share-end-2 : tie.Need-part-share-end-2
 part-share-end-2 c =
     let s = c .before .before .before .before .before .before .before .before .before .before .before .before .before .before .before .before .before .before .before .before .before in
@@ -109,19 +90,15 @@ part-share-end-2 c =
     let f = c .before .before .before .before .before .before .before .pick2 .ensures .count in
     omega arith
 
--- src/fills.rt:72:5
 share-requires : tie.Need-share-requires
 share-requires c κs = search needs
 
--- src/fills.rt:64:1
 same-length : tie.Need-same-length
 same-length c = search needs
 
--- src/fills.rt:64:1
 same-length-2 : tie.Need-same-length-2
 same-length-2 c = search needs
 
--- src/fills.rt:64:1
 returns : tie.Need-returns
 returns c =
     let s = c .before .before .before .before .before .before .before .before .before .before .before .before .before .before .before .before .before .before .before .before .before .before .before .before .before in

@@ -1,13 +1,11 @@
 -- `together`: what is summed and what is left make the total.
-use Prim.Native.Nat.{ℕ, _+_, _-_, _≤_}
+use Prim.Native.Nat.{_-_}
 use native.Mathlib.Nat.{zero-add}
 use native.Mathlib.Omega.{arith}
 use Rattle.matching.proofs.PickLaws.{Adding, adding-next, adding-end}
 use borrow.Author.Needs.{needs}
 use Rattle.matching.proofs.fills.together.Statement.{statement}
 use Rattle.matching.proofs.fills.together.Tie as tie
-use Rattle.matching.proofs.fills.together.Reads as reads
-use Rattle.matching.proofs.fills.together.Lts as lts
 
 abbrev Inv-loop : tie.InvT-loop
 Inv-loop amounts count sum₀ i₀ sum i = Adding amounts count sum i
@@ -15,39 +13,31 @@ Inv-loop amounts count sum₀ i₀ sum i = Adding amounts count sum i
 abbrev μ-loop : tie.MeasureT-loop
 μ-loop amounts count sum₀ i₀ sum i = count - i
 
--- src/fills.rt:56:5
 loop-holds : tie.Need-loop-holds Inv-loop μ-loop
 loop-holds c = record { at = omega arith; left = zero-add _ }
 
--- src/fills.rt:57:16
 mul-sum : tie.Need-mul-sum Inv-loop μ-loop
 mul-sum c = search needs
 
--- src/fills.rt:57:16
 shared-slice-read-sum : tie.Need-shared-slice-read-sum Inv-loop μ-loop
 shared-slice-read-sum c = search needs
 
--- src/fills.rt:57:9
 add-sum : tie.Need-add-sum Inv-loop μ-loop
 add-sum c =
     let n = adding-next _ _ _ _ (c .before .before .before .pre .0) (c .before .loop-test .taken) (c .before .before .loop .inv) in
     omega arith
 
--- src/fills.rt:58:9
 add-i : tie.Need-add-i Inv-loop μ-loop
 add-i c = search needs
 
--- src/fills.rt:56:5
 loop-less : tie.Need-loop-less Inv-loop μ-loop
 loop-less c = search needs
 
--- src/fills.rt:56:5
 loop-again : tie.Need-loop-again Inv-loop μ-loop
 loop-again c =
     let n = adding-next _ _ _ _ (c .before .before .before .pre .0) (c .before .loop-test .taken) (c .before .before .loop .inv) in
     record { at = omega arith; left = omega arith }
 
--- src/fills.rt:50:1
 returns : tie.Need-returns Inv-loop μ-loop
 returns c = adding-end _ _ _ _ (omega arith) (c .before .loop .inv)
 

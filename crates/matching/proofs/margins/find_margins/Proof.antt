@@ -1,17 +1,10 @@
 -- `find_margins`: a bid and an ask that meet are met for the smaller of what is left of them; the laws say what the walk has found where it ends.
-use Prim.Native.Nat.{ℕ, _+_, _*_, _-_, _≤_, _<_, min}
-use mathlib.Core.Path.{_≡_, sym, ap, _∙_}
 use native.Mathlib.Omega.{arith}
 use Rattle.matching.proofs.LayingLaws.{stand-below}
 use Rattle.matching.proofs.PlaceLaws.{stand-here, Meeting, meeting-start, meeting-bid, meeting-ask, meeting-takes, meeting-small, meeting-bids-end, meeting-asks-end, meeting-apart, turns, turns-bid, turns-ask, turns-take}
 use borrow.Author.Needs.{needs}
 use Rattle.matching.proofs.margins.find_margins.Statement.{statement}
 use Rattle.matching.proofs.margins.find_margins.Tie as tie
-use Rattle.matching.proofs.margins.find_margins.Reads as reads
-use Rattle.matching.proofs.margins.find_margins.Lts as lts
-use Rattle.matching.proofs.margins.open_at.Reads as open-at-reads
-use Rattle.matching.proofs.margins.smaller.Reads as smaller-reads
-use Rattle.matching.proofs.orders.read.Reads as read-reads
 
 abbrev Inv-loop : tie.InvT-loop
 Inv-loop orders n bids nb asks na volume₀ bid₀ ask₀ i₀ j₀ demand₀ supply₀ volume bid ask i j demand supply =
@@ -20,60 +13,48 @@ Inv-loop orders n bids nb asks na volume₀ bid₀ ask₀ i₀ j₀ demand₀ su
 abbrev μ-loop : tie.MeasureT-loop
 μ-loop orders n bids nb asks na volume₀ bid₀ ask₀ i₀ j₀ demand₀ supply₀ volume bid ask i j demand supply = turns nb na i j demand supply
 
--- src/margins.rt:44:9
 open-at-requires : tie.Need-open-at-requires Inv-loop μ-loop
 open-at-requires c κs =
     let s = c .before .before .before in
     (s .pre .0, s .pre .1, stand-here _ _ _ _ _ (s .pre .2 .bidsStand))
 
--- src/margins.rt:45:9
 open-at-requires-2 : tie.Need-open-at-requires-2 Inv-loop μ-loop
 open-at-requires-2 c κs =
     let s = c .before .before .before .before in
     (s .pre .0, s .pre .1, stand-here _ _ _ _ _ (s .pre .2 .asksStand))
 
--- src/margins.rt:46:5
 loop-holds : tie.Need-loop-holds Inv-loop μ-loop
 loop-holds c = meeting-start _ _ _ _ _ _ _ (c .before .open-at .ensures) (c .open-at2 .ensures)
 
--- src/margins.rt:48:13
 returns : tie.Need-returns Inv-loop μ-loop
 returns c = meeting-asks-end _ _ _ _ _ _ _ _ _ _ _ _ _ (c .before .before .before .before .before .before .before .before .pre .2) (c .before .before .loop .inv) (omega arith)
 
--- src/margins.rt:50:45
 mul-read : tie.Need-mul-read Inv-loop μ-loop
 mul-read c = search needs
 
--- src/margins.rt:50:45
 shared-slice-read-read : tie.Need-shared-slice-read-read Inv-loop μ-loop
 shared-slice-read-read c = search needs
 
--- src/margins.rt:50:13
 read-requires : tie.Need-read-requires Inv-loop μ-loop
 read-requires c κs =
     let b = stand-below _ _ _ _ _ (c .before .before .before .loop .i) (c .before .before .before .before .before .before .before .before .before .pre .2 .bidsStand) (c .before .before .loop-test .taken) in
     omega arith
 
--- src/margins.rt:51:45
 mul-read-2 : tie.Need-mul-read-2 Inv-loop μ-loop
 mul-read-2 c = search needs
 
--- src/margins.rt:51:45
 shared-slice-read-read-2 : tie.Need-shared-slice-read-read-2 Inv-loop μ-loop
 shared-slice-read-read-2 c = search needs
 
--- src/margins.rt:51:13
 read-requires-2 : tie.Need-read-requires-2 Inv-loop μ-loop
 read-requires-2 c κs =
     let b = stand-below _ _ _ _ _ (c .before .before .before .before .before .loop .j) (c .before .before .before .before .before .before .before .before .before .before .before .pre .2 .asksStand) (omega arith) in
     omega arith
 
--- src/margins.rt:53:13
 returns-2 : tie.Need-returns-2 Inv-loop μ-loop
 returns-2 c =
     meeting-apart _ _ _ _ _ _ _ _ _ _ _ _ _ (c .before .before .before .before .before .before .before .before .before .before .before .before .before .before .before .pre .2) (c .before .before .before .before .before .before .before .before .before .loop .inv) _ _ (c .before .before .before .before .before .before .before .before .loop-test .taken) (omega arith) (c .before .before .before .before .before .read .ensures) (c .before .before .before .read2 .ensures) (c .if2 .taken)
 
--- src/margins.rt:56:13
 add-i : tie.Need-add-i Inv-loop μ-loop
 add-i c =
     let s = c .before .before .before .before .before .before .before .before .before .before .before .before .before .before .before .before in
@@ -82,25 +63,21 @@ add-i c =
     let t = c .before .before .before .before .before .before .before .before .before .loop-test .taken in
     omega arith
 
--- src/margins.rt:57:13
 open-at-requires-3 : tie.Need-open-at-requires-3 Inv-loop μ-loop
 open-at-requires-3 c κs =
     let s = c .before .before .before .before .before .before .before .before .before .before .before .before .before .before .before .before in
     (s .pre .0, s .pre .1, stand-here _ _ _ _ _ (s .pre .2 .bidsStand))
 
--- src/margins.rt:46:5
 loop-less : tie.Need-loop-less Inv-loop μ-loop
 loop-less c =
     let a = c .before .before .before .before .before .before .before .before .before .before .before .before .before .before .before .before .before .args in
     let l = c .before .before .before .before .before .before .before .before .before .before .before .loop in
     turns-bid (a .nb) (a .na) (l .i) (l .j) (l .demand) (l .supply) _ (c .before .before .before .before .before .before .before .before .before .before .loop-test .taken)
 
--- src/margins.rt:46:5
 loop-again : tie.Need-loop-again Inv-loop μ-loop
 loop-again c =
     meeting-bid _ _ _ _ _ _ _ _ _ _ _ _ _ (c .before .before .before .before .before .before .before .before .before .before .before .before .before .before .before .before .before .pre .2) (c .before .before .before .before .before .before .before .before .before .before .before .loop .inv) _ (c .before .before .before .before .before .before .before .before .before .before .loop-test .taken) (c .before .if3 .taken) (c .open-at3 .ensures)
 
--- src/margins.rt:59:13
 add-j : tie.Need-add-j Inv-loop μ-loop
 add-j c =
     let s = c .before .before .before .before .before .before .before .before .before .before .before .before .before .before .before .before .before in
@@ -109,55 +86,45 @@ add-j c =
     let t = c .before .before .before .before .before .before .before .before .before .before .before .loop .inv .asksIn in
     omega arith
 
--- src/margins.rt:60:13
 open-at-requires-4 : tie.Need-open-at-requires-4 Inv-loop μ-loop
 open-at-requires-4 c κs =
     let s = c .before .before .before .before .before .before .before .before .before .before .before .before .before .before .before .before .before in
     (s .pre .0, s .pre .1, stand-here _ _ _ _ _ (s .pre .2 .asksStand))
 
--- src/margins.rt:46:5
 loop-less-2 : tie.Need-loop-less-2 Inv-loop μ-loop
 loop-less-2 c =
     let a = c .before .before .before .before .before .before .before .before .before .before .before .before .before .before .before .before .before .before .args in
     let l = c .before .before .before .before .before .before .before .before .before .before .before .before .loop in
     turns-ask (a .nb) (a .na) (l .i) (l .j) (l .demand) (l .supply) _ (omega arith)
 
--- src/margins.rt:46:5
 loop-again-2 : tie.Need-loop-again-2 Inv-loop μ-loop
 loop-again-2 c =
     meeting-ask _ _ _ _ _ _ _ _ _ _ _ _ _ (c .before .before .before .before .before .before .before .before .before .before .before .before .before .before .before .before .before .before .pre .2) (c .before .before .before .before .before .before .before .before .before .before .before .before .loop .inv) _ (omega arith) (c .before .if4 .taken) (c .open-at4 .ensures)
 
--- src/margins.rt:62:17
-smaller-requires : tie.Need-smaller-requires Inv-loop μ-loop
-smaller-requires c κs = search needs
+sooner-requires : tie.Need-sooner-requires Inv-loop μ-loop
+sooner-requires c κs = search needs
 
--- src/margins.rt:63:13
 add-volume : tie.Need-add-volume Inv-loop μ-loop
 add-volume c =
     let b = meeting-small _ _ _ _ _ _ _ _ _ _ _ _ _ (c .before .before .before .before .before .before .before .before .before .before .before .before .before .before .before .before .before .before .pre .2) (c .before .before .before .before .before .before .before .before .before .before .before .before .loop .inv) in
     omega arith
 
--- src/margins.rt:66:13
 sub-demand : tie.Need-sub-demand Inv-loop μ-loop
 sub-demand c = search needs
 
--- src/margins.rt:67:13
 sub-supply : tie.Need-sub-supply Inv-loop μ-loop
 sub-supply c = search needs
 
--- src/margins.rt:46:5
 loop-less-3 : tie.Need-loop-less-3 Inv-loop μ-loop
 loop-less-3 c =
     let a = c .before .before .before .before .before .before .before .before .before .before .before .before .before .before .before .before .before .before .args in
     let l = c .before .before .before .before .before .before .before .before .before .before .before .before .loop in
-    turns-take (a .nb) (a .na) (l .i) (l .j) (l .demand) (l .supply) _ (c .smaller .ensures) (c .before .before .if3 .left) (c .before .if4 .left)
+    turns-take (a .nb) (a .na) (l .i) (l .j) (l .demand) (l .supply) _ (c .sooner .ensures) (c .before .before .if3 .left) (c .before .if4 .left)
 
--- src/margins.rt:46:5
 loop-again-3 : tie.Need-loop-again-3 Inv-loop μ-loop
 loop-again-3 c =
-    meeting-takes _ _ _ _ _ _ _ _ _ _ _ _ _ (c .before .before .before .before .before .before .before .before .before .before .before .before .before .before .before .before .before .before .pre .2) (c .before .before .before .before .before .before .before .before .before .before .before .before .loop .inv) _ _ (c .before .before .before .before .before .before .before .before .before .before .before .loop-test .taken) (omega arith) (c .before .before .before .before .before .before .before .before .read .ensures) (c .before .before .before .before .before .before .read2 .ensures) _ (c .before .before .before .if2 .left) (c .smaller .ensures) (c .before .before .if3 .left) (c .before .if4 .left)
+    meeting-takes _ _ _ _ _ _ _ _ _ _ _ _ _ (c .before .before .before .before .before .before .before .before .before .before .before .before .before .before .before .before .before .before .pre .2) (c .before .before .before .before .before .before .before .before .before .before .before .before .loop .inv) _ _ (c .before .before .before .before .before .before .before .before .before .before .before .loop-test .taken) (omega arith) (c .before .before .before .before .before .before .before .before .read .ensures) (c .before .before .before .before .before .before .read2 .ensures) _ (c .before .before .before .if2 .left) (c .sooner .ensures) (c .before .before .if3 .left) (c .before .if4 .left)
 
--- src/margins.rt:35:1
 returns-3 : tie.Need-returns-3 Inv-loop μ-loop
 returns-3 c = meeting-bids-end _ _ _ _ _ _ _ _ _ _ _ _ _ (c .before .before .before .before .before .before .before .pre .2) (c .before .loop .inv) (omega arith)
 
@@ -186,7 +153,7 @@ find-margins-spec =
     open-at-requires-4
     loop-less-2
     loop-again-2
-    smaller-requires
+    sooner-requires
     add-volume
     sub-demand
     sub-supply

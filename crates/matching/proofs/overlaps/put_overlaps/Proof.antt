@@ -1,19 +1,12 @@
 -- `put_overlaps`: the fill that ends first shares nothing with what lies behind the other.
-use Prim.Native.Nat.{ℕ, _+_, _*_, _-_, _≤_, _<_}
-use mathlib.Core.Path.{_≡_, sym, ap, _∙_}
+use Prim.Native.Nat.{_+_, _-_, _≤_}
 use native.Mathlib.Omega.{arith}
-use lib.ListN.{length, getD}
 use Rattle.matching.specs.Places.{fillsAt}
 use Rattle.matching.proofs.TakingLaws.{filling-below}
-use Rattle.matching.proofs.OverlapLaws.{Rowing, rowing-start, fills-amounts, bids-within, asks-within, bids-done, asks-done, bid-in-range, ask-in-range, bid-row, ask-row}
+use Rattle.matching.proofs.OverlapLaws.{Rowing, rowing-start, fills-amounts, bids-done, asks-done, bid-in-range, ask-in-range, bid-row, ask-row}
 use borrow.Author.Needs.{needs}
 use Rattle.matching.proofs.overlaps.put_overlaps.Statement.{statement}
 use Rattle.matching.proofs.overlaps.put_overlaps.Tie as tie
-use Rattle.matching.proofs.overlaps.put_overlaps.Reads as reads
-use Rattle.matching.proofs.overlaps.put_overlaps.Lts as lts
-use Rattle.matching.proofs.overlaps.put_some.Reads as put-some-reads
-use Rattle.matching.proofs.overlaps.shared.Reads as shared-reads
-use Rattle.matching.proofs.overlaps.unit_at.Reads as unit-at-reads
 
 abbrev Inv-loop : tie.InvT-loop
 Inv-loop orders n period price bids bought nb asks sold na rows₀ i₀ j₀ a₀ e₀ count₀ rows i j a e count =
@@ -22,85 +15,68 @@ Inv-loop orders n period price bids bought nb asks sold na rows₀ i₀ j₀ a�
 abbrev μ-loop : tie.MeasureT-loop
 μ-loop orders n period price bids bought nb asks sold na rows₀ i₀ j₀ a₀ e₀ count₀ rows i j a e count = nb + na - (i + j)
 
--- src/overlaps.rt:72:5
 loop-holds : tie.Need-loop-holds Inv-loop μ-loop
 loop-holds c =
     let s = c .before .before .before .before .before .before in
     (omega arith, omega arith, rowing-start _ _ _ _ _ (fills-amounts _ _ _ _ _ (s .pre .4)) (fills-amounts _ _ _ _ _ (s .pre .5)))
 
--- src/overlaps.rt:74:13
 same-length : tie.Need-same-length Inv-loop μ-loop
 same-length c = c .before .before .loop .inv .2 .room
 
--- src/overlaps.rt:74:13
 returns : tie.Need-returns Inv-loop μ-loop
 returns c = asks-done _ _ _ _ _ _ _ _ _ _ (c .before .before .before .before .before .before .before .before .before .pre .4) (c .before .before .before .before .before .before .before .before .before .pre .5) _ _ _ _ _ _ _ (c .before .before .loop .inv .2) (omega arith)
 
--- src/overlaps.rt:76:21
 mul-x : tie.Need-mul-x Inv-loop μ-loop
 mul-x c = search needs
 
--- src/overlaps.rt:76:21
 shared-slice-read-x : tie.Need-shared-slice-read-x Inv-loop μ-loop
 shared-slice-read-x c = search needs
 
--- src/overlaps.rt:76:17
 add-x : tie.Need-add-x Inv-loop μ-loop
 add-x c =
     let s = c .before .before .before .before .before .before .before .before .before .before in
     let b = bid-in-range _ _ _ _ _ _ _ _ _ _ (s .pre .4) (s .pre .5) _ _ _ _ _ _ _ (c .before .before .before .loop .inv .2) (c .before .before .loop-test .taken) (omega arith) in
     omega arith
 
--- src/overlaps.rt:77:21
 mul-y : tie.Need-mul-y Inv-loop μ-loop
 mul-y c = search needs
 
--- src/overlaps.rt:77:21
 shared-slice-read-y : tie.Need-shared-slice-read-y Inv-loop μ-loop
 shared-slice-read-y c = search needs
 
--- src/overlaps.rt:77:17
 add-y : tie.Need-add-y Inv-loop μ-loop
 add-y c =
     let s = c .before .before .before .before .before .before .before .before .before .before .before in
     let b = ask-in-range _ _ _ _ _ _ _ _ _ _ (s .pre .4) (s .pre .5) _ _ _ _ _ _ _ (c .before .before .before .before .loop .inv .2) (c .before .before .before .loop-test .taken) (omega arith) in
     omega arith
 
--- src/overlaps.rt:78:37
 mul-unit-at : tie.Need-mul-unit-at Inv-loop μ-loop
 mul-unit-at c = search needs
 
--- src/overlaps.rt:78:37
 shared-slice-read-unit-at : tie.Need-shared-slice-read-unit-at Inv-loop μ-loop
 shared-slice-read-unit-at c = search needs
 
--- src/overlaps.rt:78:13
 unit-at-requires : tie.Need-unit-at-requires Inv-loop μ-loop
 unit-at-requires c κs =
     let s = c .before .before .before .before .before .before .before .before .before .before .before .before in
     let b = filling-below _ _ _ _ (c .before .before .before .before .before .loop .i) (s .pre .4) (c .before .before .before .before .loop-test .taken) in
     omega arith
 
--- src/overlaps.rt:79:38
 mul-unit-at-2 : tie.Need-mul-unit-at-2 Inv-loop μ-loop
 mul-unit-at-2 c = search needs
 
--- src/overlaps.rt:79:38
 shared-slice-read-unit-at-2 : tie.Need-shared-slice-read-unit-at-2 Inv-loop μ-loop
 shared-slice-read-unit-at-2 c = search needs
 
--- src/overlaps.rt:79:13
 unit-at-requires-2 : tie.Need-unit-at-requires-2 Inv-loop μ-loop
 unit-at-requires-2 c κs =
     let s = c .before .before .before .before .before .before .before .before .before .before .before .before .before .before in
     let b = filling-below _ _ _ _ (c .before .before .before .before .before .before .before .loop .j) (s .pre .5) (omega arith) in
     omega arith
 
--- src/overlaps.rt:80:31
 shared-requires : tie.Need-shared-requires Inv-loop μ-loop
 shared-requires c κs = search needs
 
--- src/overlaps.rt:81:9
 put-some-requires : tie.Need-put-some-requires Inv-loop μ-loop
 put-some-requires c κs =
     let g = c .before .before .before .before .before .before .before .before .before .before .loop .inv .2 in
@@ -108,15 +84,12 @@ put-some-requires c κs =
     let k = g .few in
     omega arith
 
--- src/overlaps.rt:84:13
 add-i : tie.Need-add-i Inv-loop μ-loop
 add-i c = search needs
 
--- src/overlaps.rt:72:5
 loop-less : tie.Need-loop-less Inv-loop μ-loop
 loop-less c = search needs
 
--- src/overlaps.rt:72:5
 loop-again : tie.Need-loop-again Inv-loop μ-loop
 loop-again c =
     let s = c .before .before .before .before .before .before .before .before .before .before .before .before .before .before .before .before .before .before .before .before .before in
@@ -127,15 +100,12 @@ loop-again c =
           (c .before .before .before .before .before .before .unit-at2 .result) (c .before .before .before .before .before .before .before .before .unit-at .result) (c .before .before .before .before .before .shared .result) _ _ (c .before .before .before .before .before .before .unit-at2 .ensures) (c .before .before .before .before .before .before .before .before .unit-at .ensures) (c .before .before .before .before .before .shared .ensures) (c .before .before .before .put-some .kept .0) (c .before .before .before .put-some .ensures) (c .if2 .taken),
     )
 
--- src/overlaps.rt:87:13
 add-j : tie.Need-add-j Inv-loop μ-loop
 add-j c = search needs
 
--- src/overlaps.rt:72:5
 loop-less-2 : tie.Need-loop-less-2 Inv-loop μ-loop
 loop-less-2 c = search needs
 
--- src/overlaps.rt:72:5
 loop-again-2 : tie.Need-loop-again-2 Inv-loop μ-loop
 loop-again-2 c =
     let s = c .before .before .before .before .before .before .before .before .before .before .before .before .before .before .before .before .before .before .before .before .before in
@@ -146,11 +116,9 @@ loop-again-2 c =
           (c .before .before .before .before .before .before .unit-at2 .result) (c .before .before .before .before .before .before .before .before .unit-at .result) (c .before .before .before .before .before .shared .result) _ _ (c .before .before .before .before .before .before .unit-at2 .ensures) (c .before .before .before .before .before .before .before .before .unit-at .ensures) (c .before .before .before .before .before .shared .ensures) (c .before .before .before .put-some .kept .0) (c .before .before .before .put-some .ensures) (omega arith),
     )
 
--- src/overlaps.rt:63:1
 same-length-2 : tie.Need-same-length-2 Inv-loop μ-loop
 same-length-2 c = c .before .loop .inv .2 .room
 
--- src/overlaps.rt:63:1
 returns-2 : tie.Need-returns-2 Inv-loop μ-loop
 returns-2 c = bids-done _ _ _ _ _ _ _ _ _ _ (c .before .before .before .before .before .before .before .before .pre .4) (c .before .before .before .before .before .before .before .before .pre .5) _ _ _ _ _ _ _ (c .before .loop .inv .2) (omega arith)
 

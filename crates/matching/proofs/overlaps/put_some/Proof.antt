@@ -3,27 +3,19 @@ use Rattle.matching.proofs.OverlapLaws.{wrote-none, wrote-one}
 use borrow.Author.Needs.{needs}
 use Rattle.matching.proofs.overlaps.put_some.Statement.{statement}
 use Rattle.matching.proofs.overlaps.put_some.Tie as tie
-use Rattle.matching.proofs.overlaps.put_some.Reads as reads
-use Rattle.matching.proofs.overlaps.put_some.Lts as lts
-use Rattle.matching.proofs.orders.put_row.Reads as put-row-reads
 
--- src/overlaps.rt:48:9
 returns : tie.Need-returns
 returns c m rs e h = wrote-none _ _ _ m _ rs e (c .if1 .taken) h
 
--- src/overlaps.rt:50:5
 put-row-requires : tie.Need-put-row-requires
 put-row-requires c κs = search needs
 
--- src/overlaps.rt:51:5
 add-result : tie.Need-add-result
 add-result c = search needs
 
--- src/overlaps.rt:43:1
 same-length : tie.Need-same-length
 same-length c = search needs
 
--- src/overlaps.rt:43:1
 returns-2 : tie.Need-returns-2
 returns-2 c m rs e h = wrote-one _ _ _ m _ rs e (c .before .before .before .before .if1 .left) (c .before .before .put-row .ensures m rs e h)
 

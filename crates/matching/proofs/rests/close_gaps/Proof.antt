@@ -1,19 +1,14 @@
 -- `close_gaps`: each order that stands moves up to the first free place, which never lies behind it.
-use Prim.Native.Nat.{ℕ, _-_, _≤_, _<_}
-use mathlib.Core.Path.{_≡_, sym, ap, _∙_}
-use mathlib.Core.List.{List}
+use Prim.Native.Nat.{_-_}
+use mathlib.Core.Path.{ap, _∙_}
 use native.Mathlib.Omega.{arith}
 use lib.ListN.{set}
 use Rattle.matching.specs.Orders.{Order}
 use Rattle.matching.specs.Memory.{ordersIn}
-use Rattle.matching.proofs.TakingLaws.{Closing, closing-start, closing-skip, closing-move, closing-end}
+use Rattle.matching.proofs.TakingLaws.{Closing, closing-start, closing-skip, closing-stay, closing-move, closing-end}
 use borrow.Author.Needs.{needs}
 use Rattle.matching.proofs.rests.close_gaps.Statement.{statement}
 use Rattle.matching.proofs.rests.close_gaps.Tie as tie
-use Rattle.matching.proofs.rests.close_gaps.Reads as reads
-use Rattle.matching.proofs.rests.close_gaps.Lts as lts
-use Rattle.matching.proofs.orders.read.Reads as read-reads
-use Rattle.matching.proofs.orders.write.Reads as write-reads
 
 abbrev Inv-loop : tie.InvT-loop
 Inv-loop orders₀ n stands to₀ k₀ orders to k = Closing orders₀ stands n orders to k
@@ -21,62 +16,60 @@ Inv-loop orders₀ n stands to₀ k₀ orders to k = Closing orders₀ stands n 
 abbrev μ-loop : tie.MeasureT-loop
 μ-loop orders₀ n stands to₀ k₀ orders to k = n - k
 
--- src/rests.rt:48:5
 loop-holds : tie.Need-loop-holds Inv-loop μ-loop
 loop-holds c = closing-start _ _ _
 
--- src/rests.rt:49:12
 mul-if1 : tie.Need-mul-if1 Inv-loop μ-loop
 mul-if1 c = search needs
 
--- src/rests.rt:49:12
 shared-slice-read-if1 : tie.Need-shared-slice-read-if1 Inv-loop μ-loop
 shared-slice-read-if1 c = search needs
 
--- src/rests.rt:50:13
 add-k : tie.Need-add-k Inv-loop μ-loop
 add-k c = search needs
 
--- src/rests.rt:48:5
 loop-less : tie.Need-loop-less Inv-loop μ-loop
 loop-less c = search needs
 
--- src/rests.rt:48:5
 loop-again : tie.Need-loop-again Inv-loop μ-loop
 loop-again c = closing-skip _ _ _ _ _ _ (c .before .before .before .before .before .before .pre .2) (c .before .before .loop-test .taken) (c .before .before .before .loop .inv) (c .if1 .taken)
 
--- src/rests.rt:52:17
-read-requires : tie.Need-read-requires Inv-loop μ-loop
-read-requires c κs = search needs
-
--- src/rests.rt:53:13
-write-requires : tie.Need-write-requires Inv-loop μ-loop
-write-requires c κs = search needs
-
--- src/rests.rt:54:13
 add-to : tie.Need-add-to Inv-loop μ-loop
 add-to c = search needs
 
--- src/rests.rt:55:13
 add-k-2 : tie.Need-add-k-2 Inv-loop μ-loop
 add-k-2 c = search needs
 
--- src/rests.rt:48:5
 loop-less-2 : tie.Need-loop-less-2 Inv-loop μ-loop
 loop-less-2 c = search needs
 
--- src/rests.rt:48:5
 loop-again-2 : tie.Need-loop-again-2 Inv-loop μ-loop
-loop-again-2 c =
-    let l = c .before .before .before .before .before .before .before .before .before .loop in
-    closing-move _ _ _ _ _ _ (c .before .before .before .before .before .before .before .before .before .before .before .before .pre .2) (c .before .before .before .before .before .before .before .before .loop-test .taken) (l .inv) _ (c .before .before .before .before .before .before .if1 .left) (c .before .before .write .kept .0)
-    (c .before .before .write .ensures .0 ∙ ap (λ (o : Order). set (ordersIn (l .orders) (c .before .before .before .before .before .before .before .before .before .before .before .before .args .n)) (l .to) o) (c .before .before .before .before .read .ensures)) (c .before .before .write .ensures .1)
+loop-again-2 c = closing-stay _ _ _ _ _ _ (c .before .before .before .before .before .before .before .pre .2) (c .before .before .before .loop-test .taken) (c .before .before .before .before .loop .inv) (c .before .if1 .left) (c .if2 .taken)
 
--- src/rests.rt:42:1
+read-requires : tie.Need-read-requires Inv-loop μ-loop
+read-requires c κs = search needs
+
+write-requires : tie.Need-write-requires Inv-loop μ-loop
+write-requires c κs = search needs
+
+add-to-2 : tie.Need-add-to-2 Inv-loop μ-loop
+add-to-2 c = search needs
+
+add-k-3 : tie.Need-add-k-3 Inv-loop μ-loop
+add-k-3 c = search needs
+
+loop-less-3 : tie.Need-loop-less-3 Inv-loop μ-loop
+loop-less-3 c = search needs
+
+loop-again-3 : tie.Need-loop-again-3 Inv-loop μ-loop
+loop-again-3 c =
+    let l = c .before .before .before .before .before .before .before .before .before .before .loop in
+    closing-move _ _ _ _ _ _ (c .before .before .before .before .before .before .before .before .before .before .before .before .before .pre .2) (c .before .before .before .before .before .before .before .before .before .loop-test .taken) (l .inv) _ (c .before .before .before .before .before .before .before .if1 .left) (c .before .before .write .kept .0)
+    (c .before .before .write .ensures .0 ∙ ap (λ (o : Order). set (ordersIn (l .orders) (c .before .before .before .before .before .before .before .before .before .before .before .before .before .args .n)) (l .to) o) (c .before .before .before .before .read .ensures)) (c .before .before .write .ensures .1)
+
 same-length : tie.Need-same-length Inv-loop μ-loop
 same-length c = search needs
 
--- src/rests.rt:42:1
 returns : tie.Need-returns Inv-loop μ-loop
 returns c = (closing-end _ _ _ _ _ (c .before .loop .k) (omega arith) (c .before .loop .inv), c .before .loop .inv .past)
 
@@ -92,11 +85,15 @@ close-gaps-spec =
     add-k
     loop-less
     loop-again
-    read-requires
-    write-requires
     add-to
     add-k-2
     loop-less-2
     loop-again-2
+    read-requires
+    write-requires
+    add-to-2
+    add-k-3
+    loop-less-3
+    loop-again-3
     same-length
     returns)

@@ -6,42 +6,30 @@ use Rattle.matching.proofs.TakingLaws.{rests-left}
 use borrow.Author.Needs.{needs}
 use Rattle.matching.proofs.rests.leave_rests.Statement.{statement}
 use Rattle.matching.proofs.rests.leave_rests.Tie as tie
-use Rattle.matching.proofs.rests.leave_rests.Reads as reads
-use Rattle.matching.proofs.rests.leave_rests.Lts as lts
-use Rattle.matching.proofs.rests.close_gaps.Reads as close-gaps-reads
-use Rattle.matching.proofs.rests.take_fills.Reads as take-fills-reads
 
--- src/rests.rt:67:27
 slice-aggregate-take-fills : tie.Need-slice-aggregate-take-fills
 slice-aggregate-take-fills c = search needs
 
--- src/rests.rt:67:5
 take-fills-requires : tie.Need-take-fills-requires
 take-fills-requires c κs = search needs
 
--- src/rests.rt:68:27
 slice-aggregate-take-fills-2 : tie.Need-slice-aggregate-take-fills-2
 slice-aggregate-take-fills-2 c = search needs
 
--- src/rests.rt:68:5
 take-fills-requires-2 : tie.Need-take-fills-requires-2
 take-fills-requires-2 c κs =
     let s = c .before .before .before .before .before .before .before .before .before .before .before .before .before in
     (omega arith, s .pre .1, omega arith, ap rising (c .before .before .before .before .before .take-fills .ensures .numbers) ∙ s .pre .2, s .pre .4)
 
--- src/rests.rt:69:27
 slice-aggregate-close-gaps : tie.Need-slice-aggregate-close-gaps
 slice-aggregate-close-gaps c = search needs
 
--- src/rests.rt:69:5
 close-gaps-requires : tie.Need-close-gaps-requires
 close-gaps-requires c κs = search needs
 
--- src/rests.rt:62:1
 same-length : tie.Need-same-length
 same-length c = search needs
 
--- src/rests.rt:62:1
 returns : tie.Need-returns
 returns c =
     let s = c .before .before .before .before .before .before .before .before .before .before .before .before .before .before .before .before .before .before .before .before .before .before in (

@@ -1,55 +1,40 @@
 -- `take_fill`: by the rising numbers the order at p alone has its number.
 use mathlib.Core.Path.{ap}
-use native.Mathlib.Omega.{arith}
 use Rattle.matching.specs.Orders.{Order}
 use Rattle.matching.proofs.TakingLaws.{taken-whole, taken-part}
 use borrow.Author.Needs.{needs}
 use Rattle.matching.proofs.rests.take_fill.Statement.{statement}
 use Rattle.matching.proofs.rests.take_fill.Tie as tie
-use Rattle.matching.proofs.rests.take_fill.Reads as reads
-use Rattle.matching.proofs.rests.take_fill.Lts as lts
-use Rattle.matching.proofs.orders.leave.Reads as leave-reads
-use Rattle.matching.proofs.orders.read.Reads as read-reads
 
--- src/rests.rt:18:9
 read-requires : tie.Need-read-requires
 read-requires c κs = search needs
 
--- src/rests.rt:21:9
 mul-stands : tie.Need-mul-stands
 mul-stands c = search needs
 
--- src/rests.rt:21:9
 slice-write-stands : tie.Need-slice-write-stands
 slice-write-stands c = search needs
 
--- src/rests.rt:22:9
 same-length : tie.Need-same-length
 same-length c = search needs
 
--- src/rests.rt:22:9
 same-length-2 : tie.Need-same-length-2
 same-length-2 c = search needs
 
--- src/rests.rt:22:9
 returns : tie.Need-returns
 returns c =
     let s = c .before .before .before .before .before in
     taken-whole (s .args .orders .now) (s .args .stands .now) (s .args .n) (s .args .p) (s .args .x) (s .pre .2) (s .pre .3) (s .pre .4) _ (ap (λ (o : Order). o .quantity) (c .before .read .ensures)) (c .if1 .taken)
 
--- src/rests.rt:24:47
 sub-t16 : tie.Need-sub-t16
 sub-t16 c = search needs
 
--- src/rests.rt:24:5
 leave-requires : tie.Need-leave-requires
 leave-requires c κs = search needs
 
--- src/rests.rt:14:1
 same-length-3 : tie.Need-same-length-3
 same-length-3 c = search needs
 
--- src/rests.rt:14:1
 returns-2 : tie.Need-returns-2
 returns-2 c =
     let s = c .before .before .before .before .before .before .before .before .before in

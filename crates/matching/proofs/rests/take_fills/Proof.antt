@@ -1,17 +1,12 @@
 -- `take_fills`: numbers stay, so each fill finds its order at its place.
-use Prim.Native.Nat.{ℕ, _-_, _≤_, _<_}
-use mathlib.Core.Path.{_≡_, sym, ap, _∙_}
-use mathlib.Core.Bool.{true}
-use mathlib.Core.List.{List}
+use Prim.Native.Nat.{_-_}
+use mathlib.Core.Path.{ap, _∙_}
 use native.Mathlib.Omega.{arith}
 use Rattle.matching.specs.Orders.{rising}
 use Rattle.matching.proofs.TakingLaws.{Taking, taking-start, taking-more, taking-end, filling-below}
 use borrow.Author.Needs.{needs}
 use Rattle.matching.proofs.rests.take_fills.Statement.{statement}
 use Rattle.matching.proofs.rests.take_fills.Tie as tie
-use Rattle.matching.proofs.rests.take_fills.Reads as reads
-use Rattle.matching.proofs.rests.take_fills.Lts as lts
-use Rattle.matching.proofs.rests.take_fill.Reads as take-fill-reads
 
 abbrev Inv-loop : tie.InvT-loop
 Inv-loop orders₀ n stands₀ places amounts count i₀ orders stands i = Taking orders₀ stands₀ places amounts n count orders stands i
@@ -19,27 +14,21 @@ Inv-loop orders₀ n stands₀ places amounts count i₀ orders stands i = Takin
 abbrev μ-loop : tie.MeasureT-loop
 μ-loop orders₀ n stands₀ places amounts count i₀ orders stands i = count - i
 
--- src/rests.rt:33:5
 loop-holds : tie.Need-loop-holds Inv-loop μ-loop
 loop-holds c = taking-start _ _ _ _ _ _
 
--- src/rests.rt:34:17
 mul-p : tie.Need-mul-p Inv-loop μ-loop
 mul-p c = search needs
 
--- src/rests.rt:34:17
 shared-slice-read-p : tie.Need-shared-slice-read-p Inv-loop μ-loop
 shared-slice-read-p c = search needs
 
--- src/rests.rt:35:17
 mul-x : tie.Need-mul-x Inv-loop μ-loop
 mul-x c = search needs
 
--- src/rests.rt:35:17
 shared-slice-read-x : tie.Need-shared-slice-read-x Inv-loop μ-loop
 shared-slice-read-x c = search needs
 
--- src/rests.rt:36:9
 take-fill-requires : tie.Need-take-fill-requires Inv-loop μ-loop
 take-fill-requires c κs =
     let s = c .before .before .before .before .before .before .before .before .before .before in
@@ -49,29 +38,23 @@ take-fill-requires c κs =
     let k = g .marks in
     (omega arith, omega arith, omega arith, omega arith, ap rising (g .numbers) ∙ s .pre .3)
 
--- src/rests.rt:37:9
 add-i : tie.Need-add-i Inv-loop μ-loop
 add-i c = search needs
 
--- src/rests.rt:33:5
 loop-less : tie.Need-loop-less Inv-loop μ-loop
 loop-less c = search needs
 
--- src/rests.rt:33:5
 loop-again : tie.Need-loop-again Inv-loop μ-loop
 loop-again c =
     let s = c .before .before .before .before .before .before .before .before .before .before .before .before .before .before .before in
     taking-more _ _ _ _ _ _ _ _ _ (s .pre .4) (c .before .before .before .before .before .before .before .before .before .before .loop .inv) _ _ (c .before .before .before .before .before .before .before .before .before .loop-test .taken) (c .before .before .before .before .take-fill .kept .0) (c .before .before .before .before .take-fill .kept .1 .1 .0) (c .before .before .before .before .take-fill .ensures)
 
--- src/rests.rt:28:1
 same-length : tie.Need-same-length Inv-loop μ-loop
 same-length c = search needs
 
--- src/rests.rt:28:1
 same-length-2 : tie.Need-same-length-2 Inv-loop μ-loop
 same-length-2 c = search needs
 
--- src/rests.rt:28:1
 returns : tie.Need-returns Inv-loop μ-loop
 returns c = taking-end _ _ _ _ _ _ _ _ _ (c .before .before .before .before .before .before .pre .4) (c .before .loop .inv) (omega arith)
 
