@@ -24,7 +24,7 @@ use Rattle.book.specs.Readable.{Ranged, unitFieldsIn, waysIn, declared, 
 use Rattle.book.specs.RowsIn.{fitChecks, partsAt, TakeFit}
 use Rattle.book.proofs.RangeFacts.{units-held, unit-at}
 use Rattle.book.proofs.MadeLaws.{sound-book, sound-readable}
-use Rattle.book.proofs.FitLaws.{zeros-at, misfit-ext, misfit-declared}
+use Rattle.book.proofs.MisfitLaws.{zeros-at, misfit-ext, misfit-declared}
 use Rattle.book.proofs.SmallLaws.{unit-fits}
 use Rattle.book.proofs.PartyLaws.{offer-sound}
 
