@@ -49,3 +49,6 @@ pub mod MatchTallyLaws
 pub mod RolledTallyLaws
 pub mod OrderTallyLaws
 pub mod ListsLaws
+pub mod OrderCheckLaws
+pub mod OrderFitLaws
+pub mod WaitLaws

@@ -1,11 +1,12 @@
 // The book of a term: opening, the eight calls and the curve (paper 01).
-mod curve;
 mod cancelling;
+mod curve;
 mod enrolling;
+mod fits;
 mod numbers;
 pub mod opening;
+mod ordering;
 mod pairs;
-mod fits;
 mod ranges;
 mod trades;
 
