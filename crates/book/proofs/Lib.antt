@@ -52,3 +52,5 @@ pub mod ListsLaws
 pub mod OrderCheckLaws
 pub mod OrderFitLaws
 pub mod WaitLaws
+pub mod RestWaitLaws
+pub mod RollCallLaws

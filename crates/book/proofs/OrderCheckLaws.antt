@@ -12,6 +12,7 @@ use Rattle.measures.specs.Lists.{keep, sumOf, sum, all}
 use Rattle.measures.proofs.RangeLaws.{In, inside, outside}
 use Rattle.measures.proofs.ListLaws.{cond-true, cond-false, or-left, or-right, sumOf-table, sum-ext, sum-more}
 use Rattle.matching.specs.Orders.{Order as OpenOrder, sells}
+use Rattle.matching.proofs.EachLaws.{keep-keep}
 use Rattle.matching.specs.Memory.{orderAt, ordersIn as ordersAt}
 use Rattle.book.specs.Book.{Figures, Book, figuresOf}
 use Rattle.book.specs.Refusals.{Check, firstOf, ordersIn, unknownUnit, fewRows, badPrice, badQuantity, badPeriod, badDirection, otherDirection, twoOpen, ordersFull, numbersUsed}
@@ -144,14 +145,6 @@ module _ {A : Type 0} where
       go true h = omega arith
       go false h = omega arith
 
-  keep-both : (f g : A → Bool) (l : List A) → keep f (keep g l) ≡ keep (λ x. g x && f x) l
-  keep-both f g [] = refl
-  keep-both f g (x ∷ xs) = go (g x) (keep-both f g xs)
-    where
-      go : (b : Bool) → keep f (keep g xs) ≡ keep (λ y. g y && f y) xs → keep f (cond b (x ∷ keep g xs) (keep g xs)) ≡ cond (b && f x) (x ∷ keep (λ y. g y && f y) xs) (keep (λ y. g y && f y) xs)
-      go true h = rw h refl
-      go false h = h
-
 -- a unit's orders of a period, by places
 module _ (m : List ℕ) (u d p : ℕ) (few : word m 7 ≤ 256) where
   here : (k i : ℕ) → k < word m 7 → i < 6 → getD (ordersPart m) (6 * k + i) 0 ≡ word m (240 + 6 * k + i)
@@ -174,7 +167,7 @@ module _ (m : List ℕ) (u d p : ℕ) (few : word m 7 ≤ 256) where
   pub against-count : length (keep otherWay (ordersIn (decode m) u p)) ≡ sum (word m 7) (againstAt m u d p)
   unfolding againstAt ordersAt
   against-count =
-      ap (λ (l : List OpenOrder). length l) (keep-both otherWay ofUnit (decode m .orders))
+      ap (λ (l : List OpenOrder). length l) (keep-keep otherWay ofUnit (decode m .orders))
       ∙ kept-length (λ (o : OpenOrder). ofUnit o && otherWay o) (decode m .orders)
       ∙ ap (sumOf (λ (o : OpenOrder). cond (ofUnit o && otherWay o) 1 0)) (orders-from m)
       ∙ sumOf-table (λ (o : OpenOrder). cond (ofUnit o && otherWay o) 1 0) (word m 7) (orderAt (ordersPart m))

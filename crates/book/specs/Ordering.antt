@@ -3,15 +3,17 @@ use Prim.Native.Nat.{ℕ, _+_, _*_, _≤_, _<_}
 use mathlib.Core.Path.{_≡_}
 use mathlib.Core.Bool.{cond, not, _&&_}
 use mathlib.Core.List.{List, [], _∷_}
-use lib.ListN.{length}
+use lib.ListN.{length, drop}
 use lib.Dec.{eqb}
 use Rattle.measures.specs.Ranges.{mostEnergy}
 use Rattle.matching.specs.Orders.{Order as OpenOrder}
-use Rattle.matching.specs.Memory.{ordersIn}
+use Rattle.matching.specs.Memory.{ordersIn, written}
+use Rattle.matching.specs.Rolling.{meet}
 use Rattle.book.specs.Book.{Book}
+use Rattle.book.specs.Opening.{bookWords}
 use Rattle.book.specs.Layout.{word, ordersPart, decode}
 use Rattle.book.specs.Refusals.{Check, firstOf, unknownUnit, fewRows, badPrice, badQuantity, badPeriod, badDirection, otherDirection, twoOpen, ordersFull, numbersUsed, hourMisfit, termMisfit, volumeMisfit}
-use Rattle.book.specs.Order.{orderDeclares}
+use Rattle.book.specs.Order.{orderDeclares, newOrder, orderedInRolling}
 
 -- the checks of an order in three parts
 unfoldable pub nameChecks : Book → ℕ → ℕ → ℕ → ℕ → ℕ → ℕ → List Check
@@ -52,3 +54,17 @@ pub record OrdersPut (m x : List ℕ) (os : List OpenOrder) : Type 0 where
   pub low : (i : ℕ) → i < 240 → (i ≡ 7 → ⊥) → word x i ≡ word m i
   pub high : (i : ℕ) → 1776 ≤ i → word x i ≡ word m i
   pub orders : ordersIn (ordersPart x) (word x 7) ≡ os
+
+-- x is m after an order met those that stand open: what is left of it, the rows and their count
+pub record Rolled (m x rows rows′ : List ℕ) (o : OpenOrder) (q n : ℕ) : Type 0 where
+  pub orders : OrdersPut m x (meet o (ordersIn (ordersPart m) (word m 7)) .orders)
+  pub handed : rows′ ≡ written rows (meet o (ordersIn (ordersPart m) (word m 7)) .rows)
+  pub left : q ≡ meet o (ordersIn (ordersPart m) (word m 7)) .left
+  pub count : n ≡ length (meet o (ordersIn (ordersPart m) (word m 7)) .rows)
+
+-- m′ and rows′ are the memory and the lent rows after an order in the rolling phase, n its count of rows
+pub record RolledOn (m rows : List ℕ) (u d p price q n : ℕ) (m′ rows′ : List ℕ) : Type 0 where
+  pub book : decode m′ ≡ orderedInRolling (decode m) (newOrder (decode m) u d p price q) .book
+  pub handed : rows′ ≡ written rows (meet (newOrder (decode m) u d p price q) (decode m .orders) .rows)
+  pub count : n ≡ length (meet (newOrder (decode m) u d p price q) (decode m .orders) .rows)
+  pub past : drop (bookWords (word m 0)) m′ ≡ drop (bookWords (word m 0)) m

@@ -1,6 +1,8 @@
 // Order (paper 01): "a unit, a direction (0 sell, 1 buy), a period, a price, a quantity."
 use crate::fits::misfit;
+use crate::trades::book_rows;
 use crate::trades::raises_net;
+use matching::orders::Matched;
 use matching::orders::Order;
 use measures::Energy;
 use measures::Price;
@@ -12,6 +14,7 @@ ghost use lib.ListN.{length, drop};
 ghost use lib.Dec.{eqb};
 ghost use Rattle.measures.specs.Ranges.{mostEnergy};
 ghost use Rattle.measures.specs.Lists.{sum};
+ghost use Rattle.matching.specs.Orders.{leaving};
 ghost use Rattle.matching.specs.Memory.{orderOf, ordersIn};
 ghost use Rattle.book.specs.Book.{numbered};
 ghost use Rattle.book.specs.Opening.{bookWords};
@@ -19,8 +22,8 @@ ghost use Rattle.book.specs.Layout.{word, decode, ordersPart};
 ghost use Rattle.book.specs.Refusals.{firstOf};
 ghost use Rattle.book.specs.Readable.{Readable};
 ghost use Rattle.book.specs.Contract.{soundIn};
-ghost use Rattle.book.specs.Order.{orderChecks, newOrder, orderedInCall};
-ghost use Rattle.book.specs.Ordering.{dayChecks, fitChecks, NameChecked, Named, ofUnitAt, againstAt, OrdersPut};
+ghost use Rattle.book.specs.Order.{orderChecks, newOrder, orderedInCall, waiting};
+ghost use Rattle.book.specs.Ordering.{dayChecks, fitChecks, NameChecked, Named, ofUnitAt, againstAt, OrdersPut, Rolled, RolledOn};
 
 // The checks of names, rows, price, energy, period and direction.
 fn order_names(
@@ -236,4 +239,77 @@ pub fn order_in_call(
     };
     append(book, o);
     next_number(book);
+}
+
+// What is left of an order that met others, and its count of rows.
+struct Rest {
+    left: u64,
+    count: usize,
+}
+
+// An order meets those that stand open.
+fn meet_orders(book: &mut [u64], o: Order, rows: &mut [u64]) -> Rest
+    requires { ⌜ (soundIn (now book) ≡ true) × (4464 ≤ length (now rows)) ⌝ }
+    ensures { λ r. ⌜ Rolled (now (book .entry)) (now (book .exit)) (now (rows .entry)) (now (rows .exit)) (orderOf o) (r .left) (r .count) ⌝ }
+{
+    let n = book[7];
+    let met = matching::rolling::meet(&mut book[240..1776], n as usize, o, rows);
+    match met {
+        Matched::Unfit => Rest { left: 0, count: 0 },
+        Matched::Done(left, count, standing) => {
+            book[7] = standing as u64;
+            Rest {
+                left: left.0,
+                count: count,
+            }
+        }
+    }
+}
+
+// "the rest waits"
+fn rest_waits(book: &mut [u64], o: Order, left: u64)
+    requires { ⌜ (1776 ≤ length (now book)) × (word (now book) 7 < 256) ⌝ }
+    ensures { λ _. ⌜ OrdersPut (now (book .entry)) (now (book .exit)) (ordersIn (ordersPart (now (book .entry))) (word (now (book .entry)) 7) ++ waiting (leaving (orderOf o) left)) ⌝ }
+{
+    if left == 0 {
+        return;
+    }
+    let rest = Order {
+        number: o.number,
+        unit: o.unit,
+        direction: o.direction,
+        period: o.period,
+        price: Price(o.price.0),
+        quantity: Energy(left),
+    };
+    append(book, rest);
+}
+
+// "Rolling phase: it meets opposite orders of its period"
+pub fn order_in_rolling(
+    book: &mut [u64],
+    unit: u64,
+    direction: u64,
+    period: u64,
+    price: u64,
+    quantity: u64,
+    rows: &mut [u64],
+) -> usize
+    requires { ⌜ (soundIn (now book) ≡ true) × (0 ≡ firstOf (orderChecks (decode (now book)) unit direction period price quantity (length (now rows)))) ⌝ }
+    ensures { λ r. ⌜ RolledOn (now (book .entry)) (now (rows .entry)) unit direction period price quantity r (now (book .exit)) (now (rows .exit)) ⌝ }
+{
+    let number = book[4] + 1;
+    let o = Order {
+        number: number,
+        unit: unit,
+        direction: direction,
+        period: period,
+        price: Price(price),
+        quantity: Energy(quantity),
+    };
+    let rest = meet_orders(book, o, rows);
+    rest_waits(book, o, rest.left);
+    book_rows(book, rows, rest.count);
+    next_number(book);
+    rest.count
 }
