@@ -73,3 +73,8 @@ pub mod RolledTallyLaws
 pub mod OrderTallyLaws
 pub mod ListsLaws
 pub mod TraceLaws
+pub mod OrderCheckLaws
+pub mod OrderFitLaws
+pub mod WaitLaws
+pub mod RestWaitLaws
+pub mod RollCallLaws

@@ -14,6 +14,7 @@ pub mod Offer
 pub mod Take
 pub mod Withdraw
 pub mod Order
+pub mod Ordering
 pub mod Cancel
 pub mod Clear
 pub mod Periods

@@ -8,6 +8,7 @@ mod fits;
 mod numbers;
 mod offering;
 pub mod opening;
+mod ordering;
 mod pairs;
 mod periods;
 mod ranges;

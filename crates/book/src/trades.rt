@@ -12,7 +12,7 @@ ghost use Rattle.book.specs.Readable.{Readable};
 ghost use Rattle.book.specs.RowsIn.{rowAt, Small, SmallAt, FiguresPut, Traded, RowTraded, RowFits, RowsFit, smallFigures, RowsTraded};
 
 // Whether a trade in this direction (0 sold, 1 bought) raises the unit's net.
-fn raises_net(book: &[u64], unit: u64, direction: u64) -> bool
+pub fn raises_net(book: &[u64], unit: u64, direction: u64) -> bool
     requires { ⌜ (Readable (now book)) × (1 ≤ unit) × (unit ≤ word (now book) 5) ⌝ }
     ensures { λ r. ⌜ r ≡ raises (unitOf (decode (now (book .entry))) unit .kind) direction ⌝ }
 {

@@ -1,0 +1,91 @@
+-- `order_days`: each test is a check of the second part; the sums are the lengths of what the checks keep.
+use native.Mathlib.Omega.{arith}
+use Rattle.book.proofs.OrderCheckLaws.{days-against, days-way, days-two, days-full, days-used, days-pass}
+use borrow.Author.Needs.{needs}
+use Rattle.book.proofs.ordering.order_days.Statement.{statement}
+use Rattle.book.proofs.ordering.order_days.Tie as tie
+
+unit-orders-requires : tie.Need-unit-orders-requires
+unit-orders-requires c κs = search needs
+
+returns : tie.Need-returns
+returns c = days-against _ _ _ _ (omega arith) (omega arith) (omega arith) (omega arith) _ (c .before .before .unit-orders .ensures .1) (omega arith)
+
+sub-k : tie.Need-sub-k
+sub-k c = search needs
+
+mul-way : tie.Need-mul-way
+mul-way c = search needs
+
+add-way : tie.Need-add-way
+add-way c = search needs
+
+mul-way-2 : tie.Need-mul-way-2
+mul-way-2 c = search needs
+
+add-way-2 : tie.Need-add-way-2
+add-way-2 c = search needs
+
+mul-way-3 : tie.Need-mul-way-3
+mul-way-3 c = search needs
+
+shared-slice-read-way : tie.Need-shared-slice-read-way
+shared-slice-read-way c = search needs
+
+sub-if2 : tie.Need-sub-if2
+sub-if2 c = search needs
+
+returns-2 : tie.Need-returns-2
+returns-2 c = days-way _ _ _ _ (omega arith) (omega arith) (omega arith) (omega arith) (omega arith)
+
+counted-requires : tie.Need-counted-requires
+counted-requires c κs = search needs
+
+returns-3 : tie.Need-returns-3
+returns-3 c =
+    let s = c .before .before .before .before .before .before .unit-orders .ensures in
+    days-two _ _ _ _ (omega arith) (omega arith) (omega arith) (omega arith) _ (s .1) (omega arith) (omega arith) _ _ (s .0) (c .before .counted .ensures) (omega arith)
+
+shared-slice-read-if4 : tie.Need-shared-slice-read-if4
+shared-slice-read-if4 c = search needs
+
+returns-4 : tie.Need-returns-4
+returns-4 c =
+    let s = c .before .before .before .before .before .before .before .before .unit-orders .ensures in
+    days-full _ _ _ _ (omega arith) (omega arith) (omega arith) (omega arith) _ (s .1) (omega arith) (omega arith) _ _ (s .0) (c .before .before .before .counted .ensures) (omega arith) (omega arith)
+
+shared-slice-read-if5 : tie.Need-shared-slice-read-if5
+shared-slice-read-if5 c = search needs
+
+returns-5 : tie.Need-returns-5
+returns-5 c =
+    let s = c .before .before .before .before .before .before .before .before .before .before .unit-orders .ensures in
+    days-used _ _ _ _ (omega arith) (omega arith) (omega arith) (omega arith) _ (s .1) (omega arith) (omega arith) _ _ (s .0) (c .before .before .before .before .before .counted .ensures) (omega arith) (omega arith) (omega arith)
+
+returns-6 : tie.Need-returns-6
+returns-6 c =
+    let s = c .before .before .before .before .before .before .before .before .before .before .unit-orders .ensures in
+    days-pass _ _ _ _ (omega arith) (omega arith) (omega arith) (omega arith) _ (s .1) (omega arith) (omega arith) _ _ (s .0) (c .before .before .before .before .before .counted .ensures) (omega arith) (omega arith) (omega arith)
+
+pub order-days-spec : {M : Type 1} → statement M
+order-days-spec =
+    tie.close
+    (tie.spec
+    unit-orders-requires
+    returns
+    sub-k
+    mul-way
+    add-way
+    mul-way-2
+    add-way-2
+    mul-way-3
+    shared-slice-read-way
+    sub-if2
+    returns-2
+    counted-requires
+    returns-3
+    shared-slice-read-if4
+    returns-4
+    shared-slice-read-if5
+    returns-5
+    returns-6)

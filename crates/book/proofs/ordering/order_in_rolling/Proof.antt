@@ -1,0 +1,75 @@
+-- `order_in_rolling`: matching, the rest, the rows and the number, one after the other.
+use native.Mathlib.Omega.{arith}
+use Rattle.book.specs.Readable.{Readable}
+use Rattle.book.proofs.MadeLaws.{sound-readable}
+use Rattle.book.proofs.RollCallLaws.{rows-lent, number-left, rest-room, waits-readable, waits-small, waits-rows, rows-room, number-room, rolled-on}
+use borrow.Author.Needs.{needs}
+use Rattle.book.proofs.ordering.order_in_rolling.Statement.{statement}
+use Rattle.book.proofs.ordering.order_in_rolling.Tie as tie
+
+ok : (c : tie.Start) → Readable (c .args .book .now)
+ok c = sound-readable _ (c .pre .0)
+
+slice-read-number : tie.Need-slice-read-number
+slice-read-number c = let r = ok (c .before .before .before) in omega arith
+
+add-number : tie.Need-add-number
+add-number c =
+    let s = c .before .before .before in
+    let n = number-left (s .args .book .now) (s .args .rows .now) (s .args .unit) (s .args .direction) (s .args .period) (s .args .price) (s .args .quantity) (s .pre .0) (s .pre .1) in
+    omega arith
+
+meet-orders-requires : tie.Need-meet-orders-requires
+meet-orders-requires c κs =
+    let s = c .before .before .before .before .before in
+    (s .pre .0, rows-lent (s .args .book .now) (s .args .rows .now) (s .args .unit) (s .args .direction) (s .args .period) (s .args .price) (s .args .quantity) (s .pre .0) (s .pre .1))
+
+rest-waits-requires : tie.Need-rest-waits-requires
+rest-waits-requires c κs =
+    let s = c .before .before .before .before .before .before .before .before .before .before .before in
+    rest-room (s .args .book .now) (s .args .rows .now) (s .args .unit) (s .args .direction) (s .args .period) (s .args .price) (s .args .quantity) (s .pre .0) (s .pre .1) _ _ _ _ (c .before .before .before .before .before .meet-orders .ensures)
+
+book-rows-requires : tie.Need-book-rows-requires
+book-rows-requires c κs =
+    let s = c .before .before .before .before .before .before .before .before .before .before .before .before .before .before .before .before in
+    let h = c .before .before .before .before .before .before .before .before .before .before .meet-orders .ensures in
+    let w = c .before .before .before .before .rest-waits .ensures in
+    let t = rows-room (s .args .book .now) (s .args .rows .now) (s .args .unit) (s .args .direction) (s .args .period) (s .args .price) (s .args .quantity) (s .pre .0) (s .pre .1) _ _ _ _ h _ w in (
+      waits-readable (s .args .book .now) (s .args .rows .now) (s .args .unit) (s .args .direction) (s .args .period) (s .args .price) (s .args .quantity) (s .pre .0) (s .pre .1) _ _ _ _ h _ w,
+      t .0,
+      t .1,
+      waits-rows (s .args .book .now) (s .args .rows .now) (s .args .unit) (s .args .direction) (s .args .period) (s .args .price) (s .args .quantity) (s .pre .0) (s .pre .1) _ _ _ _ h _ w,
+      waits-small (s .args .book .now) (s .args .rows .now) (s .args .unit) (s .args .direction) (s .args .period) (s .args .price) (s .args .quantity) (s .pre .0) (s .pre .1) _ _ _ _ h _ w,
+    )
+
+next-number-requires : tie.Need-next-number-requires
+next-number-requires c κs =
+    let s = c .before .before .before .before .before .before .before .before .before .before .before .before .before .before .before .before .before .before .before .before in
+    number-room (s .args .book .now) (s .args .rows .now) (s .args .unit) (s .args .direction) (s .args .period) (s .args .price) (s .args .quantity) (s .pre .0) (s .pre .1)
+    _ _ _ _ (c .before .before .before .before .before .before .before .before .before .before .before .before .before .before .meet-orders .ensures) _ (c .before .before .before .before .before .before .before .before .rest-waits .ensures) _ (c .before .before .before .book-rows .ensures)
+
+same-length : tie.Need-same-length
+same-length c = search needs
+
+same-length-2 : tie.Need-same-length-2
+same-length-2 c = search needs
+
+returns : tie.Need-returns
+returns c =
+    let s = c .before .before .before .before .before .before .before .before .before .before .before .before .before .before .before .before .before .before .before .before .before .before .before in
+    rolled-on (s .args .book .now) (s .args .rows .now) (s .args .unit) (s .args .direction) (s .args .period) (s .args .price) (s .args .quantity) (s .pre .0) (s .pre .1)
+    _ _ _ _ (c .before .before .before .before .before .before .before .before .before .before .before .before .before .before .before .before .before .meet-orders .ensures) _ (c .before .before .before .before .before .before .before .before .before .before .before .rest-waits .ensures) _ (c .before .before .before .before .before .before .book-rows .ensures) _ (c .before .before .next-number .ensures .0) (c .before .before .next-number .ensures .1)
+
+pub order-in-rolling-spec : {M : Type 1} → statement M
+order-in-rolling-spec =
+    tie.close
+    (tie.spec
+    slice-read-number
+    add-number
+    meet-orders-requires
+    rest-waits-requires
+    book-rows-requires
+    next-number-requires
+    same-length
+    same-length-2
+    returns)

@@ -1,0 +1,70 @@
+-- What the functions of an order on a book in memory promise one another.
+use Prim.Native.Nat.{ℕ, _+_, _*_, _≤_, _<_}
+use mathlib.Core.Path.{_≡_}
+use mathlib.Core.Bool.{cond, not, _&&_}
+use mathlib.Core.List.{List, [], _∷_}
+use lib.ListN.{length, drop}
+use lib.Dec.{eqb}
+use Rattle.measures.specs.Ranges.{mostEnergy}
+use Rattle.matching.specs.Orders.{Order as OpenOrder}
+use Rattle.matching.specs.Memory.{ordersIn, written}
+use Rattle.matching.specs.Rolling.{meet}
+use Rattle.book.specs.Book.{Book}
+use Rattle.book.specs.Opening.{bookWords}
+use Rattle.book.specs.Layout.{word, ordersPart, decode}
+use Rattle.book.specs.Refusals.{Check, firstOf, unknownUnit, fewRows, badPrice, badQuantity, badPeriod, badDirection, otherDirection, twoOpen, ordersFull, numbersUsed, hourMisfit, termMisfit, volumeMisfit}
+use Rattle.book.specs.Order.{orderDeclares, newOrder, orderedInRolling}
+
+-- the checks of an order in three parts
+unfoldable pub nameChecks : Book → ℕ → ℕ → ℕ → ℕ → ℕ → ℕ → List Check
+nameChecks b u d p price q lent =
+    unknownUnit b u ∷ fewRows lent ∷ badPrice b price ∷ badQuantity q ∷ badPeriod b p ∷ badDirection d ∷ []
+
+unfoldable pub dayChecks : Book → ℕ → ℕ → ℕ → List Check
+dayChecks b u d p = otherDirection b u d p ∷ twoOpen b u p ∷ ordersFull b ∷ numbersUsed b ∷ []
+
+unfoldable pub fitChecks : Book → ℕ → ℕ → ℕ → ℕ → List Check
+fitChecks b u d p q =
+    hourMisfit b u (orderDeclares b u d p q) ∷ termMisfit b u (orderDeclares b u d p q) ∷ volumeMisfit b u (orderDeclares b u d p q) ∷ []
+
+-- an enrolled unit, a direction, a period of the term and a quantity in range
+pub record Named (m : List ℕ) (u d p q : ℕ) : Type 0 where
+  pub from : 1 ≤ u
+  pub upto : u ≤ word m 5
+  pub direction : d ≤ 1
+  pub period : p < 24 * word m 0
+  pub quantity : q ≤ mostEnergy
+
+-- r is the first of the first part of the checks; 0 only if the order is named so
+pub record NameChecked (m : List ℕ) (u d p price q lent r : ℕ) : Type 0 where
+  pub answer : r ≡ firstOf (nameChecks (decode m) u d p price q lent)
+  pub named : r ≡ 0 → Named m u d p q
+
+-- 1 where the order at place k is the unit's and of the period, and 1 where it goes the other way too
+unfoldable pub ofUnitAt : List ℕ → ℕ → ℕ → ℕ → ℕ
+ofUnitAt m u p k = cond (eqb (word m (240 + 6 * k + 1)) u && eqb (word m (240 + 6 * k + 3)) p) 1 0
+
+unfoldable pub againstAt : List ℕ → ℕ → ℕ → ℕ → ℕ → ℕ
+againstAt m u d p k =
+    cond ((eqb (word m (240 + 6 * k + 1)) u && eqb (word m (240 + 6 * k + 3)) p) && not (eqb (word m (240 + 6 * k + 2)) d)) 1 0
+
+-- x is m with these open orders
+pub record OrdersPut (m x : List ℕ) (os : List OpenOrder) : Type 0 where
+  pub long : length x ≡ length m
+  pub low : (i : ℕ) → i < 240 → (i ≡ 7 → ⊥) → word x i ≡ word m i
+  pub high : (i : ℕ) → 1776 ≤ i → word x i ≡ word m i
+  pub orders : ordersIn (ordersPart x) (word x 7) ≡ os
+
+-- x is m after an order met those that stand open: what is left of it, the rows and their count
+pub record Rolled (m x rows rows′ : List ℕ) (o : OpenOrder) (q n : ℕ) : Type 0 where
+  pub orders : OrdersPut m x (meet o (ordersIn (ordersPart m) (word m 7)) .orders)
+  pub handed : rows′ ≡ written rows (meet o (ordersIn (ordersPart m) (word m 7)) .rows)
+  pub left : q ≡ meet o (ordersIn (ordersPart m) (word m 7)) .left
+  pub count : n ≡ length (meet o (ordersIn (ordersPart m) (word m 7)) .rows)
+
+-- m′ and rows′ are the memory and the lent rows after an order in the rolling phase, n its count of rows
+pub record RolledOn (m rows : List ℕ) (u d p price q n : ℕ) (m′ rows′ : List ℕ) : Type 0 where
+  pub book : decode m′ ≡ orderedInRolling (decode m) (newOrder (decode m) u d p price q) .book
+  pub handed : rows′ ≡ written rows (meet (newOrder (decode m) u d p price q) (decode m .orders) .rows)
+  pub count : n ≡ length (meet (newOrder (decode m) u d p price q) (decode m .orders) .rows)
+  pub past : drop (bookWords (word m 0)) m′ ≡ drop (bookWords (word m 0)) m
