@@ -16,6 +16,7 @@ use Rattle.book.specs.declared.Answer.the-variants.{Done, Refused}
 use Rattle.limits.specs.Units.{periods}
 use Rattle.measures.specs.Lists.{keep}
 use Rattle.matching.specs.Clearing.{Cleared}
+use Rattle.matching.specs.Rolling.{Met, meet}
 use Rattle.book.specs.Trades.{rowsBooked}
 use Rattle.book.specs.Book.{Book, callPhase, rollingPhase, offerOf, withOffers, withOrders, inPhase, nextNumber}
 use Rattle.book.specs.Sound.{sound, headIn}
@@ -189,3 +190,13 @@ pub clear-passed : (m : List ℕ) (lent : ℕ) → 0 ≡ firstOf (clearChecks (d
 clear-passed m lent e =
     let t = none-applies (clearChecks (decode m) lent) (omega arith, (omega arith, tt)) (sym e) in
     ltb-false lent 4464 (t .0)
+
+-- the effect of an order in either phase
+module _ (m : List ℕ) (u d p price q lent : ℕ) where
+  pub order-called : word m 3 ≡ 0 → effectOf (decode m) (order u d p price q lent) ≡ accepted (word m 4 + 1) [] (orderedInCall (decode m) (newOrder (decode m) u d p price q) .book)
+  unfolding decode
+  order-called e = cond-true (eqb (word m 3) 0) _ _ (eq-eqb (word m 3) 0 e) refl
+
+  pub order-rolled : (word m 3 ≡ 0 → ⊥) → effectOf (decode m) (order u d p price q lent) ≡ accepted (word m 4 + 1) (meet (newOrder (decode m) u d p price q) (decode m .orders) .rows) (orderedInRolling (decode m) (newOrder (decode m) u d p price q) .book)
+  unfolding decode
+  order-rolled n = cond-false (eqb (word m 3) 0) _ _ (ne-eqb (word m 3) 0 n) refl

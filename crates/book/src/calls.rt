@@ -9,6 +9,9 @@ use crate::enrolling::enrol_checks;
 use crate::enrolling::enrol_effect;
 use crate::offering::offer_checks;
 use crate::offering::offer_effect;
+use crate::ordering::order_checks;
+use crate::ordering::order_in_call;
+use crate::ordering::order_in_rolling;
 use crate::periods::clear_checks;
 use crate::periods::clear_effect;
 use crate::sound::sound_book;
@@ -18,7 +21,7 @@ ghost use mathlib.Core.Path.{_≡_};
 ghost use mathlib.Core.List.{List, []};
 ghost use lib.ListN.{length};
 ghost use Rattle.book.specs.Contract.{Made, Curved};
-ghost use Rattle.book.specs.Calls.{enrol as callEnrol, offer as callOffer, withdraw as callWithdraw, cancel as callCancel, close as callClose, clear as callClear};
+ghost use Rattle.book.specs.Calls.{enrol as callEnrol, offer as callOffer, withdraw as callWithdraw, cancel as callCancel, close as callClose, clear as callClear, order as callOrder};
 
 // The 48 points of a unit on a day.
 pub fn curve(book: &[u64], unit: u64, day: u64, points: &mut [u64]) -> Answer
@@ -121,4 +124,32 @@ pub fn clear(book: &mut [u64], rows: &mut [u64]) -> Answer
     }
     let count = clear_effect(book, rows);
     Answer::Done(0, count)
+}
+
+// Orders a quantity of a period: in the call phase it waits, in the rolling phase it meets opposite orders.
+pub fn order(
+    book: &mut [u64],
+    unit: u64,
+    direction: u64,
+    period: u64,
+    price: u64,
+    quantity: u64,
+    rows: &mut [u64],
+) -> Answer
+    ensures { λ r. ⌜ Made (now (book .entry)) (now (rows .entry)) (callOrder unit direction period price quantity (length (now (rows .entry)))) r (now (book .exit)) (now (rows .exit)) ⌝ }
+{
+    if !sound_book(book) {
+        return Answer::Refused(1);
+    }
+    let no = order_checks(book, unit, direction, period, price, quantity, rows.len());
+    if no != 0 {
+        return Answer::Refused(no);
+    }
+    let number = book[4] + 1;
+    if book[3] == 0 {
+        order_in_call(book, unit, direction, period, price, quantity);
+        return Answer::Done(number, 0);
+    }
+    let count = order_in_rolling(book, unit, direction, period, price, quantity, rows);
+    Answer::Done(number, count)
 }
