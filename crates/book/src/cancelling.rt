@@ -30,7 +30,7 @@ fn order_place(book: &[u64], number: u64) -> usize
 }
 
 // The checks of a cancel behind that of soundness.
-pub fn cancel_checks(book: &[u64], unit: u64, number: u64) -> u64
+pub(crate) fn cancel_checks(book: &[u64], unit: u64, number: u64) -> u64
     requires { ⌜ soundIn (now book) ≡ true ⌝ }
     ensures { λ r. ⌜ r ≡ firstOf (cancelChecks (decode (now (book .entry))) unit number) ⌝ }
 {
@@ -52,7 +52,7 @@ pub fn cancel_checks(book: &[u64], unit: u64, number: u64) -> u64
 }
 
 // The open order of a number goes.
-pub fn cancel_effect(book: &mut [u64], number: u64)
+pub(crate) fn cancel_effect(book: &mut [u64], number: u64)
     requires { ⌜ (soundIn (now book) ≡ true) × (orderOpen (decode (now book)) number ≡ true) ⌝ }
     ensures { λ _. ⌜ (decode (now (book .exit)) ≡ withOrders (decode (now (book .entry))) (keep (λ o. not (eqb (o .number) number)) (decode (now (book .entry)) .orders))) × (drop (bookWords (word (now (book .entry)) 0)) (now (book .exit)) ≡ drop (bookWords (word (now (book .entry)) 0)) (now (book .entry))) ⌝ }
 {

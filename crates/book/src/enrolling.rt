@@ -13,7 +13,7 @@ ghost use Rattle.book.specs.Contract.{soundIn};
 ghost use Rattle.book.specs.Enrol.{enrolChecks, enrolled};
 
 // The checks of an enrol behind that of soundness.
-pub fn enrol_checks(book: &[u64], kind: u64, capacity: u64, asset: u64) -> u64
+pub(crate) fn enrol_checks(book: &[u64], kind: u64, capacity: u64, asset: u64) -> u64
     requires { ⌜ soundIn (now book) ≡ true ⌝ }
     ensures { λ r. ⌜ r ≡ firstOf (enrolChecks (decode (now (book .entry))) kind capacity asset) ⌝ }
 {
@@ -64,7 +64,7 @@ fn clear_unit(book: &mut [u64], k: usize)
 }
 
 // One unit more stands behind the others.
-pub fn enrol_effect(book: &mut [u64], kind: u64, capacity: u64, asset: u64)
+pub(crate) fn enrol_effect(book: &mut [u64], kind: u64, capacity: u64, asset: u64)
     requires { ⌜ (soundIn (now book) ≡ true) × (word (now book) 5 < 64) ⌝ }
     ensures { λ _. ⌜ (decode (now (book .exit)) ≡ enrolled (decode (now (book .entry))) kind capacity asset) × (drop (bookWords (word (now (book .entry)) 0)) (now (book .exit)) ≡ drop (bookWords (word (now (book .entry)) 0)) (now (book .entry))) ⌝ }
 {

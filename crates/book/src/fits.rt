@@ -212,7 +212,7 @@ fn raising_way(book: &[u64], unit: u64) -> u64
 
 // What a unit comes to with a declaration lent as amounts by period: 19, 20 or 21 for what does not fit, or 0; 1 is for a
 // direction out of range. The amounts are then those with what the unit has open.
-pub fn misfit(book: &[u64], unit: u64, raising: &mut [u64], lowering: &mut [u64]) -> u64
+pub(crate) fn misfit(book: &[u64], unit: u64, raising: &mut [u64], lowering: &mut [u64]) -> u64
     requires { ⌜ (Ranged (now book)) × (1 ≤ unit) × (unit ≤ word (now book) 5) ⌝ }
     requires { ⌜ (length (now raising) ≡ 744) × (length (now lowering) ≡ 744) × (small (now raising)) × (small (now lowering)) ⌝ }
     ensures { λ r. ⌜ Fitted (decode (now (book .entry))) unit (declared (now (raising .entry)) (now (lowering .entry))) r ⌝ }

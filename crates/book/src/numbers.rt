@@ -62,7 +62,7 @@ fn numbers_free(book: &[u64]) -> bool
 }
 
 // Whether all open numbers differ.
-pub fn numbers_differ(book: &[u64]) -> bool
+pub(crate) fn numbers_differ(book: &[u64]) -> bool
     requires { ⌜ Readable (now book) ⌝ }
     ensures { λ r. ⌜ r ≡ numbersDiffer (decode (now (book .entry))) ⌝ }
 {

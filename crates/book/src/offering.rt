@@ -108,7 +108,13 @@ fn offer_fit(book: &[u64], unit: u64, amounts: &[u64]) -> u64
 }
 
 // The checks of an offer behind that of soundness.
-pub fn offer_checks(book: &[u64], unit: u64, partner: u64, price: u64, amounts: &[u64]) -> u64
+pub(crate) fn offer_checks(
+    book: &[u64],
+    unit: u64,
+    partner: u64,
+    price: u64,
+    amounts: &[u64],
+) -> u64
     requires { ⌜ soundIn (now book) ≡ true ⌝ }
     ensures { λ r. ⌜ r ≡ firstOf (offerChecks (decode (now (book .entry))) unit partner price (now (amounts .entry))) ⌝ }
 {
@@ -137,7 +143,7 @@ fn put_amounts(book: &mut [u64], j: usize, amounts: &[u64])
 }
 
 // One offer more stands behind the others, under the next number.
-pub fn offer_effect(book: &mut [u64], unit: u64, partner: u64, price: u64, amounts: &[u64])
+pub(crate) fn offer_effect(book: &mut [u64], unit: u64, partner: u64, price: u64, amounts: &[u64])
     requires { ⌜ (soundIn (now book) ≡ true) × (word (now book) 6 < 8) × (length (now amounts) ≡ 24 * word (now book) 0) ⌝ }
     ensures { λ _. ⌜ (decode (now (book .exit)) ≡ offered (decode (now (book .entry))) unit partner price (now (amounts .entry))) × (drop (bookWords (word (now (book .entry)) 0)) (now (book .exit)) ≡ drop (bookWords (word (now (book .entry)) 0)) (now (book .entry))) ⌝ }
 {

@@ -174,7 +174,7 @@ fn order_fit(book: &[u64], unit: u64, direction: u64, period: u64, quantity: u64
 }
 
 // The checks of an order behind that of soundness.
-pub fn order_checks(
+pub(crate) fn order_checks(
     book: &[u64],
     unit: u64,
     direction: u64,
@@ -217,7 +217,7 @@ fn next_number(book: &mut [u64])
 }
 
 // "Call phase: it only waits."
-pub fn order_in_call(
+pub(crate) fn order_in_call(
     book: &mut [u64],
     unit: u64,
     direction: u64,
@@ -286,7 +286,7 @@ fn rest_waits(book: &mut [u64], o: Order, left: u64)
 }
 
 // "Rolling phase: it meets opposite orders of its period"
-pub fn order_in_rolling(
+pub(crate) fn order_in_rolling(
     book: &mut [u64],
     unit: u64,
     direction: u64,

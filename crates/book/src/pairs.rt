@@ -64,7 +64,7 @@ fn order_fits(orders: &[u64], k: usize, phase: u64) -> bool
 }
 
 // Whether the first n orders may all stand together.
-pub fn orders_fit(orders: &[u64], n: usize, phase: u64) -> bool
+pub(crate) fn orders_fit(orders: &[u64], n: usize, phase: u64) -> bool
     requires { ⌜ (6 * n ≤ length (now orders)) × (n ≤ 256) ⌝ }
     ensures { λ r. ⌜ r ≡ pairsFit phase (ordersIn (now (orders .entry)) n) ⌝ }
 {

@@ -18,7 +18,7 @@ pub struct Passed {
 }
 
 // The checks of a clear behind that of soundness.
-pub fn clear_checks(book: &[u64], lent: usize) -> u64
+pub(crate) fn clear_checks(book: &[u64], lent: usize) -> u64
     requires { ⌜ Readable (now book) ⌝ }
     ensures { λ r. ⌜ r ≡ firstOf (clearChecks (decode (now (book .entry))) lent) ⌝ }
 {
@@ -75,7 +75,7 @@ fn clear_one(orders: &mut [u64], n: usize, period: u64, rows: &mut [u64], count:
 }
 
 // Clears each period below `end`; periods without an order are skipped.
-pub fn clear_orders(orders: &mut [u64], n: usize, end: u64, rows: &mut [u64]) -> Passed
+pub(crate) fn clear_orders(orders: &mut [u64], n: usize, end: u64, rows: &mut [u64]) -> Passed
     requires { ⌜ Clearable (now orders) (now rows) n n ⌝ }
     ensures { λ r. ⌜ ClearsAll (now (orders .entry)) (now (rows .entry)) n end (r .count) (r .standing) (now (orders .exit)) (now (rows .exit)) ⌝ }
 {
@@ -104,7 +104,7 @@ fn sweep(book: &mut [u64], rows: &mut [u64]) -> usize
 }
 
 // Clears each period of a sound book, books the rows and begins the rolling phase; how many rows there are.
-pub fn clear_effect(book: &mut [u64], rows: &mut [u64]) -> usize
+pub(crate) fn clear_effect(book: &mut [u64], rows: &mut [u64]) -> usize
     requires { ⌜ (soundIn (now book) ≡ true) × (4464 ≤ length (now rows)) ⌝ }
     ensures { λ r. ⌜ AllCleared (now (book .entry)) (now (rows .entry)) r (now (book .exit)) (now (rows .exit)) ⌝ }
 {

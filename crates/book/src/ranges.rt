@@ -35,7 +35,7 @@ impl Offer {
 }
 
 // The book's own figures.
-pub fn head_in(book: &[u64]) -> bool
+pub(crate) fn head_in(book: &[u64]) -> bool
     requires { ⌜ 8 ≤ length (now book) ⌝ }
     ensures { λ r. ⌜ r ≡ headIn (decode (now (book .entry))) ⌝ }
 {
@@ -97,7 +97,7 @@ fn unit_in(book: &[u64], k: usize) -> bool
 }
 
 // The kinds, capacities and assets of all units.
-pub fn units_in(book: &[u64]) -> bool
+pub(crate) fn units_in(book: &[u64]) -> bool
     requires { ⌜ Readable (now book) ⌝ }
     ensures { λ r. ⌜ r ≡ unitsFieldsIn (now (book .entry)) ⌝ }
 {
@@ -113,7 +113,7 @@ pub fn units_in(book: &[u64]) -> bool
 }
 
 // The sum of an offer's amounts, or one more than Energy::MOST where it is more than that.
-pub fn offer_total(book: &[u64], j: usize) -> u64
+pub(crate) fn offer_total(book: &[u64], j: usize) -> u64
     requires { ⌜ (Readable (now book)) × (j < 8) ⌝ }
     ensures { λ r. ⌜ r ≡ min (total (table (periods (word (now (book .entry)) 0)) (amountAt (now (book .entry)) j))) (mostEnergy + 1) ⌝ }
 {
@@ -132,7 +132,7 @@ pub fn offer_total(book: &[u64], j: usize) -> u64
 }
 
 // Whether a unit that is enrolled is a generator.
-pub fn is_generator(book: &[u64], unit: u64) -> bool
+pub(crate) fn is_generator(book: &[u64], unit: u64) -> bool
     requires { ⌜ (Readable (now book)) × (1 ≤ unit) × (unit ≤ word (now book) 5) ⌝ }
     ensures { λ r. ⌜ r ≡ generator (unitOf (decode (now (book .entry))) unit .kind) ⌝ }
 {
@@ -147,7 +147,7 @@ pub fn is_generator(book: &[u64], unit: u64) -> bool
 }
 
 // Whether a partner is none, or an enrolled load for a generator.
-pub fn sides_fit(book: &[u64], unit: u64, partner: u64) -> bool
+pub(crate) fn sides_fit(book: &[u64], unit: u64, partner: u64) -> bool
     requires { ⌜ (Readable (now book)) × (1 ≤ unit) × (unit ≤ word (now book) 5) ⌝ }
     ensures { λ r. ⌜ r ≡ sidesIn (decode (now (book .entry))) unit partner ⌝ }
 {
@@ -206,7 +206,7 @@ fn offer_in(book: &[u64], j: usize) -> bool
 }
 
 // All open offers.
-pub fn offers_in(book: &[u64]) -> bool
+pub(crate) fn offers_in(book: &[u64]) -> bool
     requires { ⌜ Readable (now book) ⌝ }
     ensures { λ r. ⌜ r ≡ every (offerIn (decode (now (book .entry)))) (decode (now (book .entry)) .offers) ⌝ }
 {
@@ -265,7 +265,7 @@ fn order_in(book: &[u64], k: usize) -> bool
 }
 
 // All open orders.
-pub fn orders_in(book: &[u64]) -> bool
+pub(crate) fn orders_in(book: &[u64]) -> bool
     requires { ⌜ Readable (now book) ⌝ }
     ensures { λ r. ⌜ r ≡ every (orderIn (decode (now (book .entry)))) (decode (now (book .entry)) .orders) ⌝ }
 {

@@ -25,7 +25,7 @@ ghost use Rattle.book.specs.Contract.{soundIn};
 ghost use Rattle.book.specs.RowsIn.{Found, takes, partyChecks, TakeFit, TakeChecked, RowsPut, AmountsLess, PartsThere, OfferLessened, PartTaken};
 
 // The place of the open offer of a number, or 8.
-pub fn find_offer(book: &[u64], number: u64) -> usize
+pub(crate) fn find_offer(book: &[u64], number: u64) -> usize
     requires { ⌜ Readable (now book) ⌝ }
     ensures { λ r. ⌜ Found (now (book .entry)) number r ⌝ }
 {
@@ -126,7 +126,7 @@ fn take_fit(book: &[u64], unit: u64, j: usize, quantity: u64, parts: &mut [u64])
 }
 
 // The checks of a take behind that of soundness; where none applies, its parts go to the lent memory.
-pub fn take_checks(
+pub(crate) fn take_checks(
     book: &[u64],
     unit: u64,
     number: u64,

@@ -12,7 +12,7 @@ ghost use Rattle.book.specs.Readable.{Readable};
 ghost use Rattle.book.specs.RowsIn.{rowAt, Small, SmallAt, FiguresPut, Traded, RowTraded, RowFits, RowsFit, smallFigures, RowsTraded};
 
 // Whether a trade in this direction (0 sold, 1 bought) raises the unit's net.
-pub fn raises_net(book: &[u64], unit: u64, direction: u64) -> bool
+pub(crate) fn raises_net(book: &[u64], unit: u64, direction: u64) -> bool
     requires { ⌜ (Readable (now book)) × (1 ≤ unit) × (unit ≤ word (now book) 5) ⌝ }
     ensures { λ r. ⌜ r ≡ raises (unitOf (decode (now (book .entry))) unit .kind) direction ⌝ }
 {
@@ -53,7 +53,14 @@ fn put_figures(
 }
 
 // One party of a row.
-pub fn book_trade(book: &mut [u64], way: u64, direction: u64, period: u64, quantity: u64, unit: u64)
+pub(crate) fn book_trade(
+    book: &mut [u64],
+    way: u64,
+    direction: u64,
+    period: u64,
+    quantity: u64,
+    unit: u64,
+)
     requires { ⌜ (Readable (now book)) × (period < 24 * word (now book) 0) × (1 ≤ unit) × (unit ≤ word (now book) 5) × (direction ≤ 1) × (quantity ≤ mostEnergy) × (SmallAt (now book) (unit - 1) period 2000000000000000000) ⌝ }
     ensures { λ _. ⌜ Traded (now (book .entry)) (now (book .exit)) way direction period quantity unit ⌝ }
 {
@@ -85,7 +92,7 @@ fn book_row(book: &mut [u64], rows: &[u64], i: usize)
 }
 
 // The first count rows.
-pub fn book_rows(book: &mut [u64], rows: &[u64], count: usize)
+pub(crate) fn book_rows(book: &mut [u64], rows: &[u64], count: usize)
     requires { ⌜ (Readable (now book)) × (6 * count ≤ length (now rows)) × (count ≤ 744) × (RowsFit (now book) (now rows) count) × (Small (now book) smallFigures) ⌝ }
     ensures { λ _. ⌜ RowsTraded (now (book .entry)) (now (book .exit)) (now (rows .entry)) count ⌝ }
 {

@@ -14,7 +14,7 @@ ghost use Rattle.book.specs.Contract.{soundIn};
 ghost use Rattle.book.specs.Withdraw.{withdrawChecks};
 
 // The place of the open offer of a number, or how many stand open.
-pub fn offer_place(book: &[u64], number: u64) -> usize
+pub(crate) fn offer_place(book: &[u64], number: u64) -> usize
     requires { ⌜ Readable (now book) ⌝ }
     ensures { λ r. ⌜ (r ≤ word (now (book .entry)) 6) × ((j : ℕ) → j < r → word (now (book .entry)) (200 + 5 * j) ≡ number → ⊥) × (r < word (now (book .entry)) 6 → word (now (book .entry)) (200 + 5 * r) ≡ number) ⌝ }
 {
@@ -30,7 +30,7 @@ pub fn offer_place(book: &[u64], number: u64) -> usize
 }
 
 // The checks of a withdraw behind that of soundness.
-pub fn withdraw_checks(book: &[u64], unit: u64, number: u64) -> u64
+pub(crate) fn withdraw_checks(book: &[u64], unit: u64, number: u64) -> u64
     requires { ⌜ soundIn (now book) ≡ true ⌝ }
     ensures { λ r. ⌜ r ≡ firstOf (withdrawChecks (decode (now (book .entry))) unit number) ⌝ }
 {
@@ -80,7 +80,7 @@ fn shift_amounts(book: &mut [u64], n: usize, j: usize)
 }
 
 // The open offer of a number goes.
-pub fn withdraw_effect(book: &mut [u64], number: u64)
+pub(crate) fn withdraw_effect(book: &mut [u64], number: u64)
     requires { ⌜ (soundIn (now book) ≡ true) × (offerOpen (decode (now book)) number ≡ true) ⌝ }
     ensures { λ _. ⌜ (decode (now (book .exit)) ≡ withOffers (decode (now (book .entry))) (keep (λ o. not (eqb (o .number) number)) (decode (now (book .entry)) .offers))) × (drop (bookWords (word (now (book .entry)) 0)) (now (book .exit)) ≡ drop (bookWords (word (now (book .entry)) 0)) (now (book .entry))) ⌝ }
 {
