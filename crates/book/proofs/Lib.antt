@@ -78,3 +78,4 @@ pub mod OrderFitLaws
 pub mod WaitLaws
 pub mod RestWaitLaws
 pub mod RollCallLaws
+pub mod WholeLaws

@@ -1,16 +1,17 @@
 -- What the functions that book rows in a book's memory promise of it.
 use Prim.Native.Nat.{ℕ, _+_, _-_, _*_, _≤_, _<_}
 use mathlib.Core.Path.{_≡_}
-use mathlib.Core.Bool.{Bool}
+use mathlib.Core.Bool.{Bool, not}
 use mathlib.Core.List.{List, [], _∷_, _++_}
 use lib.ListN.{length, getD, set, take, drop}
+use lib.Dec.{eqb}
 use Rattle.measures.specs.Ranges.{mostEnergy}
-use Rattle.measures.specs.Lists.{table}
+use Rattle.measures.specs.Lists.{keep, table}
 use Rattle.measures.specs.Sharing.{parts}
 use Rattle.limits.specs.Units.{periods}
 use Rattle.matching.specs.Orders.{Row}
 use Rattle.matching.specs.Memory.{written}
-use Rattle.book.specs.Book.{Book, withOffers}
+use Rattle.book.specs.Book.{OpenOffer, Book, withOffers}
 use Rattle.book.specs.Trades.{booked, rowBooked, rowsBooked}
 use Rattle.book.specs.Fit.{Declaration}
 use Rattle.book.specs.Offer.{raisingAmounts}
@@ -146,3 +147,9 @@ pub record PartTaken (m x : List ℕ) (u j : ℕ) (l lent out : List ℕ) (k : �
   pub book : decode x ≡ rowsBooked (takeRows (decode m) (offerAt m (word m 0) j) u (take (24 * word m 0) l)) (withOffers (decode m) (set (decode m .offers) j (offerLess (offerAt m (word m 0) j) (take (24 * word m 0) l))))
   pub long : length x ≡ length m
   pub past : (i : ℕ) → bookWords (word m 0) ≤ i → word x i ≡ word m i
+
+-- x is m after a take of all that is left of the offer of number n at place j
+pub record WholeTaken (m x : List ℕ) (u n j : ℕ) (l lent out : List ℕ) (k : ℕ) : Type 0 where
+  pub rows : RowsPut lent out k (takeRows (decode m) (offerAt m (word m 0) j) u (take (24 * word m 0) l))
+  pub book : decode x ≡ rowsBooked (takeRows (decode m) (offerAt m (word m 0) j) u (take (24 * word m 0) l)) (withOffers (decode m) (keep (λ (o : OpenOffer). not (eqb (o .number) n)) (decode m .offers)))
+  pub past : drop (bookWords (word m 0)) x ≡ drop (bookWords (word m 0)) m

@@ -3,6 +3,7 @@ use crate::fits::misfit;
 use crate::ranges::is_generator;
 use crate::ranges::offer_total;
 use crate::trades::book_rows;
+use crate::withdrawing::withdraw_effect;
 use matching::orders::Row;
 use matching::orders::put_row;
 use measures::Energy;
@@ -17,12 +18,13 @@ ghost use Rattle.measures.specs.Ranges.{mostEnergy};
 ghost use Rattle.measures.specs.Lists.{table};
 ghost use Rattle.measures.specs.Sharing.{total};
 ghost use Rattle.limits.specs.Units.{periods};
+ghost use Rattle.book.specs.Book.{offerOpen};
 ghost use Rattle.book.specs.Take.{takeRowsFrom, takeRows};
 ghost use Rattle.book.specs.Refusals.{firstOf};
 ghost use Rattle.book.specs.Layout.{word, amountAt, offerAt, decode};
 ghost use Rattle.book.specs.Readable.{Readable};
 ghost use Rattle.book.specs.Contract.{soundIn};
-ghost use Rattle.book.specs.RowsIn.{Found, takes, partyChecks, TakeFit, TakeChecked, RowsPut, AmountsLess, PartsThere, OfferLessened, PartTaken};
+ghost use Rattle.book.specs.RowsIn.{Found, takes, partyChecks, TakeFit, TakeChecked, RowsPut, AmountsLess, PartsThere, OfferLessened, PartTaken, WholeTaken};
 
 // The place of the open offer of a number, or 8.
 pub(crate) fn find_offer(book: &[u64], number: u64) -> usize
@@ -236,6 +238,24 @@ fn take_part(book: &mut [u64], unit: u64, j: usize, parts: &[u64], rows: &mut [u
 {
     let count = take_rows(book, unit, j, parts, rows);
     lessen_offer(book, j, parts);
+    book_rows(book, rows, count);
+    count
+}
+
+// A take of all that is left of the offer of a number, at place j: the offer goes.
+fn take_whole(
+    book: &mut [u64],
+    unit: u64,
+    number: u64,
+    j: usize,
+    parts: &[u64],
+    rows: &mut [u64],
+) -> usize
+    requires { ⌜ (soundIn (now book) ≡ true) × (j < word (now book) 6) × (1 ≤ unit) × (unit ≤ word (now book) 5) × (744 ≤ length (now parts)) × (4464 ≤ length (now rows)) × (PartsThere (now book) j (now parts)) × (offerOpen (decode (now book)) number ≡ true) ⌝ }
+    ensures { λ r. ⌜ WholeTaken (now (book .entry)) (now (book .exit)) unit number j (now (parts .entry)) (now (rows .entry)) (now (rows .exit)) r ⌝ }
+{
+    let count = take_rows(book, unit, j, parts, rows);
+    withdraw_effect(book, number);
     book_rows(book, rows, count);
     count
 }
