@@ -59,11 +59,15 @@ kept-fits m x r k f =
     let b = k .head 5 (omega arith) in
     record { period = omega arith; sellerFrom = f .sellerFrom; sellerTo = omega arith; buyerFrom = f .buyerFrom; buyerTo = omega arith; quantity = f .quantity }
 
-pub kept-past : (m x : List ℕ) → Kept m x → drop (bookWords (word m 0)) x ≡ drop (bookWords (word m 0)) m
-kept-past m x k = ext-getD 0 (drop (bookWords (word m 0)) x) (drop (bookWords (word m 0)) m) (simp length-drop (rw (k .long) refl)) at
+-- memory with the same words from a place on
+pub past-dropped : (n : ℕ) (m x : List ℕ) → length x ≡ length m → ((i : ℕ) → n ≤ i → word x i ≡ word m i) → drop n x ≡ drop n m
+past-dropped n m x l h = ext-getD 0 (drop n x) (drop n m) (simp length-drop (rw l refl)) at
   where
-    at : (i : ℕ) → i < length (drop (bookWords (word m 0)) x) → getD (drop (bookWords (word m 0)) x) i 0 ≡ getD (drop (bookWords (word m 0)) m) i 0
-    at i h = getD-drop (bookWords (word m 0)) x i 0 ∙ k .past (bookWords (word m 0) + i) (omega arith) ∙ sym (getD-drop (bookWords (word m 0)) m i 0)
+    at : (i : ℕ) → i < length (drop n x) → getD (drop n x) i 0 ≡ getD (drop n m) i 0
+    at i k = getD-drop n x i 0 ∙ h (n + i) (omega arith) ∙ sym (getD-drop n m i 0)
+
+pub kept-past : (m x : List ℕ) → Kept m x → drop (bookWords (word m 0)) x ≡ drop (bookWords (word m 0)) m
+kept-past m x k = past-dropped (bookWords (word m 0)) m x (k .long) (k .past)
 
 pub small-more : (m : List ℕ) (a b : ℕ) → a ≤ b → Small m a → Small m b
 small-more m a b h s k p hk hp = let t = s k p hk hp in record { raised = omega arith; lowered = omega arith; volume = omega arith }

@@ -19,11 +19,13 @@ use Rattle.matching.proofs.RowLaws.{written-length}
 use Rattle.book.specs.Book.{Book, unitOf}
 use Rattle.book.specs.Trades.{rowsBooked}
 use Rattle.book.specs.Take.{wayOf, takeRowsFrom, takeRows}
+use Rattle.book.specs.Opening.{bookWords}
 use Rattle.book.specs.Layout.{word, amountAt, offerAt, decode}
 use Rattle.book.specs.Contract.{soundIn}
 use Rattle.book.specs.Readable.{Readable}
 use Rattle.book.specs.RowsIn.{rowAt, rowsIn, Small, RowFits, RowsFit, smallFigures, RowsTraded, RowsPut, PartsThere, OfferLessened, PartTaken}
 use Rattle.book.proofs.MadeLaws.{sound-readable}
+use Rattle.book.proofs.BookingLaws.{past-dropped}
 use Rattle.book.proofs.SmallLaws.{noRow, row-written, rows-written, sound-small}
 use Rattle.book.proofs.PartyLaws.{offer-sound}
 use Rattle.book.proofs.GatherLaws.{at-most-total}
@@ -151,8 +153,7 @@ module _ (m : List ℕ) (u j : ℕ) (l : List ℕ) (s : soundIn m ≡ true) (hj 
       record {
         rows = r;
         book = t .book ∙ ap (λ (z : List Row). rowsBooked z (decode x)) q ∙ ap (λ (z : Book). rowsBooked (takeRows (decode m) (offerAt m (word m 0) j) u (take (24 * word m 0) l)) z) (f .book);
-        long = t .kept .long ∙ f .long;
-        past = λ i h. t .kept .past i (omega arith) ∙ f .past i h;
+        past = past-dropped (bookWords (word m 0)) m y (t .kept .long ∙ f .long) (λ i h. t .kept .past i (omega arith) ∙ f .past i h);
       }
 
   pub rows-asks : (rows : List ℕ) → 4464 ≤ length rows

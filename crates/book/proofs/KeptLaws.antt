@@ -51,12 +51,15 @@ module _ {A : Type 0} (num : A → ℕ) (l : List A) (d : A) (z : num d ≡ 0) (
       go (no u) = let t = rising-at (map num l) rises k i (omega arith) (omega (arith, length-map l num)) in omega (arith, num-at i, num-at k)
 
   module _ (n k : ℕ) (hk : k < length l) (e : num (getD l k d) ≡ n) where
+    pub number-apart : (i : ℕ) → i < length l → (i ≡ k → ⊥) → eqb (num (getD l i d)) n ≡ false
+    number-apart i u ne = ne-eqb _ _ (λ g. apart i k u hk ne (g ∙ sym e))
+
     pub number-kept : keep (λ (o : A). eqb (num o) n) l ≡ getD l k d ∷ []
-    number-kept = keep-one (λ (o : A). eqb (num o) n) l d k hk (eq-eqb _ _ e) (λ i u ne. ne-eqb _ _ (λ g. apart i k u hk ne (g ∙ sym e)))
+    number-kept = keep-one (λ (o : A). eqb (num o) n) l d k hk (eq-eqb _ _ e) number-apart
 
     pub number-gone : keep (λ (o : A). not (eqb (num o) n)) l ≡ take k l ++ drop (k + 1) l
     number-gone =
-        keep-but (λ (o : A). not (eqb (num o) n)) l d k hk (ap not (eq-eqb _ _ e)) (λ i u ne. ap not (ne-eqb _ _ (λ g. apart i k u hk ne (g ∙ sym e))))
+        keep-but (λ (o : A). not (eqb (num o) n)) l d k hk (ap not (eq-eqb _ _ e)) (λ i u ne. ap not (number-apart i u ne))
         ∙ rw (add-one k) refl
 
   pub number-none : (n : ℕ) → ((i : ℕ) → i < length l → num (getD l i d) ≡ n → ⊥) → keep (λ (o : A). eqb (num o) n) l ≡ []

@@ -11,11 +11,11 @@ use Rattle.measures.specs.Sharing.{parts}
 use Rattle.limits.specs.Units.{periods}
 use Rattle.matching.specs.Orders.{Row}
 use Rattle.matching.specs.Memory.{written}
-use Rattle.book.specs.Book.{OpenOffer, Book, withOffers}
+use Rattle.book.specs.Book.{OpenOffer, Book, offerOf, withOffers}
 use Rattle.book.specs.Trades.{booked, rowBooked, rowsBooked}
 use Rattle.book.specs.Fit.{Declaration}
 use Rattle.book.specs.Offer.{raisingAmounts}
-use Rattle.book.specs.Take.{takenParts, takeChecks, takeRows, offerLess}
+use Rattle.book.specs.Take.{takenParts, takeChecks, takeRows, offerLess, offersLess}
 use Rattle.book.specs.Refusals.{Check, firstOf, unknownUnit, fewRows, badQuantity, noSuchOffer, canTake, cannotTake, hourMisfit, termMisfit, volumeMisfit}
 use Rattle.book.specs.Opening.{bookWords}
 use Rattle.book.specs.Layout.{word, amountAt, offerAt, decode}
@@ -145,11 +145,22 @@ pub record OfferLessened (m x : List ℕ) (j : ℕ) (ps : List ℕ) : Type 0 whe
 pub record PartTaken (m x : List ℕ) (u j : ℕ) (l lent out : List ℕ) (k : ℕ) : Type 0 where
   pub rows : RowsPut lent out k (takeRows (decode m) (offerAt m (word m 0) j) u (take (24 * word m 0) l))
   pub book : decode x ≡ rowsBooked (takeRows (decode m) (offerAt m (word m 0) j) u (take (24 * word m 0) l)) (withOffers (decode m) (set (decode m .offers) j (offerLess (offerAt m (word m 0) j) (take (24 * word m 0) l))))
-  pub long : length x ≡ length m
-  pub past : (i : ℕ) → bookWords (word m 0) ≤ i → word x i ≡ word m i
+  pub past : drop (bookWords (word m 0)) x ≡ drop (bookWords (word m 0)) m
 
 -- x is m after a take of all that is left of the offer of number n at place j
 pub record WholeTaken (m x : List ℕ) (u n j : ℕ) (l lent out : List ℕ) (k : ℕ) : Type 0 where
   pub rows : RowsPut lent out k (takeRows (decode m) (offerAt m (word m 0) j) u (take (24 * word m 0) l))
   pub book : decode x ≡ rowsBooked (takeRows (decode m) (offerAt m (word m 0) j) u (take (24 * word m 0) l)) (withOffers (decode m) (keep (λ (o : OpenOffer). not (eqb (o .number) n)) (decode m .offers)))
+  pub past : drop (bookWords (word m 0)) x ≡ drop (bookWords (word m 0)) m
+
+-- the lent parts are those of the take of a quantity of number n, with something behind them
+pub record PartsLent (m : List ℕ) (n q : ℕ) (l : List ℕ) : Type 0 where
+  pub room : 744 ≤ length l
+  pub behind : List ℕ
+  pub parts : l ≡ takenParts (decode m) n q ++ drop (periods (word m 0)) behind
+
+-- x is m after the take of a quantity of number n, with its rows
+pub record TakeMade (m x : List ℕ) (u n q : ℕ) (lent out : List ℕ) (k : ℕ) : Type 0 where
+  pub book : decode x ≡ rowsBooked (takeRows (decode m) (offerOf (decode m) n) u (takenParts (decode m) n q)) (withOffers (decode m) (offersLess n (takenParts (decode m) n q) (decode m .offers)))
+  pub rows : RowsPut lent out k (takeRows (decode m) (offerOf (decode m) n) u (takenParts (decode m) n q))
   pub past : drop (bookWords (word m 0)) x ≡ drop (bookWords (word m 0)) m

@@ -15,13 +15,15 @@ use crate::ordering::order_in_rolling;
 use crate::periods::clear_checks;
 use crate::periods::clear_effect;
 use crate::sound::sound_book;
+use crate::taking::take_checks;
+use crate::taking::take_effect;
 use crate::withdrawing::withdraw_checks;
 use crate::withdrawing::withdraw_effect;
 ghost use mathlib.Core.Path.{_≡_};
 ghost use mathlib.Core.List.{List, []};
 ghost use lib.ListN.{length};
 ghost use Rattle.book.specs.Contract.{Made, Curved};
-ghost use Rattle.book.specs.Calls.{enrol as callEnrol, offer as callOffer, withdraw as callWithdraw, cancel as callCancel, close as callClose, clear as callClear, order as callOrder};
+ghost use Rattle.book.specs.Calls.{enrol as callEnrol, offer as callOffer, take as callTake, withdraw as callWithdraw, cancel as callCancel, close as callClose, clear as callClear, order as callOrder};
 
 // The 48 points of a unit on a day.
 pub fn curve(book: &[u64], unit: u64, day: u64, points: &mut [u64]) -> Answer
@@ -68,6 +70,22 @@ pub fn offer(book: &mut [u64], unit: u64, partner: u64, price: u64, amounts: &[u
     let number = book[4] + 1;
     offer_effect(book, unit, partner, price, amounts);
     Answer::Done(number, 0)
+}
+
+// Takes a quantity of an open offer: a row for each period that gives some.
+pub fn take(book: &mut [u64], unit: u64, number: u64, quantity: u64, rows: &mut [u64]) -> Answer
+    ensures { λ r. ⌜ Made (now (book .entry)) (now (rows .entry)) (callTake unit number quantity (length (now (rows .entry)))) r (now (book .exit)) (now (rows .exit)) ⌝ }
+{
+    if !sound_book(book) {
+        return Answer::Refused(1);
+    }
+    let mut parts = [0u64; 744];
+    let no = take_checks(book, unit, number, quantity, rows.len(), &mut parts);
+    if no != 0 {
+        return Answer::Refused(no);
+    }
+    let count = take_effect(book, unit, number, quantity, &parts, rows);
+    Answer::Done(0, count)
 }
 
 // Removes an own offer of which nothing is taken.

@@ -19,12 +19,12 @@ ghost use Rattle.measures.specs.Lists.{table};
 ghost use Rattle.measures.specs.Sharing.{total};
 ghost use Rattle.limits.specs.Units.{periods};
 ghost use Rattle.book.specs.Book.{offerOpen};
-ghost use Rattle.book.specs.Take.{takeRowsFrom, takeRows};
+ghost use Rattle.book.specs.Take.{takeChecks, takeRowsFrom, takeRows};
 ghost use Rattle.book.specs.Refusals.{firstOf};
 ghost use Rattle.book.specs.Layout.{word, amountAt, offerAt, decode};
 ghost use Rattle.book.specs.Readable.{Readable};
 ghost use Rattle.book.specs.Contract.{soundIn};
-ghost use Rattle.book.specs.RowsIn.{Found, takes, partyChecks, TakeFit, TakeChecked, RowsPut, AmountsLess, PartsThere, OfferLessened, PartTaken, WholeTaken};
+ghost use Rattle.book.specs.RowsIn.{Found, takes, partyChecks, TakeFit, TakeChecked, RowsPut, AmountsLess, PartsThere, OfferLessened, PartTaken, WholeTaken, PartsLent, TakeMade};
 
 // The place of the open offer of a number, or 8.
 pub(crate) fn find_offer(book: &[u64], number: u64) -> usize
@@ -258,4 +258,24 @@ fn take_whole(
     withdraw_effect(book, number);
     book_rows(book, rows, count);
     count
+}
+
+// The take of a quantity of an open number, whose parts are lent.
+pub(crate) fn take_effect(
+    book: &mut [u64],
+    unit: u64,
+    number: u64,
+    quantity: u64,
+    parts: &[u64],
+    rows: &mut [u64],
+) -> usize
+    requires { ⌜ (soundIn (now book) ≡ true) × (0 ≡ firstOf (takeChecks (decode (now book)) unit number quantity (length (now rows)))) × (PartsLent (now book) number quantity (now parts)) ⌝ }
+    ensures { λ r. ⌜ TakeMade (now (book .entry)) (now (book .exit)) unit number quantity (now (rows .entry)) (now (rows .exit)) r ⌝ }
+{
+    let j = find_offer(book, number);
+    let whole = offer_total(book, j);
+    if quantity == whole {
+        return take_whole(book, unit, number, j, parts, rows);
+    }
+    take_part(book, unit, j, parts, rows)
 }

@@ -1,0 +1,74 @@
+-- `take_effect`: all that is left, or a part of it.
+use mathlib.Core.Path.{_∙_}
+use lib.ListN.{length}
+use Rattle.book.proofs.MadeLaws.{sound-readable}
+use Rattle.book.proofs.EffectLaws.{there, take-some, take-all, take-less, part-asks, all-asks, part-made, whole-made}
+use borrow.Author.Needs.{needs}
+use Rattle.book.proofs.taking.take_effect.Statement.{statement}
+use Rattle.book.proofs.taking.take_effect.Tie as tie
+
+find-offer-requires : tie.Need-find-offer-requires
+find-offer-requires c κs = sound-readable _ (c .before .before .before .before .pre .0)
+
+offer-total-requires : tie.Need-offer-total-requires
+offer-total-requires c κs =
+    let a = c .before .before .before .before .before .before .args in
+    let p = c .before .before .before .before .before .before .pre in
+    (sound-readable _ (p .0), there (a .book .now) (a .unit) (a .number) (a .quantity) (length (a .rows .now)) (p .0) (p .1) _ (c .before .find-offer .ensures))
+
+take-whole-requires : tie.Need-take-whole-requires
+take-whole-requires c κs =
+    let a = c .before .before .before .before .before .before .before .before .before .before .args in
+    let p = c .before .before .before .before .before .before .before .before .before .before .pre in
+    all-asks (a .book .now) (a .unit) (a .number) (a .quantity) (length (a .rows .now)) (p .0) (p .1) _ (c .before .before .before .before .before .find-offer .ensures) (a .parts .now) (p .2)
+
+same-length : tie.Need-same-length
+same-length c = search needs
+
+same-length-2 : tie.Need-same-length-2
+same-length-2 c = search needs
+
+returns : tie.Need-returns
+returns c =
+    let a = c .before .before .before .before .before .before .before .before .before .before .before .before .before .before .before .args in
+    let p = c .before .before .before .before .before .before .before .before .before .before .before .before .before .before .before .pre in
+    let f = c .before .before .before .before .before .before .before .before .before .before .find-offer .ensures in
+    whole-made (a .book .now) (a .number) (a .quantity) _ f (there (a .book .now) (a .unit) (a .number) (a .quantity) (length (a .rows .now)) (p .0) (p .1) _ f) (p .2 .behind) (a .parts .now) (p .2 .parts) _ (a .unit) _ _ _
+    (c .before .before .before .before .take-whole .ensures) (p .0) (take-some (a .book .now) (a .unit) (a .number) (a .quantity) (length (a .rows .now)) (p .0) (p .1) _ f)
+    (c .before .before .before .before .before .before .before .if1 .taken ∙ take-all (a .book .now) (a .unit) (a .number) (a .quantity) (length (a .rows .now)) (p .0) (p .1) _ f _ (c .before .before .before .before .before .before .before .before .offer-total .ensures))
+
+take-part-requires : tie.Need-take-part-requires
+take-part-requires c κs =
+    let a = c .before .before .before .before .before .before .before .before .before .before .args in
+    let p = c .before .before .before .before .before .before .before .before .before .before .pre in
+    part-asks (a .book .now) (a .unit) (a .number) (a .quantity) (length (a .rows .now)) (p .0) (p .1) _ (c .before .before .before .before .before .find-offer .ensures) (a .parts .now) (p .2)
+
+same-length-3 : tie.Need-same-length-3
+same-length-3 c = search needs
+
+same-length-4 : tie.Need-same-length-4
+same-length-4 c = search needs
+
+returns-2 : tie.Need-returns-2
+returns-2 c =
+    let a = c .before .before .before .before .before .before .before .before .before .before .before .before .before .before .before .args in
+    let p = c .before .before .before .before .before .before .before .before .before .before .before .before .before .before .before .pre in
+    let f = c .before .before .before .before .before .before .before .before .before .before .find-offer .ensures in
+    part-made (a .book .now) (a .number) (a .quantity) _ f (there (a .book .now) (a .unit) (a .number) (a .quantity) (length (a .rows .now)) (p .0) (p .1) _ f) (p .2 .behind) (a .parts .now) (p .2 .parts) _ (a .unit) _ _ _
+    (c .before .before .before .before .take-part .ensures) (take-some (a .book .now) (a .unit) (a .number) (a .quantity) (length (a .rows .now)) (p .0) (p .1) _ f)
+    (take-less (a .book .now) (a .unit) (a .number) (a .quantity) (length (a .rows .now)) (p .0) (p .1) _ f _ (c .before .before .before .before .before .before .before .before .offer-total .ensures) (c .before .before .before .before .before .before .before .if1 .left))
+
+pub take-effect-spec : {M : Type 1} → statement M
+take-effect-spec =
+    tie.close
+    (tie.spec
+    find-offer-requires
+    offer-total-requires
+    take-whole-requires
+    same-length
+    same-length-2
+    returns
+    take-part-requires
+    same-length-3
+    same-length-4
+    returns-2)
