@@ -9,6 +9,7 @@ pub mod Readable
 pub mod Closing
 pub mod RowsIn
 pub mod Fitting
+pub mod Whole
 pub mod Enrol
 pub mod Offer
 pub mod Take

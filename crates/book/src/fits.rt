@@ -81,9 +81,9 @@ fn add_offers(book: &[u64], unit: u64, totals: &mut [u64])
 }
 
 // The limits of a unit over the term.
-struct Bounds {
-    term: u64,
-    volume: u64,
+pub(crate) struct Bounds {
+    pub term: u64,
+    pub volume: u64,
 }
 
 // The largest volume limit, six fifths of Energy::MOST.
@@ -98,7 +98,7 @@ fn unit_at(book: &[u64], k: usize) -> Unit
 }
 
 // The term and volume limit of the unit at place k.
-fn bounds_of(book: &[u64], k: usize) -> Bounds
+pub(crate) fn bounds_of(book: &[u64], k: usize) -> Bounds
     requires { ⌜ (Ranged (now book)) × (k < word (now book) 5) ⌝ }
     ensures { λ r. ⌜ (r .term ≡ termAt (now (book .entry)) k) × (r .volume ≡ volumeAt (now (book .entry)) k) ⌝ }
 {
@@ -138,7 +138,7 @@ fn hour_at(book: &[u64], k: usize, p: usize) -> u64
 
 // 1 where the direction of the unit at place k is out of range in period p, 19 where x raising and y lowering do not fit
 // its hour, or 0.
-fn period_fit(book: &[u64], k: usize, p: usize, x: u64, y: u64) -> u64
+pub(crate) fn period_fit(book: &[u64], k: usize, p: usize, x: u64, y: u64) -> u64
     requires { ⌜ (Ranged (now book)) × (k < word (now book) 5) × (p < periods (word (now book) 0)) ⌝ }
     ensures { λ r. ⌜ r ≡ periodMisfit (wayHolds (now (book .entry)) k p) (hourHolds (now (book .entry)) k p x y) ⌝ }
 {

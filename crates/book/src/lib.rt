@@ -13,8 +13,10 @@ mod pairs;
 mod periods;
 mod ranges;
 mod sound;
+mod standing;
 mod taking;
 mod trades;
+mod whole;
 mod withdrawing;
 
 // What a call answers: its number and count of rows, or the refusal.

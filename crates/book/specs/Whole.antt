@@ -1,0 +1,81 @@
+-- What the functions that check all units, period by period, promise one another.
+use Prim.Native.Nat.{ℕ, _+_, _-_, _*_, _≤_, _<_}
+use mathlib.Core.Path.{_≡_}
+use mathlib.Core.Bool.{Bool, true, cond}
+use mathlib.Core.List.{List, [], _∷_}
+use lib.ListN.{length, getD, set}
+use lib.Dec.{leb}
+use Rattle.measures.specs.Lists.{holds, sum, all}
+use Rattle.limits.specs.Units.{periods, generator}
+use Rattle.book.specs.Layout.{word}
+use Rattle.book.specs.Fitting.{Added, orderShare, offerShare, wayHolds, hourHolds, termPart, volumePart, termAt, volumeAt}
+
+-- t is one more than the place of the last order of period p among the first n, or 0 where there is none
+pub record Latest (m : List ℕ) (p t n : ℕ) : Type 0 where
+  pub to : t ≤ n
+  pub own : 0 < t → word m (240 + 6 * (t - 1) + 3) ≡ p
+  pub none : (i : ℕ) → t ≤ i → i < n → word m (240 + 6 * i + 3) ≡ p → ⊥
+
+-- the orders linked by period: the last of each period, and the one before each order
+pub record Linked (m last before : List ℕ) : Type 0 where
+  pub ofPeriod : (p : ℕ) → p < periods (word m 0) → Latest m p (getD last p 0) (word m 7)
+  pub ofOrder : (k : ℕ) → k < word m 7 → Latest m (word m (240 + 6 * k + 3)) (getD before k 0) k
+
+-- the direction that raises the unit at place k
+unfoldable pub raisingWay : List ℕ → ℕ → ℕ
+raisingWay m k = cond (generator (word m (8 + 3 * k))) 0 1
+
+-- what the order at place i raises and lowers of the unit at place k in a period
+unfoldable pub orderRaises : List ℕ → ℕ → ℕ → ℕ → ℕ
+orderRaises m i p k = orderShare m (k + 1) (raisingWay m k) i p
+
+unfoldable pub orderLowers : List ℕ → ℕ → ℕ → ℕ → ℕ
+orderLowers m i p k = orderShare m (k + 1) (1 - raisingWay m k) i p
+
+-- what all offers, and all orders, raise and lower of it
+unfoldable pub offersRaise : List ℕ → ℕ → ℕ → ℕ
+offersRaise m p k = sum (word m 6) (λ j. offerShare m (k + 1) j p)
+
+unfoldable pub ordersRaise : List ℕ → ℕ → ℕ → ℕ
+ordersRaise m p k = sum (word m 7) (λ i. orderRaises m i p k)
+
+unfoldable pub ordersLower : List ℕ → ℕ → ℕ → ℕ
+ordersLower m p k = sum (word m 7) (λ i. orderLowers m i p k)
+
+-- x and y are the amounts of the first 64 places, and x′ and y′ the same with what is named added
+pub record BothAdded (x y x′ y′ : List ℕ) (f h : ℕ → ℕ) (g : ℕ) : Type 0 where
+  pub raising : Added 64 x x′ f g
+  pub lowering : Added 64 y y′ h g
+
+-- the tests of the unit at place k in period p, where x raises and y lowers
+unfoldable pub cellHolds : List ℕ → ℕ → ℕ → ℕ → ℕ → Bool
+cellHolds m p k x y = holds (wayHolds m k p ∷ hourHolds m k p x y ∷ leb (word m (1779 + 328 * p + 5 * k)) 4_800_000_000 ∷ [])
+
+-- r says whether the unit at place k passes in period p; if so, what it adds stands in the sums
+pub record CellDone (m : List ℕ) (p k x y : ℕ) (w v : List ℕ) (r : Bool) (w′ v′ : List ℕ) : Type 0 where
+  pub answer : r ≡ cellHolds m p k x y
+  pub whole : r ≡ true → w′ ≡ set w k (getD w k 0 + termPart m k p x)
+  pub volume : r ≡ true → v′ ≡ set v k (getD v k 0 + volumePart m k p x y)
+
+-- the same of all units, where x raises and y lowers each
+pub record CellsDone (m : List ℕ) (p : ℕ) (x y : ℕ → ℕ) (w v : List ℕ) (r : Bool) (w′ v′ : List ℕ) : Type 0 where
+  pub answer : r ≡ all (word m 5) (λ k. cellHolds m p k (x k) (y k))
+  pub whole : r ≡ true → Added (word m 5) w w′ (λ k. termPart m k p (x k)) 5_000_000
+  pub volume : r ≡ true → Added (word m 5) v v′ (λ k. volumePart m k p (x k) (y k)) 5_000_000_000_000
+
+-- what is open of the unit at place k in period p
+unfoldable pub openUp : List ℕ → ℕ → ℕ → ℕ
+openUp m p k = offersRaise m p k + ordersRaise m p k
+
+unfoldable pub openDown : List ℕ → ℕ → ℕ → ℕ
+openDown m p k = ordersLower m p k
+
+-- the same of all periods below n
+pub record PeriodsDone (m : List ℕ) (n : ℕ) (w v : List ℕ) (r : Bool) (w′ v′ : List ℕ) : Type 0 where
+  pub answer : r ≡ all n (λ p. all (word m 5) (λ k. cellHolds m p k (openUp m p k) (openDown m p k)))
+  pub whole : r ≡ true → Added (word m 5) w w′ (λ k. sum n (λ p. termPart m k p (openUp m p k))) (5_000_000 * n)
+  pub volume : r ≡ true → Added (word m 5) v v′ (λ k. sum n (λ p. volumePart m k p (openUp m p k) (openDown m p k))) (5_000_000_000_000 * n)
+
+-- whether the sums of the unit at place k are within its limits
+unfoldable pub sumsHold : List ℕ → List ℕ → List ℕ → ℕ → Bool
+sumsHold m w v k = holds (leb (getD w k 0) (termAt m k) ∷ leb (getD v k 0) (volumeAt m k) ∷ [])
