@@ -2,11 +2,11 @@
 use Prim.Native.Nat.{ℕ, _+_, _-_, _*_, _≤_, _<_}
 use mathlib.Core.Path.{_≡_, refl, sym, ap, _∙_}
 use mathlib.Core.Bool.{Bool, true, false, cond, _&&_}
-use mathlib.Core.List.{List}
+use mathlib.Core.List.{List, [], _∷_}
 use native.Mathlib.Omega.{arith}
 use lib.ListN.{getD}
 use lib.Dec.{eqb, leb}
-use Rattle.measures.specs.Lists.{sum, every, all}
+use Rattle.measures.specs.Lists.{holds, sum, every, all}
 use Rattle.measures.proofs.RangeLaws.{In}
 use Rattle.measures.proofs.ListLaws.{all-ext, sum-ext, sumOf-table, every-table, table-at}
 use Rattle.limits.specs.Units.{periods, generator}
@@ -15,9 +15,9 @@ use Rattle.matching.specs.Orders.{Order as OpenOrder}
 use Rattle.matching.specs.Memory.{orderAt, ordersIn}
 use Rattle.book.specs.Book.{Figures, noFigures, Unit, OpenOffer, unitOf, figuresOf}
 use Rattle.book.specs.Trades.{raises, lowers}
-use Rattle.book.specs.Fit.{Declaration, openOrders, openOffers, openRaising, openLowering, raisingToday, loweringToday, hourFits, termOf, termFits, volumeFits}
+use Rattle.book.specs.Fit.{Declaration, nothing, unitFits, openOrders, openOffers, openRaising, openLowering, raisingToday, loweringToday, hourFits, termOf, termFits, volumeFits}
 use Rattle.book.specs.Layout.{word, figuresAt, amountAt, offerAt, decode, ordersPart}
-use Rattle.book.specs.Readable.{waysIn, declared, misfitOf, Fitted}
+use Rattle.book.specs.Readable.{waysIn, unitWhole, declared, misfitOf, Fitted}
 use Rattle.book.specs.Fitting.{Added, orderShare, offerShare, wayHolds, hourHolds, termPart, volumePart, termAt, volumeAt, UnitCame}
 use Rattle.book.proofs.RangeFacts.{unit-at, order-word}
 
@@ -136,6 +136,22 @@ module _ (m : List ℕ) (u : ℕ) (h : In 1 (word m 5) u) (d : Declaration) (up 
         clean = λ w. rw (hours-all, term-all, volume-all) at (c .clean (sym (ways-at m u h) ∙ w));
         dirty = λ w. c .dirty (sym (ways-at m u h) ∙ w);
       }
+
+-- a unit that fits with nothing declared, by the totals of what is open
+pub whole-is : (m : List ℕ) (u : ℕ) → In 1 (word m 5) u → (up down : List ℕ)
+    → ((p : ℕ) → p < periods (word m 0) → getD up p 0 ≡ openRaising (decode m) u p) → ((p : ℕ) → p < periods (word m 0) → getD down p 0 ≡ openLowering (decode m) u p)
+    → unitWhole (decode m) u
+    ≡ (all (periods (word m 0)) (wayHolds m (u - 1))
+    && holds
+    (all (periods (word m 0)) (λ p. hourHolds m (u - 1) p (getD up p 0) (getD down p 0))
+    ∷ leb (sum (periods (word m 0)) (λ p. termPart m (u - 1) p (getD up p 0))) (termAt m (u - 1))
+    ∷ leb (sum (periods (word m 0)) (λ p. volumePart m (u - 1) p (getD up p 0) (getD down p 0))) (volumeAt m (u - 1))
+    ∷ []))
+unfolding unitWhole unitFits
+whole-is m u h up down ups downs =
+    let a : (p : ℕ) → p < periods (word m 0) → getD up p 0 ≡ 0 + openRaising (decode m) u p = λ p l. let e = ups p l in omega arith in
+    let b : (p : ℕ) → p < periods (word m 0) → getD down p 0 ≡ 0 + openLowering (decode m) u p = λ p l. let e = downs p l in omega arith in
+    sym (rw (ways-at m u h, hours-all m u h nothing up down a b, term-all m u h nothing up down a b, volume-all m u h nothing up down a b) refl)
 
 -- the totals that the passes over offers and orders leave
 module _ (m : List ℕ) (u : ℕ) (h : In 1 (word m 5) u) (few : word m 7 ≤ 256) where

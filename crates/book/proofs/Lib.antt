@@ -73,6 +73,7 @@ pub mod RolledTallyLaws
 pub mod OrderTallyLaws
 pub mod ListsLaws
 pub mod TraceLaws
+pub mod UnitsFitLaws
 pub mod OrderCheckLaws
 pub mod OrderFitLaws
 pub mod WaitLaws

@@ -45,33 +45,6 @@ module _ (b : Book) (u : ℕ) where
           ≡ figuresOf b u p .volume + (openRaising b u p + openLowering b u p + (e .raising p + e .lowering p))
       volume p = rw (f p, g p)
 
-  nothing-fits : unitFits b u ≡ true → misfitOf b u nothing ≡ 0
-  unfolding unitFits misfitOf firstOf
-  nothing-fits e =
-      let t = all-true _ e in
-      rw (t .0, t .1 .0, t .1 .1 .0)
-
-  fits-nothing : misfitOf b u nothing ≡ 0 → unitFits b u ≡ true
-  unfolding unitFits misfitOf firstOf holds
-  fits-nothing e = go (all (periods (b .days)) (hourFits b u nothing)) (termFits b u nothing) (volumeFits b u nothing) e
-    where
-      go : (x y z : Bool) → firstOf (check 19 (not x) ∷ check 20 (not y) ∷ check 21 (not z) ∷ []) ≡ 0 → holds (x ∷ y ∷ z ∷ []) ≡ true
-      go true true true f = refl
-      go true true false f = absurd (omega arith)
-      go true false z f = absurd (omega arith)
-      go false y z f = absurd (omega arith)
-
-  -- a unit fits exactly if it has no misfit with nothing declared
-  pub misfit-nothing : (misfitOf b u nothing ≡ 0 → unitFits b u ≡ true) × (unitFits b u ≡ true → misfitOf b u nothing ≡ 0)
-  misfit-nothing = (fits-nothing, nothing-fits)
-
-  -- the same of a declaration lent as zeros
-  pub misfit-zeros : (raising lowering : List ℕ) → ((i : ℕ) → getD raising i 0 ≡ 0) → ((i : ℕ) → getD lowering i 0 ≡ 0)
-      → (misfitOf b u (declared raising lowering) ≡ 0 → unitFits b u ≡ true) × (unitFits b u ≡ true → misfitOf b u (declared raising lowering) ≡ 0)
-  misfit-zeros raising lowering r l =
-      let e = misfit-ext (declared raising lowering) nothing r l in
-      (λ h. fits-nothing (sym e ∙ h), λ h. e ∙ nothing-fits h)
-
   -- an hour without energy fits where the unit does
   hour-alone : (d : Declaration) → unitFits b u ≡ true → (p : ℕ) → p < periods (b .days) → hourFits b u d p ≡ (eqb (d .raising p + d .lowering p) 0 || hourFits b u d p)
   unfolding unitFits

@@ -18,24 +18,9 @@ use Rattle.book.specs.Sound.{headIn, unitIn, offerIn, orderIn, numbersDi
 use Rattle.book.specs.Opening.{bookWords}
 use Rattle.book.specs.Layout.{word, figuresAt, unitAt, decode, enough}
 use Rattle.book.specs.Contract.{soundIn}
-use Rattle.book.specs.Readable.{Readable, Ranged, unitFieldsIn, unitsFieldsIn, waysIn, declared, misfitOf, Fitted, unitWhole, unitsWhole, pairsFit}
+use Rattle.book.specs.Readable.{Readable, Ranged, unitFieldsIn, unitsFieldsIn, waysIn, unitWhole, unitsWhole, pairsFit}
 use Rattle.book.proofs.RangeFacts.{Head, head-facts, head-holds, readable, units-held, unit-at}
-use Rattle.book.proofs.MisfitLaws.{misfit-zeros, zeros-at}
-
--- what the fit of a unit with nothing declared tells
-module _ (b : Book) (u : ℕ) (raising lowering : List ℕ) (r : ℕ) (zr : (i : ℕ) → getD raising i 0 ≡ 0) (zl : (i : ℕ) → getD lowering i 0 ≡ 0) (f : Fitted b u (declared raising lowering) r) where
-  pub whole-fits : r ≡ 0 → true ≡ unitWhole b u
-  unfolding unitWhole
-  whole-fits e = go (waysIn b u) refl
-    where
-      go : (w : Bool) → waysIn b u ≡ w → true ≡ (waysIn b u && unitFits b u)
-      go true h = sym (and-true (waysIn b u) (unitFits b u) h (misfit-zeros b u raising lowering zr zl .0 (sym (f .clean h) ∙ e)))
-      go false h = absurd (f .dirty h e)
-
-  pub whole-fails : (r ≡ 0 → ⊥) → false ≡ unitWhole b u
-  unfolding unitWhole
-  whole-fails n =
-      sym (false-by (waysIn b u && unitFits b u) (λ t. n (f .clean (and-left (waysIn b u) (unitFits b u) t) ∙ misfit-zeros b u raising lowering zr zl .1 (and-right (waysIn b u) (unitFits b u) t))))
+use Rattle.book.proofs.MisfitLaws.{zeros-at}
 
 -- a unit in memory is in range if its fields and its directions are
 module _ (m : List ℕ) (k : ℕ) (h : k < word m 5) where

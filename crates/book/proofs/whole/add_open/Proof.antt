@@ -1,0 +1,108 @@
+-- `add_open`: each unit passed holds in the period, with what is open.
+use Prim.Native.Nat.{ℕ, _≤_, _-_}
+use mathlib.Core.Path.{_≡_, sym, _∙_}
+use native.Mathlib.Omega.{arith}
+use lib.ListN.{getD}
+use borrow.Author.Tests.{not-true, not-false}
+use Rattle.book.specs.Layout.{word}
+use Rattle.book.proofs.UnitsFitLaws.{CellsPast, past-none, past-more, past-fails, past-ends, past-below}
+use borrow.Author.Needs.{needs}
+use Rattle.book.proofs.whole.add_open.Statement.{statement}
+use Rattle.book.proofs.whole.add_open.Tie as tie
+
+abbrev Inv-loop : tie.InvT-loop
+Inv-loop book p raising lowering whole₀ volume₀ n k₀ whole volume k = (k ≤ word book 5) × (CellsPast book p (λ i. getD raising i 0) (λ i. getD lowering i 0) whole₀ volume₀ whole volume k)
+
+abbrev μ-loop : tie.MeasureT-loop
+μ-loop book p raising lowering whole₀ volume₀ n k₀ whole volume k = word book 5 - k
+
+shared-slice-read-n : tie.Need-shared-slice-read-n Inv-loop μ-loop
+shared-slice-read-n c = search needs
+
+loop-holds : tie.Need-loop-holds Inv-loop μ-loop
+loop-holds c = (search needs, past-none _ _ _ _ _ _)
+
+mul-add-cell : tie.Need-mul-add-cell Inv-loop μ-loop
+mul-add-cell c = search needs
+
+shared-slice-read-add-cell : tie.Need-shared-slice-read-add-cell Inv-loop μ-loop
+shared-slice-read-add-cell c = search needs
+
+mul-add-cell-2 : tie.Need-mul-add-cell-2 Inv-loop μ-loop
+mul-add-cell-2 c = search needs
+
+shared-slice-read-add-cell-2 : tie.Need-shared-slice-read-add-cell-2 Inv-loop μ-loop
+shared-slice-read-add-cell-2 c = search needs
+
+add-cell-requires : tie.Need-add-cell-requires Inv-loop μ-loop
+add-cell-requires c κs =
+    let a = c .before .before .before .before .before .before .before .before .before .before .before .before .args in
+    let g = c .before .before .before .before .before .before .before .before .before .before .before .before .pre in
+    let l = c .before .before .before .before .before .loop in
+    let b = past-below (a .book .now) (a .p) (λ i. getD (a .raising .now) i 0) (λ i. getD (a .lowering .now) i 0) (a .whole .now) (a .volume .now) (l .whole) (l .volume) (l .k) (l .inv .1) (g .0) (l .inv .0) (g .4) (g .5) (g .8) (g .9) in
+    (g .0, g .1, omega arith, g .4 _, g .5 _, l .inv .1 .whole .long ∙ g .6, l .inv .1 .volume .long ∙ g .7, b .0, b .1)
+
+same-length : tie.Need-same-length Inv-loop μ-loop
+same-length c = search needs
+
+same-length-2 : tie.Need-same-length-2 Inv-loop μ-loop
+same-length-2 c = search needs
+
+returns : tie.Need-returns Inv-loop μ-loop
+returns c =
+    let a = c .before .before .before .before .before .before .before .before .before .before .before .before .before .before .before .before .before .before .args in
+    let g = c .before .before .before .before .before .before .before .before .before .before .before .before .before .before .before .before .before .before .pre in
+    let l = c .before .before .before .before .before .before .before .before .before .before .before .loop in
+    past-fails (a .book .now) (a .p) (λ i. getD (a .raising .now) i 0) (λ i. getD (a .lowering .now) i 0) (a .whole .now) (a .volume .now) (l .whole) (l .volume) (l .k) (l .inv .1) _ _ _ (omega arith) (not-true _ (c .if1 .taken)) (c .before .before .before .before .before .add-cell .ensures)
+
+add-k : tie.Need-add-k Inv-loop μ-loop
+add-k c = search needs
+
+loop-less : tie.Need-loop-less Inv-loop μ-loop
+loop-less c = search needs
+
+loop-again : tie.Need-loop-again Inv-loop μ-loop
+loop-again c =
+    let a = c .before .before .before .before .before .before .before .before .before .before .before .before .before .before .before .before .before .before .args in
+    let g = c .before .before .before .before .before .before .before .before .before .before .before .before .before .before .before .before .before .before .pre in
+    let l = c .before .before .before .before .before .before .before .before .before .before .before .loop in
+    let hw = g .6 in
+    let hv = g .7 in
+    let few = g .0 .readable .unitsTo in
+    (search needs, past-more (a .book .now) (a .p) (λ i. getD (a .raising .now) i 0) (λ i. getD (a .lowering .now) i 0) (a .whole .now) (a .volume .now) (l .whole) (l .volume) (l .k) (l .inv .1) _ _ _ (omega arith) (omega arith) (not-false _ (c .if1 .left)) (c .before .before .before .before .before .add-cell .ensures))
+
+same-length-3 : tie.Need-same-length-3 Inv-loop μ-loop
+same-length-3 c = search needs
+
+same-length-4 : tie.Need-same-length-4 Inv-loop μ-loop
+same-length-4 c = search needs
+
+returns-2 : tie.Need-returns-2 Inv-loop μ-loop
+returns-2 c =
+    let a = c .before .before .before .before .before .before .before .before .args in
+    let g = c .before .before .before .before .before .before .before .before .pre in
+    let l = c .before .loop in
+    past-ends (a .book .now) (a .p) (λ i. getD (a .raising .now) i 0) (λ i. getD (a .lowering .now) i 0) (a .whole .now) (a .volume .now) (l .whole) (l .volume) (l .k) (l .inv .1) (g .0) (l .inv .0) (g .4) (g .5) (omega arith)
+
+pub add-open-spec : {M : Type 1} → statement M
+add-open-spec =
+    tie.close
+    (tie.spec
+    Inv-loop
+    μ-loop
+    shared-slice-read-n
+    loop-holds
+    mul-add-cell
+    shared-slice-read-add-cell
+    mul-add-cell-2
+    shared-slice-read-add-cell-2
+    add-cell-requires
+    same-length
+    same-length-2
+    returns
+    add-k
+    loop-less
+    loop-again
+    same-length-3
+    same-length-4
+    returns-2)
