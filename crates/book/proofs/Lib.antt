@@ -80,3 +80,4 @@ pub mod WaitLaws
 pub mod RestWaitLaws
 pub mod RollCallLaws
 pub mod WholeLaws
+pub mod LinkedLaws

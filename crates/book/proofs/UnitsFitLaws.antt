@@ -23,6 +23,7 @@ use Rattle.book.proofs.RangeFacts.{kind-at}
 use Rattle.book.proofs.ShareLaws.{added-none, added-more, Adding, adding-none, adding-more, adding-ends}
 use Rattle.book.proofs.PeriodLaws.{period-passed, hour-small, volume-at-most}
 use Rattle.book.proofs.JoinLaws.{raises-by, lowers-by, way-other, orders-open, offers-open, whole-is}
+use Rattle.book.proofs.LinkedLaws.{sum-rest, share-apart}
 use Rattle.book.proofs.SoundInLaws.{units-by-places}
 
 -- a cell, by cases
@@ -140,33 +141,20 @@ cells-same m p x y a b w v w′ v′ r e f d =
     }
 
 sum-zero : (n : ℕ) (f : ℕ → ℕ) → ((i : ℕ) → i < n → f i ≡ 0) → sum n f ≡ 0
-unfolding sum
-sum-zero n f h = sum-ext n f (λ i. 0) h ∙ zeros n
-  where
-    zeros : (k : ℕ) → sum k (λ (i : ℕ). 0) ≡ 0
-    zeros zero = refl
-    zeros (suc k) = omega (arith, zeros k)
+sum-zero n f h = sum-rest n 0 f (omega arith) (λ i a b. h i b) ∙ sum-none f
 
 -- what is open in a period with no order and no offer
-order-elsewhere : (m : List ℕ) (u way i p : ℕ) → (word m (240 + 6 * i + 3) ≡ p → ⊥) → orderShare m u way i p ≡ 0
-unfolding orderShare
-order-elsewhere m u way i p n = go (eqb (word m (240 + 6 * i + 1)) u) (eqb (word m (240 + 6 * i + 2)) way)
-  where
-    go : (a c : Bool) → cond (a && eqb (word m (240 + 6 * i + 3)) p && c) (word m (240 + 6 * i + 5)) 0 ≡ 0
-    go true c = rw (ne-eqb (word m (240 + 6 * i + 3)) p n) refl
-    go false c = refl
-
-module _ (m : List ℕ) (p : ℕ) (l : Latest m p 0 (word m 7)) where
+module _ (m : List ℕ) (p : ℕ) (l : Latest m 3 p 0 (word m 7)) where
   pub idle-up : word m 6 ≡ 0 → (k : ℕ) → 0 ≡ openUp m p k
   unfolding openUp offersRaise ordersRaise orderRaises
   idle-up e k =
       let a : sum (word m 6) (λ j. offerShare m (k + 1) j p) ≡ 0 = ap (λ (n : ℕ). sum n (λ j. offerShare m (k + 1) j p)) e ∙ sum-none _ in
-      let b = sum-zero (word m 7) (λ i. orderShare m (k + 1) (raisingWay m k) i p) (λ i h. order-elsewhere m (k + 1) (raisingWay m k) i p (l .none i (omega arith) h)) in
+      let b = sum-zero (word m 7) (λ i. orderShare m (k + 1) (raisingWay m k) i p) (λ i h. share-apart m (k + 1) (raisingWay m k) i p (l .none i (omega arith) h)) in
       omega arith
 
   pub idle-down : (k : ℕ) → 0 ≡ openDown m p k
   unfolding openDown ordersLower orderLowers
-  idle-down k = sym (sum-zero (word m 7) (λ i. orderShare m (k + 1) (1 - raisingWay m k) i p) (λ i h. order-elsewhere m (k + 1) (1 - raisingWay m k) i p (l .none i (omega arith) h)))
+  idle-down k = sym (sum-zero (word m 7) (λ i. orderShare m (k + 1) (1 - raisingWay m k) i p) (λ i h. share-apart m (k + 1) (1 - raisingWay m k) i p (l .none i (omega arith) h)))
 
 -- what is gathered in a period
 module _ (m : List ℕ) (p : ℕ) (z x y x′ y′ : List ℕ) (bz : Below 0 z) (by : Below 0 y) (a : Added 64 z x (offersRaise m p) 32_000_000_000) (b : BothAdded x y x′ y′ (ordersRaise m p) (ordersLower m p) 1_024_000_000_000) where

@@ -10,16 +10,16 @@ use Rattle.limits.specs.Units.{periods, generator}
 use Rattle.book.specs.Layout.{word}
 use Rattle.book.specs.Fitting.{Added, orderShare, offerShare, wayHolds, hourHolds, termPart, volumePart, termAt, volumeAt}
 
--- t is one more than the place of the last order of period p among the first n, or 0 where there is none
-pub record Latest (m : List ℕ) (p t n : ℕ) : Type 0 where
+-- t is one more than the place of the last order with value v in field f among the first n, or 0 where there is none
+pub record Latest (m : List ℕ) (f v t n : ℕ) : Type 0 where
   pub to : t ≤ n
-  pub own : 0 < t → word m (240 + 6 * (t - 1) + 3) ≡ p
-  pub none : (i : ℕ) → t ≤ i → i < n → word m (240 + 6 * i + 3) ≡ p → ⊥
+  pub own : 0 < t → word m (240 + 6 * (t - 1) + f) ≡ v
+  pub none : (i : ℕ) → t ≤ i → i < n → word m (240 + 6 * i + f) ≡ v → ⊥
 
--- the orders linked by period: the last of each period, and the one before each order
-pub record Linked (m last before : List ℕ) : Type 0 where
-  pub ofPeriod : (p : ℕ) → p < periods (word m 0) → Latest m p (getD last p 0) (word m 7)
-  pub ofOrder : (k : ℕ) → k < word m 7 → Latest m (word m (240 + 6 * k + 3)) (getD before k 0) k
+-- the orders linked by field f: the last of each value, and the one before each order
+pub record Linked (m : List ℕ) (f : ℕ) (last before : List ℕ) : Type 0 where
+  pub ofValue : (v : ℕ) → v < length last → Latest m f v (getD last v 0) (word m 7)
+  pub ofOrder : (k : ℕ) → k < word m 7 → Latest m f (word m (240 + 6 * k + f)) (getD before k 0) k
 
 -- the direction that raises the unit at place k
 unfoldable pub raisingWay : List ℕ → ℕ → ℕ

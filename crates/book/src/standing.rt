@@ -10,18 +10,18 @@ ghost use Rattle.book.specs.Readable.{Ranged};
 ghost use Rattle.book.specs.Fitting.{Below, Added};
 ghost use Rattle.book.specs.Whole.{Linked, orderRaises, orderLowers, offersRaise, ordersRaise, ordersLower, BothAdded};
 
-// Links the orders by period: `last` gets one more than the place of each period's last order, `before` one more than
-// the place of the order before each in its period; 0 is none.
-pub(crate) fn link_orders(book: &[u64], last: &mut [u64], before: &mut [u64])
-    requires { ⌜ (Ranged (now book)) × (length (now last) ≡ 744) × (length (now before) ≡ 256) × (Below 0 (now last)) ⌝ }
-    ensures { λ _. ⌜ Linked (now (book .entry)) (now (last .exit)) (now (before .exit)) ⌝ }
+// Links the orders by a field of theirs: `last` gets one more than the place of the last order of each value, `before`
+// one more than the place of the order before each with its value; 0 is none.
+pub(crate) fn link_orders(book: &[u64], field: usize, last: &mut [u64], before: &mut [u64])
+    requires { ⌜ (Ranged (now book)) × (field < 6) × (length (now before) ≡ 256) × (Below 0 (now last)) × ((k : ℕ) → k < word (now book) 7 → word (now book) (240 + 6 * k + field) < length (now last)) ⌝ }
+    ensures { λ _. ⌜ Linked (now (book .entry)) field (now (last .exit)) (now (before .exit)) ⌝ }
 {
     let n = book[7] as usize;
     let mut k: usize = 0;
     while k < n {
-        let p = book[240 + 6 * k + 3] as usize;
-        before[k] = last[p];
-        last[p] = k as u64 + 1;
+        let v = book[240 + 6 * k + field] as usize;
+        before[k] = last[v];
+        last[v] = k as u64 + 1;
         k += 1;
     }
 }
@@ -65,7 +65,7 @@ pub(crate) fn add_period_orders(
     raising: &mut [u64],
     lowering: &mut [u64],
 )
-    requires { ⌜ (Ranged (now book)) × (p < periods (word (now book) 0)) × (length (now last) ≡ 744) × (length (now before) ≡ 256) × (Linked (now book) (now last) (now before)) × (length (now raising) ≡ 64) × (length (now lowering) ≡ 64) × (Below 40000000000 (now raising)) × (Below 40000000000 (now lowering)) ⌝ }
+    requires { ⌜ (Ranged (now book)) × (p < periods (word (now book) 0)) × (length (now last) ≡ 744) × (length (now before) ≡ 256) × (Linked (now book) 3 (now last) (now before)) × (length (now raising) ≡ 64) × (length (now lowering) ≡ 64) × (Below 40000000000 (now raising)) × (Below 40000000000 (now lowering)) ⌝ }
     ensures { λ _. ⌜ BothAdded (now (raising .entry)) (now (lowering .entry)) (now (raising .exit)) (now (lowering .exit)) (ordersRaise (now (book .entry)) p) (ordersLower (now (book .entry)) p) 1024000000000 ⌝ }
 {
     let mut at = last[p] as usize;

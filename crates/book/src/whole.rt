@@ -91,7 +91,7 @@ fn add_period(
     whole: &mut [u64],
     volume: &mut [u64],
 ) -> bool
-    requires { ⌜ (Ranged (now book)) × (p < periods (word (now book) 0)) × (length (now last) ≡ 744) × (length (now before) ≡ 256) × (Linked (now book) (now last) (now before)) × (length (now whole) ≡ 64) × (length (now volume) ≡ 64) × (Below 3800000000 (now whole)) × (Below 3800000000000000 (now volume)) ⌝ }
+    requires { ⌜ (Ranged (now book)) × (p < periods (word (now book) 0)) × (length (now last) ≡ 744) × (length (now before) ≡ 256) × (Linked (now book) 3 (now last) (now before)) × (length (now whole) ≡ 64) × (length (now volume) ≡ 64) × (Below 3800000000 (now whole)) × (Below 3800000000000000 (now volume)) ⌝ }
     ensures { λ r. ⌜ CellsDone (now (book .entry)) p (openUp (now (book .entry)) p) (openDown (now (book .entry)) p) (now (whole .entry)) (now (volume .entry)) r (now (whole .exit)) (now (volume .exit)) ⌝ }
 {
     if book[6] + last[p] == 0 {
@@ -112,7 +112,7 @@ fn add_periods(
     whole: &mut [u64],
     volume: &mut [u64],
 ) -> bool
-    requires { ⌜ (Ranged (now book)) × (length (now last) ≡ 744) × (length (now before) ≡ 256) × (Linked (now book) (now last) (now before)) × (length (now whole) ≡ 64) × (length (now volume) ≡ 64) × (Below 0 (now whole)) × (Below 0 (now volume)) ⌝ }
+    requires { ⌜ (Ranged (now book)) × (length (now last) ≡ 744) × (length (now before) ≡ 256) × (Linked (now book) 3 (now last) (now before)) × (length (now whole) ≡ 64) × (length (now volume) ≡ 64) × (Below 0 (now whole)) × (Below 0 (now volume)) ⌝ }
     ensures { λ r. ⌜ PeriodsDone (now (book .entry)) (periods (word (now (book .entry)) 0)) (now (whole .entry)) (now (volume .entry)) r (now (whole .exit)) (now (volume .exit)) ⌝ }
 {
     let top = 24 * (book[0] as usize);
@@ -164,7 +164,7 @@ pub(crate) fn units_fit(book: &[u64]) -> bool
 {
     let mut last = [0u64; 744];
     let mut before = [0u64; 256];
-    link_orders(book, &mut last, &mut before);
+    link_orders(book, 3, &mut last, &mut before);
     let mut whole = [0u64; 64];
     let mut volume = [0u64; 64];
     if !add_periods(book, &last, &before, &mut whole, &mut volume) {

@@ -1,102 +1,92 @@
+-- `add_period_offers`: the offers passed have their amounts of the period added.
+use Prim.Native.Nat.{_-_, _≤_, _+_, _*_}
+use native.Mathlib.Omega.{arith}
+use Rattle.book.specs.Layout.{word}
+use Rattle.book.proofs.RangeFacts.{OfferWords}
+use Rattle.book.proofs.ShareLaws.{offer-words, amount-small}
+use Rattle.book.proofs.LinkedLaws.{OffersAdded, offers-none, offers-more, offers-end}
 use borrow.Author.Needs.{needs}
 use Rattle.book.proofs.standing.add_period_offers.Statement.{statement}
 use Rattle.book.proofs.standing.add_period_offers.Tie as tie
-use Rattle.book.proofs.standing.add_period_offers.Reads as reads
-use Rattle.book.proofs.standing.add_period_offers.Lts as lts
 
 abbrev Inv-loop : tie.InvT-loop
-Inv-loop book p raising₀ n j₀ raising j = ?
+Inv-loop book p raising₀ n j₀ raising j = (j ≤ word book 6) × (OffersAdded book p raising₀ raising j)
 
 abbrev μ-loop : tie.MeasureT-loop
-μ-loop book p raising₀ n j₀ raising j = ?
+μ-loop book p raising₀ n j₀ raising j = word book 6 - j
 
--- src/standing.rt:34:13
+facts : (c : tie.In-loop Inv-loop μ-loop) → OfferWords (c .before .before .before .args .book .now) (c .before .loop .j)
+facts c = offer-words _ _ (c .before .before .before .pre .0) (c .loop-test .taken)
+
 shared-slice-read-n : tie.Need-shared-slice-read-n Inv-loop μ-loop
 shared-slice-read-n c = search needs
 
--- src/standing.rt:36:5
 loop-holds : tie.Need-loop-holds Inv-loop μ-loop
-loop-holds c = search needs
+loop-holds c = (search needs, offers-none _ _ _)
 
--- src/standing.rt:37:28
 mul-k : tie.Need-mul-k Inv-loop μ-loop
 mul-k c = search needs
 
--- src/standing.rt:37:22
 add-k : tie.Need-add-k Inv-loop μ-loop
 add-k c = search needs
 
--- src/standing.rt:37:17
 mul-k-2 : tie.Need-mul-k-2 Inv-loop μ-loop
 mul-k-2 c = search needs
 
--- src/standing.rt:37:17
 shared-slice-read-k : tie.Need-shared-slice-read-k Inv-loop μ-loop
 shared-slice-read-k c = search needs
 
--- src/standing.rt:37:17
 sub-k : tie.Need-sub-k Inv-loop μ-loop
-sub-k c = search needs
+sub-k c = omega (arith, facts (c .before))
 
--- src/standing.rt:38:22
 mul-raising : tie.Need-mul-raising Inv-loop μ-loop
-mul-raising c = search needs
+mul-raising c = omega (arith, facts (c .before))
 
--- src/standing.rt:38:22
 slice-read-raising : tie.Need-slice-read-raising Inv-loop μ-loop
-slice-read-raising c = search needs
+slice-read-raising c = omega (arith, facts (c .before .before))
 
--- src/standing.rt:38:47
 mul-raising-2 : tie.Need-mul-raising-2 Inv-loop μ-loop
 mul-raising-2 c = search needs
 
--- src/standing.rt:38:40
 add-raising : tie.Need-add-raising Inv-loop μ-loop
 add-raising c = search needs
 
--- src/standing.rt:38:40
 add-raising-2 : tie.Need-add-raising-2 Inv-loop μ-loop
 add-raising-2 c = search needs
 
--- src/standing.rt:38:35
 mul-raising-3 : tie.Need-mul-raising-3 Inv-loop μ-loop
 mul-raising-3 c = search needs
 
--- src/standing.rt:38:35
 shared-slice-read-raising : tie.Need-shared-slice-read-raising Inv-loop μ-loop
 shared-slice-read-raising c = search needs
 
--- src/standing.rt:38:22
 add-raising-3 : tie.Need-add-raising-3 Inv-loop μ-loop
-add-raising-3 c = search needs
+add-raising-3 c =
+    let l = c .before .before .before .before in
+    let s = c .before .before .before .before .before .before in
+    let k = word (s .args .book .now) (201 + 5 * l .loop .j) - 1 in
+    omega (arith, l .loop .inv .1 .grown k, s .pre .3 k, amount-small (s .args .book .now) (l .loop .j) (s .args .p) (s .pre .0) (c .before .before .before .loop-test .taken) (s .pre .1))
 
--- src/standing.rt:38:9
 mul-raising-4 : tie.Need-mul-raising-4 Inv-loop μ-loop
-mul-raising-4 c = search needs
+mul-raising-4 c = omega (arith, facts (c .before .before .before))
 
--- src/standing.rt:38:9
 slice-write-raising : tie.Need-slice-write-raising Inv-loop μ-loop
-slice-write-raising c = search needs
+slice-write-raising c = omega (arith, facts (c .before .before .before))
 
--- src/standing.rt:39:9
 add-j : tie.Need-add-j Inv-loop μ-loop
 add-j c = search needs
 
--- src/standing.rt:36:5
 loop-less : tie.Need-loop-less Inv-loop μ-loop
 loop-less c = search needs
 
--- src/standing.rt:36:5
 loop-again : tie.Need-loop-again Inv-loop μ-loop
-loop-again c = search needs
+loop-again c = (search needs, offers-more _ _ _ _ _ (c .before .before .before .before .before .before .pre .0) (c .before .before .before .before .before .before .pre .1) (c .before .before .before .loop-test .taken) (omega arith) (c .before .before .before .before .loop .inv .1))
 
--- src/standing.rt:30:1
 same-length : tie.Need-same-length Inv-loop μ-loop
 same-length c = search needs
 
--- src/standing.rt:30:1
 returns : tie.Need-returns Inv-loop μ-loop
-returns c = search needs
+returns c = offers-end _ _ _ _ _ (c .before .before .before .pre .0) (omega arith) (omega arith) (c .before .loop .inv .1)
 
 pub add-period-offers-spec : {M : Type 1} → statement M
 add-period-offers-spec =

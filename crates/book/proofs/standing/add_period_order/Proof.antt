@@ -1,117 +1,105 @@
+-- `add_period_order`: the one store adds the order's quantity at its unit, on the side of its direction.
+use Prim.Native.Nat.{_-_, _+_, _*_}
+use native.Mathlib.Omega.{arith}
+use Rattle.book.specs.Layout.{word}
+use Rattle.book.proofs.RangeFacts.{OrderWords}
+use Rattle.book.proofs.ShareLaws.{order-words}
+use Rattle.book.proofs.LinkedLaws.{order-raised, order-lowered}
 use borrow.Author.Needs.{needs}
 use Rattle.book.proofs.standing.add_period_order.Statement.{statement}
 use Rattle.book.proofs.standing.add_period_order.Tie as tie
-use Rattle.book.proofs.standing.add_period_order.Reads as reads
-use Rattle.book.proofs.standing.add_period_order.Lts as lts
-use Rattle.book.proofs.trades.raises_net.Reads as raises-net-reads
 
--- src/standing.rt:48:20
+facts : (c : tie.Start) → OrderWords (c .args .book .now) (c .args .i)
+facts c = order-words _ _ (c .pre .0) (c .pre .1)
+
 mul-at : tie.Need-mul-at
 mul-at c = search needs
 
--- src/standing.rt:48:14
 add-at : tie.Need-add-at
 add-at c = search needs
 
--- src/standing.rt:49:21
 add-unit : tie.Need-add-unit
 add-unit c = search needs
 
--- src/standing.rt:49:16
 mul-unit : tie.Need-mul-unit
 mul-unit c = search needs
 
--- src/standing.rt:49:16
 shared-slice-read-unit : tie.Need-shared-slice-read-unit
 shared-slice-read-unit c = search needs
 
--- src/standing.rt:50:13
 sub-k : tie.Need-sub-k
-sub-k c = ?
+sub-k c = omega (arith, facts (c .before .before .before .before))
 
--- src/standing.rt:51:25
 add-quantity : tie.Need-add-quantity
 add-quantity c = search needs
 
--- src/standing.rt:51:20
 mul-quantity : tie.Need-mul-quantity
 mul-quantity c = search needs
 
--- src/standing.rt:51:20
 shared-slice-read-quantity : tie.Need-shared-slice-read-quantity
 shared-slice-read-quantity c = search needs
 
--- src/standing.rt:52:36
 add-raises-net : tie.Need-add-raises-net
 add-raises-net c = search needs
 
--- src/standing.rt:52:31
 mul-raises-net : tie.Need-mul-raises-net
 mul-raises-net c = search needs
 
--- src/standing.rt:52:31
 shared-slice-read-raises-net : tie.Need-shared-slice-read-raises-net
 shared-slice-read-raises-net c = search needs
 
--- src/standing.rt:52:8
 raises-net-requires : tie.Need-raises-net-requires
-raises-net-requires c κs = ?
+raises-net-requires c κs = let s = c .before .before .before .before .before .before in (s .pre .0 .readable, facts s .unit .0, facts s .unit .1)
 
--- src/standing.rt:53:22
 mul-raising : tie.Need-mul-raising
-mul-raising c = ?
+mul-raising c = omega (arith, facts (c .before .before .before .before .before .before .before .before))
 
--- src/standing.rt:53:22
 slice-read-raising : tie.Need-slice-read-raising
-slice-read-raising c = ?
+slice-read-raising c = omega (arith, facts (c .before .before .before .before .before .before .before .before .before))
 
--- src/standing.rt:53:22
 add-raising : tie.Need-add-raising
-add-raising c = ?
+add-raising c =
+    let s = c .before .before .before .before .before .before .before .before .before in
+    omega (arith, facts s, s .pre .5 (word (s .args .book .now) (240 + 6 * s .args .i + 1) - 1))
 
--- src/standing.rt:53:9
 mul-raising-2 : tie.Need-mul-raising-2
-mul-raising-2 c = ?
+mul-raising-2 c = omega (arith, facts (c .before .before .before .before .before .before .before .before .before))
 
--- src/standing.rt:53:9
 slice-write-raising : tie.Need-slice-write-raising
-slice-write-raising c = ?
+slice-write-raising c = omega (arith, facts (c .before .before .before .before .before .before .before .before .before))
 
--- src/standing.rt:55:23
 mul-lowering : tie.Need-mul-lowering
-mul-lowering c = ?
+mul-lowering c = omega (arith, facts (c .before .before .before .before .before .before .before .before))
 
--- src/standing.rt:55:23
 slice-read-lowering : tie.Need-slice-read-lowering
-slice-read-lowering c = ?
+slice-read-lowering c = omega (arith, facts (c .before .before .before .before .before .before .before .before .before))
 
--- src/standing.rt:55:23
 add-lowering : tie.Need-add-lowering
-add-lowering c = ?
+add-lowering c =
+    let s = c .before .before .before .before .before .before .before .before .before in
+    omega (arith, facts s, s .pre .6 (word (s .args .book .now) (240 + 6 * s .args .i + 1) - 1))
 
--- src/standing.rt:55:9
 mul-lowering-2 : tie.Need-mul-lowering-2
-mul-lowering-2 c = ?
+mul-lowering-2 c = omega (arith, facts (c .before .before .before .before .before .before .before .before .before))
 
--- src/standing.rt:55:9
 slice-write-lowering : tie.Need-slice-write-lowering
-slice-write-lowering c = ?
+slice-write-lowering c = omega (arith, facts (c .before .before .before .before .before .before .before .before .before))
 
--- src/standing.rt:44:1
 same-length : tie.Need-same-length
 same-length c = search needs
 
--- src/standing.rt:44:1
 returns : tie.Need-returns
-returns c = ?
+returns c =
+    let s = c .before .before .before .before .before .before .before .before .before in
+    order-raised _ _ _ (s .pre .0) (s .pre .1) (s .pre .2) _ _ _ (c .before .before .raises-net .ensures) (s .pre .3) (c .before .if1 .taken)
 
--- src/standing.rt:44:1
 same-length-2 : tie.Need-same-length-2
 same-length-2 c = search needs
 
--- src/standing.rt:44:1
 returns-2 : tie.Need-returns-2
-returns-2 c = ?
+returns-2 c =
+    let s = c .before .before .before .before .before .before .before .before .before in
+    order-lowered _ _ _ (s .pre .0) (s .pre .1) (s .pre .2) _ _ _ (c .before .before .raises-net .ensures) (s .pre .4) (c .before .if1 .left)
 
 pub add-period-order-spec : {M : Type 1} → statement M
 add-period-order-spec =

@@ -1,63 +1,58 @@
+-- `add_period_orders`: the orders of the period are walked, last first, and those passed have their quantities added.
+use native.Mathlib.Omega.{arith}
+use Prim.Native.Nat.{_-_}
+use Rattle.book.proofs.LinkedLaws.{Walking, walking-starts, walking-more, walking-ends}
 use borrow.Author.Needs.{needs}
 use Rattle.book.proofs.standing.add_period_orders.Statement.{statement}
 use Rattle.book.proofs.standing.add_period_orders.Tie as tie
-use Rattle.book.proofs.standing.add_period_orders.Reads as reads
-use Rattle.book.proofs.standing.add_period_orders.Lts as lts
-use Rattle.book.proofs.standing.add_period_order.Reads as add-period-order-reads
 
 abbrev Inv-loop : tie.InvT-loop
-Inv-loop book p last before raising₀ lowering₀ at₀ raising lowering at = ?
+Inv-loop book p last before raising₀ lowering₀ at₀ raising lowering at = Walking book p raising₀ lowering₀ raising lowering at
 
 abbrev μ-loop : tie.MeasureT-loop
-μ-loop book p last before raising₀ lowering₀ at₀ raising lowering at = ?
+μ-loop book p last before raising₀ lowering₀ at₀ raising lowering at = at
 
--- src/standing.rt:71:18
 mul-at : tie.Need-mul-at Inv-loop μ-loop
 mul-at c = search needs
 
--- src/standing.rt:71:18
 shared-slice-read-at : tie.Need-shared-slice-read-at Inv-loop μ-loop
 shared-slice-read-at c = search needs
 
--- src/standing.rt:72:5
 loop-holds : tie.Need-loop-holds Inv-loop μ-loop
-loop-holds c = search needs
+loop-holds c =
+    let s = c .before .before .before .before .before .before in
+    walking-starts _ _ _ _ _ (s .pre .4 .ofValue _ (omega arith))
 
--- src/standing.rt:73:17
 sub-i : tie.Need-sub-i Inv-loop μ-loop
 sub-i c = search needs
 
--- src/standing.rt:74:9
 add-period-order-requires : tie.Need-add-period-order-requires Inv-loop μ-loop
-add-period-order-requires c κs = search needs
+add-period-order-requires c κs =
+    let l = c .before .before .before in
+    let s = c .before .before .before .before .before .before .before .before .before .before in
+    let w = l .loop .inv in
+    (s .pre .0, omega arith, w .own (c .before .before .loop-test .taken), omega arith, omega arith, (λ i. omega (arith, w .raising .grown i, s .pre .7 i)), (λ i. omega (arith, w .lowering .grown i, s .pre .8 i)))
 
--- src/standing.rt:75:14
 mul-at-2 : tie.Need-mul-at-2 Inv-loop μ-loop
 mul-at-2 c = search needs
 
--- src/standing.rt:75:14
 shared-slice-read-at-2 : tie.Need-shared-slice-read-at-2 Inv-loop μ-loop
 shared-slice-read-at-2 c = search needs
 
--- src/standing.rt:72:5
 loop-less : tie.Need-loop-less Inv-loop μ-loop
-loop-less c = search needs
+loop-less c = omega (arith, c .before .before .before .before .before .before .before .before .before .before .before .before .before .before .before .before .pre .4 .ofOrder (c .before .before .before .before .before .before .before .before .before .loop .at - 1) (omega arith) .to)
 
--- src/standing.rt:72:5
 loop-again : tie.Need-loop-again Inv-loop μ-loop
-loop-again c = search needs
+loop-again c = walking-more _ _ _ _ _ _ _ _ _ _ (c .before .before .before .before .before .before .before .before .before .before .before .before .before .before .before .before .pre .0) (c .before .before .before .before .before .before .before .before .loop-test .taken) (c .before .before .before .before .before .before .before .before .before .loop .inv) (c .before .before .before .before .before .before .before .before .before .before .before .before .before .before .before .before .pre .4 .ofOrder _ (omega arith)) (c .before .before .before .before .before .add-period-order .ensures)
 
--- src/standing.rt:60:1
 same-length : tie.Need-same-length Inv-loop μ-loop
 same-length c = search needs
 
--- src/standing.rt:60:1
 same-length-2 : tie.Need-same-length-2 Inv-loop μ-loop
 same-length-2 c = search needs
 
--- src/standing.rt:60:1
 returns : tie.Need-returns Inv-loop μ-loop
-returns c = search needs
+returns c = walking-ends _ _ _ _ _ _ _ (omega arith) (c .before .loop .inv)
 
 pub add-period-orders-spec : {M : Type 1} → statement M
 add-period-orders-spec =
