@@ -6,7 +6,7 @@ use mathlib.Core.List.{List, [], _∷_}
 use native.Mathlib.Omega.{arith}
 use native.Mathlib.Decide.{decLt}
 use borrow.Author.Tests.{le-leb, lt-leb, leb-true, ne-eqb}
-use lib.ListN.{length, getD, set}
+use lib.ListN.{length, getD, set, replicate}
 use lib.Dec.{eqb, leb}
 use Rattle.measures.specs.Lists.{holds, sum, all, table}
 use Rattle.measures.proofs.ListLaws.{both-ways, false-by, true-by, not-both, and-true, and-left, and-right, all-true, holds-all, all-none, all-more, all-fails, all-at, all-by, all-ext, sum-none, sum-more, sum-ext, sum-at, table-at}
@@ -21,6 +21,7 @@ use Rattle.book.specs.Fitting.{Below, Added, orderShare, offerShare, way
 use Rattle.book.specs.Whole.{Latest, raisingWay, orderRaises, orderLowers, offersRaise, ordersRaise, ordersLower, BothAdded, cellHolds, CellDone, CellsDone, openUp, openDown, PeriodsDone, sumsHold}
 use Rattle.book.proofs.RangeFacts.{kind-at}
 use Rattle.book.proofs.ShareLaws.{added-none, added-more, Adding, adding-none, adding-more, adding-ends}
+use Rattle.book.proofs.MisfitLaws.{zeros-at}
 use Rattle.book.proofs.PeriodLaws.{period-passed, hour-small, volume-at-most}
 use Rattle.book.proofs.JoinLaws.{raises-by, lowers-by, way-other, orders-open, offers-open, whole-is}
 use Rattle.book.proofs.LinkedLaws.{sum-rest, share-apart}
@@ -143,11 +144,15 @@ cells-same m p x y a b w v w′ v′ r e f d =
 sum-zero : (n : ℕ) (f : ℕ → ℕ) → ((i : ℕ) → i < n → f i ≡ 0) → sum n f ≡ 0
 sum-zero n f h = sum-rest n 0 f (omega arith) (λ i a b. h i b) ∙ sum-none f
 
+pub zeros-below : (n b : ℕ) → Below b (replicate n 0)
+zeros-below n b i = omega (arith, zeros-at n i)
+
 -- what is open in a period with no order and no offer
-module _ (m : List ℕ) (p : ℕ) (l : Latest m 3 p 0 (word m 7)) where
-  pub idle-up : word m 6 ≡ 0 → (k : ℕ) → 0 ≡ openUp m p k
+module _ (m : List ℕ) (p t : ℕ) (l : Latest m 3 p t (word m 7)) (none : word m 6 + t ≡ 0) where
+  pub idle-up : (k : ℕ) → 0 ≡ openUp m p k
   unfolding openUp offersRaise ordersRaise orderRaises
-  idle-up e k =
+  idle-up k =
+      let e : word m 6 ≡ 0 = omega arith in
       let a : sum (word m 6) (λ j. offerShare m (k + 1) j p) ≡ 0 = ap (λ (n : ℕ). sum n (λ j. offerShare m (k + 1) j p)) e ∙ sum-none _ in
       let b = sum-zero (word m 7) (λ i. orderShare m (k + 1) (raisingWay m k) i p) (λ i h. share-apart m (k + 1) (raisingWay m k) i p (l .none i (omega arith) h)) in
       omega arith
@@ -198,6 +203,9 @@ module _ (m : List ℕ) where
         whole = λ z. both-ways (sym z);
         volume = λ z. both-ways (sym z);
       }
+
+pub periods-end : (m w v w′ v′ : List ℕ) (p n : ℕ) → p ≡ n → PeriodsDone m p w v true w′ v′ → PeriodsDone m n w v true w′ v′
+periods-end m w v w′ v′ p n e d = rw e at d
 
 -- the sums of a unit, by cases
 module _ (m w v : List ℕ) (k term most : ℕ) (et : term ≡ termAt m k) (em : most ≡ volumeAt m k) where
@@ -299,16 +307,16 @@ module _ (m : List ℕ) (g : Ranged m) (k : ℕ) (h : k < word m 5) where
 
 -- all units
 module _ (m : List ℕ) (g : Ranged m) (w v w′ v′ : List ℕ) (bw : Below 0 w) (bv : Below 0 v) where
-  pub units-fail : PeriodsDone m (periods (word m 0)) w v false w′ v′ → false ≡ unitsWhole (decode m)
-  units-fail d =
-      sym (false-by _ (λ t. not-both _ (all-by (periods (word m 0)) _ (λ p l. all-by (word m 5) _ (λ k h. unit-cell m g k h (all-at (word m 5) _ k (sym (units-by-places m) ∙ t) h) p l))) (sym (d .answer))))
+  pub units-fail : (r : Bool) → r ≡ false → PeriodsDone m (periods (word m 0)) w v r w′ v′ → false ≡ unitsWhole (decode m)
+  units-fail r f d =
+      sym (false-by _ (λ t. not-both _ (all-by (periods (word m 0)) _ (λ p l. all-by (word m 5) _ (λ k h. unit-cell m g k h (all-at (word m 5) _ k (sym (units-by-places m) ∙ t) h) p l))) (sym (d .answer) ∙ f)))
 
-  module _ (d : PeriodsDone m (periods (word m 0)) w v true w′ v′) where
+  module _ (r : Bool) (t : r ≡ true) (d : PeriodsDone m (periods (word m 0)) w v r w′ v′) where
     term-sum : (k : ℕ) → k < word m 5 → getD w′ k 0 ≡ sum (periods (word m 0)) (λ p. termPart m k p (openUp m p k))
-    term-sum k h = omega (arith, bw k, d .whole refl .each k h)
+    term-sum k h = omega (arith, bw k, d .whole t .each k h)
 
     volume-sum : (k : ℕ) → k < word m 5 → getD v′ k 0 ≡ sum (periods (word m 0)) (λ p. volumePart m k p (openUp m p k) (openDown m p k))
-    volume-sum k h = omega (arith, bv k, d .volume refl .each k h)
+    volume-sum k h = omega (arith, bv k, d .volume t .each k h)
 
     unit-by : (k : ℕ) → k < word m 5 → sumsHold m w′ v′ k ≡ unitWhole (decode m) (k + 1)
     unfolding sumsHold
@@ -318,9 +326,9 @@ module _ (m : List ℕ) (g : Ranged m) (w v w′ v′ : List ℕ) (bw : Below 0 
         go true true e f = refl
         go false false e f = refl
         go true false e f =
-            let t = all-true (leb (getD w′ k 0) (termAt m k) ∷ leb (getD v′ k 0) (volumeAt m k) ∷ []) e in
-            absurd (not-both _ (unit-whole m g k h (λ p l. all-at (word m 5) _ k (all-at (periods (word m 0)) _ p (sym (d .answer)) l) h)
-            (omega (arith, leb-true (getD w′ k 0) (termAt m k) (t .0), term-sum k h)) (omega (arith, leb-true (getD v′ k 0) (volumeAt m k) (t .1 .0), volume-sum k h))) f)
+            let u = all-true (leb (getD w′ k 0) (termAt m k) ∷ leb (getD v′ k 0) (volumeAt m k) ∷ []) e in
+            absurd (not-both _ (unit-whole m g k h (λ p l. all-at (word m 5) _ k (all-at (periods (word m 0)) _ p (sym (d .answer) ∙ t) l) h)
+            (omega (arith, leb-true (getD w′ k 0) (termAt m k) (u .0), term-sum k h)) (omega (arith, leb-true (getD v′ k 0) (volumeAt m k) (u .1 .0), volume-sum k h))) f)
         go false true e f =
             absurd (not-both _ (holds-all (leb (getD w′ k 0) (termAt m k) ∷ leb (getD v′ k 0) (volumeAt m k) ∷ []) (le-leb (getD w′ k 0) (termAt m k) (omega (arith, unit-term m g k h f, term-sum k h)), (le-leb (getD v′ k 0) (volumeAt m k) (omega (arith, unit-volume m g k h f, volume-sum k h)), tt))) e)
 
