@@ -44,6 +44,10 @@ uint64_t cenduxari_enrol(uint64_t *book, size_t book_len, uint64_t kind, uint64_
 uint64_t cenduxari_offer(uint64_t *book, size_t book_len, uint64_t unit, uint64_t partner, uint64_t price,
                          const uint64_t *amounts, size_t amounts_len, uint64_t out[2]);
 
+/* Takes a quantity of an open offer: a row for each period that gives some. */
+uint64_t cenduxari_take(uint64_t *book, size_t book_len, uint64_t unit, uint64_t number, uint64_t quantity,
+                        uint64_t *rows, size_t rows_len, uint64_t out[2]);
+
 /* Removes an own offer of which nothing is taken. */
 uint64_t cenduxari_withdraw(uint64_t *book, size_t book_len, uint64_t unit, uint64_t number);
 

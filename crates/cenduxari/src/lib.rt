@@ -6,7 +6,7 @@ ghost use lib.ListN.{length};
 ghost use Rattle.measures.specs.Sharing.{sharing, Is};
 ghost use Rattle.limits.specs.Limits.{limitsAt};
 ghost use Rattle.book.specs.Opening.{wordsFor};
-ghost use Rattle.book.specs.Calls.{enrol, offer, withdraw, order, cancel, clear, close};
+ghost use Rattle.book.specs.Calls.{enrol, offer, take, withdraw, order, cancel, clear, close};
 ghost use Rattle.book.specs.Contract.{toldBy};
 ghost use Rattle.cenduxari.specs.Exports.{Called, Settled, BookOpened, CurveDrawn};
 
@@ -99,6 +99,23 @@ pub extern "C" fn cenduxari_offer(
     ensures { λ r. ⌜ Called (now (book .entry)) [] (offer unit partner price (now (amounts .entry))) r (now (out .exit)) (now (book .exit)) [] ⌝ }
 {
     let answer = book::calls::offer(book, unit, partner, price, amounts);
+    *out = numbers_of(answer);
+    refusal_of(answer)
+}
+
+// Takes a quantity of an open offer.
+#[no_mangle]
+pub extern "C" fn cenduxari_take(
+    book: &mut [u64],
+    unit: u64,
+    number: u64,
+    quantity: u64,
+    rows: &mut [u64],
+    out: &mut [u64; 2],
+) -> u64
+    ensures { λ r. ⌜ Called (now (book .entry)) (now (rows .entry)) (take unit number quantity (length (now (rows .entry)))) r (now (out .exit)) (now (book .exit)) (now (rows .exit)) ⌝ }
+{
+    let answer = book::calls::take(book, unit, number, quantity, rows);
     *out = numbers_of(answer);
     refusal_of(answer)
 }

@@ -103,6 +103,20 @@ impl Book {
         lent::offer(&mut self.memory, unit, partner, price, amounts)
     }
 
+    /// Takes from an offer and gives a row for each period that has a part, periods rising.
+    ///
+    /// A bilateral offer is taken by its partner, for exactly its total. A listing is taken by a unit of the other side,
+    /// for 1 up to its remainder, shared over its remaining amounts as [`share`](crate::share) does.
+    ///
+    /// # Errors
+    ///
+    /// [`Refusal::UnknownUnit`], [`Refusal::Energy`], [`Refusal::Number`], [`Refusal::Party`],
+    /// [`Refusal::HourLimit`], [`Refusal::TermLimit`] or [`Refusal::VolumeLimit`].
+    pub fn take(&mut self, unit: u64, number: u64, quantity: u64) -> Result<Rows<'_>, Refusal> {
+        let count = lent::take(&mut self.memory, unit, number, quantity, &mut self.rows)?;
+        Ok(Rows::new(&self.rows, count))
+    }
+
     /// Removes an own offer of which nothing is taken.
     ///
     /// # Errors

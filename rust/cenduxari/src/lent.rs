@@ -72,6 +72,30 @@ pub fn offer(
     Ok(out[0])
 }
 
+/// Takes from an offer and gives the count of rows: [`Book::take`](crate::Book::take).
+pub fn take(
+    book: &mut [u64],
+    unit: u64,
+    number: u64,
+    quantity: u64,
+    rows: &mut [u64],
+) -> Result<usize, Refusal> {
+    let mut out = [0; 2];
+    outcome(unsafe {
+        sys::cenduxari_take(
+            book.as_mut_ptr(),
+            book.len(),
+            unit,
+            number,
+            quantity,
+            rows.as_mut_ptr(),
+            rows.len(),
+            &mut out,
+        )
+    })?;
+    Ok(out[1] as usize)
+}
+
 /// Removes an own offer of which nothing is taken: [`Book::withdraw`](crate::Book::withdraw).
 pub fn withdraw(book: &mut [u64], unit: u64, number: u64) -> Result<(), Refusal> {
     outcome(unsafe { sys::cenduxari_withdraw(book.as_mut_ptr(), book.len(), unit, number) })

@@ -49,6 +49,17 @@ extern "C" {
         out: *mut [u64; 2],
     ) -> u64;
 
+    pub fn cenduxari_take(
+        book: *mut u64,
+        book_len: usize,
+        unit: u64,
+        number: u64,
+        quantity: u64,
+        rows: *mut u64,
+        rows_len: usize,
+        out: *mut [u64; 2],
+    ) -> u64;
+
     pub fn cenduxari_withdraw(book: *mut u64, book_len: usize, unit: u64, number: u64) -> u64;
 
     pub fn cenduxari_order(

@@ -75,6 +75,20 @@ fn figure_6() {
 }
 
 #[test]
+fn figure_7() {
+    let (mut book, plant, user) = pair();
+    let mut amounts = [0; 24];
+    amounts[8] = 100;
+    let listing = book.offer(plant, None, 5, &amounts).unwrap();
+    let (way, period, quantity, price) = (Way::Listing, 8, 100, 5);
+    let row = Row { way, period, seller: plant, buyer: user, quantity, price };
+    assert_eq!(book.take(user, listing, 100).unwrap().collect::<Vec<Row>>(), [row]);
+    assert_eq!(book.order(plant, Buy, 8, 5, 1).unwrap_err(), Refusal::HourLimit);
+    book.close().unwrap();
+    assert_eq!(book.order(plant, Buy, 8, 5, 100).unwrap().number, 1);
+}
+
+#[test]
 fn figure_8() {
     let (mut book, plant, user) = pair();
     for (period, quantity) in [(0, 7), (1, 1)] {

@@ -45,6 +45,10 @@ impl Lent {
         lent::offer(&mut self.book, unit, partner, 500, amounts)
     }
 
+    fn take(&mut self, unit: u64, number: u64, quantity: u64) -> Result<usize, Refusal> {
+        lent::take(&mut self.book, unit, number, quantity, &mut self.rows)
+    }
+
     /// Both units trade this quantity in these periods, by clearing.
     fn trade(&mut self, periods: std::ops::Range<u64>, quantity: u64) {
         for period in periods {
@@ -101,6 +105,7 @@ fn memory_that_holds_no_sound_book() {
     lent.book.iter_mut().for_each(|word| *word = GUARD);
     lent.refuses(1, |lent| lent.enrol(9, 0, 0));
     lent.refuses(1, |lent| lent.offer(0, 0, &[]));
+    lent.refuses(1, |lent| lent::take(&mut lent.book, 0, 0, 0, &mut []));
     lent.refuses(1, |lent| lent::withdraw(&mut lent.book, 0, 0));
     lent.refuses(1, |lent| lent::order(&mut lent.book, 0, 0, 0, 0, 0, &mut []));
     lent.refuses(1, |lent| lent::cancel(&mut lent.book, 0, 0));
@@ -171,6 +176,42 @@ fn numbers_and_parties() {
     lent.refuses(12, |lent| lent.offer(1, 1, &one_in(0)));
     assert_eq!(lent::cancel(&mut lent.book, 1, 1), Ok(()));
     assert_eq!(lent::withdraw(&mut lent.book, 2, 2), Ok(()));
+}
+
+#[test]
+fn taking() {
+    let mut lent = Lent::open(1);
+    assert_eq!(lent.enrol(4, 100, 5), Ok(3));
+    let mut amounts = [0; 24];
+    amounts[7..10].fill(3);
+    assert_eq!(lent.offer(1, 0, &amounts), Ok(1));
+    assert_eq!(lent.offer(1, 2, &amounts), Ok(2));
+    lent.refuses(6, |lent| lent::take(&mut lent.book, 4, 9, 0, &mut []));
+    lent.refuses(7, |lent| lent::take(&mut lent.book, 2, 9, 0, &mut lent.rows[..ROWS_WORDS - 1]));
+    lent.refuses(9, |lent| lent.take(2, 9, 0));
+    lent.refuses(9, |lent| lent.take(2, 9, 4_000_000_001));
+    lent.refuses(11, |lent| lent.take(2, 9, 1));
+    lent.refuses(12, |lent| lent.take(1, 1, 1));
+    lent.refuses(12, |lent| lent.take(2, 1, 10));
+    lent.refuses(12, |lent| lent.take(3, 2, 9));
+    lent.refuses(12, |lent| lent.take(2, 2, 8));
+    lent.refuses(20, |lent| lent.take(3, 1, 6));
+    // A listing is shared: 4 over 3, 3, 3, then 2 over 2, 2, 1.
+    assert_eq!(lent.take(2, 1, 4), Ok(3));
+    let rows = [2, 7, 1, 2, 1, 500, 2, 8, 1, 2, 1, 500, 2, 9, 1, 2, 2, 500];
+    assert_eq!(lent.rows[..18], rows);
+    assert!(lent.rows[18..].iter().all(|word| *word == GUARD));
+    assert_eq!(lent.take(2, 1, 2), Ok(2));
+    assert_eq!(lent.rows[..12], [2, 8, 1, 2, 1, 500, 2, 9, 1, 2, 1, 500]);
+    assert_eq!(lent.rows[12..18], rows[12..]);
+    lent.refuses(13, |lent| lent::withdraw(&mut lent.book, 1, 1));
+    // The rest of it, and a bilateral offer whole: both are gone.
+    assert_eq!(lent.take(3, 1, 3), Ok(2));
+    lent.refuses(11, |lent| lent.take(2, 1, 1));
+    assert_eq!(lent.take(2, 2, 9), Ok(3));
+    assert_eq!(lent.rows[..6], [1, 7, 1, 2, 3, 500]);
+    lent.refuses(11, |lent| lent.take(2, 2, 9));
+    assert!(lent.book[lent::words(1).unwrap()..].iter().all(|word| *word == GUARD));
 }
 
 #[test]
