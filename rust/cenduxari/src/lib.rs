@@ -1,16 +1,29 @@
-//! Term contracts for electricity: the proved functions of Cenduxari, for trading screens.
+//! Term contracts for electricity: the proved engine of Cenduxari, for trading screens.
 //!
-//! [`share`] shares an amount over remaining amounts, and [`limits`] gives the limits of a unit. Both are written and
-//! proved in Rattle (`crates/measures` and `crates/limits` of the repository), and this crate links them. Energy is in
-//! whole kWh and capacity in kW. A call that is turned down returns a [`Refusal`] and changes nothing.
+//! A [`Book`] takes the calls of a trading day and answers, to the kWh, whether a declaration fits, what it trades and
+//! what the delivery [`Curve`] looks like. [`limits`] and [`share`] are the limits of a unit and the sharing of an
+//! amount on their own; [`lent`] has the calls on memory of the caller's.
+//!
+//! All of it is written and proved in Rattle (`crates/` of the repository); this crate links it. Energy is in whole kWh,
+//! capacity in kW, a price in thousandths of a yuan per MWh. A call that is turned down returns a [`Refusal`] and changes
+//! nothing.
 
 #![deny(missing_docs)]
 
+mod book;
+mod curve;
+mod kinds;
+pub mod lent;
 mod limits;
 mod refusal;
+mod rows;
 mod sharing;
 mod sys;
 
+pub use book::Book;
+pub use curve::Curve;
+pub use kinds::{Direction, Kind, Way};
 pub use limits::{limits, Limits};
 pub use refusal::Refusal;
+pub use rows::{Ordered, Row, Rows};
 pub use sharing::share;

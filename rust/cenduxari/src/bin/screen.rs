@@ -5,7 +5,9 @@ use cenduxari::{limits, share, Limits, Refusal};
 use std::env;
 use std::process::ExitCode;
 
-const WORDS: &str = "Ask by: share AMOUNT REMAINING.. or: limits DAYS KIND CAPACITY ASSET PERIOD";
+/// What ./cenduxari understands; the story and the curve are examples that it runs.
+const WORDS: &str =
+    "Ask by: story, curve FILE, share AMOUNT REMAINING.. or limits DAYS KIND CAPACITY ASSET PERIOD";
 
 /// The paper's figures that these calls show.
 const FIGURES: [(&str, &[&str]); 3] = [
