@@ -76,9 +76,6 @@ pair-fact phase a b e =
       sale = λ z. apart-fact b a (and-right (apart a b) (apart b a) (rw (eq-eqb phase 1 z) at r));
     }
 
-pub pair-fails : (phase : ℕ) (a b : OpenOrder) → (Pair phase a b → ⊥) → false ≡ pairFits phase a b
-pair-fails phase a b n = sym (false-by _ (λ e. n (pair-fact phase a b e)))
-
 pub pair-turned : (phase : ℕ) (a b : OpenOrder) → Pair phase a b → Pair phase b a
 pair-turned phase a b f = record { way = λ u p. sym (f .way (sym u) (sym p)); buy = f .sale; sale = f .buy }
 
@@ -141,30 +138,3 @@ module _ (phase : ℕ) (m : List ℕ) (n : ℕ) where
           let hj : j < n = omega arith in
           let lj : j < length (ordersIn m n) = rw (orders-length m n) hj in
           pair-holds phase _ _ (rw (orders-at m n k l, orders-at m n j hj) at (pairs-fact phase (ordersIn m n) t k j lk lj))
-
--- a pair by cases
-module _ (phase : ℕ) (a b : OpenOrder) where
-  pub in-other-periods : (a .period ≡ b .period → ⊥) → true ≡ pairFits phase a b
-  in-other-periods n =
-      sym (pair-holds phase a b (record { way = λ u p. absurd (n p); buy = λ z d e p. absurd (n p); sale = λ z d e p. absurd (n (sym p)) }))
-
-  pub same-direction : a .direction ≡ b .direction → true ≡ pairFits phase a b
-  same-direction s =
-      sym (pair-holds phase a b (record { way = λ u p. s; buy = λ z d e p. absurd (omega arith); sale = λ z d e p. absurd (omega arith) }))
-
-  pub both-directions : a .period ≡ b .period → (a .direction ≡ b .direction → ⊥) → a .unit ≡ b .unit → false ≡ pairFits phase a b
-  both-directions p n u = pair-fails phase a b (λ f. n (f .way u p))
-
-  pub not-rolling : (a .unit ≡ b .unit → ⊥) → (phase ≡ 1 → ⊥) → true ≡ pairFits phase a b
-  not-rolling n r =
-      sym (pair-holds phase a b (record { way = λ u p. absurd (n u); buy = λ z. absurd (r z); sale = λ z. absurd (r z) }))
-
-  pub not-crossing : (a .unit ≡ b .unit → ⊥) → (a .direction ≡ 1 → b .direction ≡ 0 → a .price < b .price) → (b .direction ≡ 1 → a .direction ≡ 0 → b .price < a .price) → true ≡ pairFits phase a b
-  not-crossing n f g =
-      sym (pair-holds phase a b (record { way = λ u p. absurd (n u); buy = λ z d e p. f d e; sale = λ z d e p. g d e }))
-
-  pub crossing : phase ≡ 1 → a .period ≡ b .period → a .direction ≡ 1 → b .direction ≡ 0 → b .price ≤ a .price → false ≡ pairFits phase a b
-  crossing z p d e l = pair-fails phase a b (λ f. let t = f .buy z d e p in omega arith)
-
-  pub crossing-turned : phase ≡ 1 → a .period ≡ b .period → b .direction ≡ 1 → a .direction ≡ 0 → a .price ≤ b .price → false ≡ pairFits phase a b
-  crossing-turned z p d e l = pair-fails phase a b (λ f. let t = f .sale z d e (sym p) in omega arith)

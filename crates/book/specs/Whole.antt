@@ -1,13 +1,16 @@
 -- What the functions that check all units, period by period, promise one another.
 use Prim.Native.Nat.{ℕ, _+_, _-_, _*_, _≤_, _<_}
 use mathlib.Core.Path.{_≡_}
-use mathlib.Core.Bool.{Bool, true, cond}
+use mathlib.Core.Bool.{Bool, true, cond, not, _||_}
 use mathlib.Core.List.{List, [], _∷_}
 use lib.ListN.{length, getD, set}
-use lib.Dec.{leb}
+use lib.Dec.{eqb, leb}
 use Rattle.measures.specs.Lists.{holds, sum, all}
 use Rattle.limits.specs.Units.{periods, generator}
-use Rattle.book.specs.Layout.{word}
+use Rattle.matching.specs.Memory.{orderAt}
+use Rattle.book.specs.Sound.{apart}
+use Rattle.book.specs.Layout.{word, ordersPart}
+use Rattle.book.specs.Readable.{pairFits}
 use Rattle.book.specs.Fitting.{Added, orderShare, offerShare, wayHolds, hourHolds, termPart, volumePart, termAt, volumeAt}
 
 -- t is one more than the place of the last order with value v in field f among the first n, or 0 where there is none
@@ -20,6 +23,28 @@ pub record Latest (m : List ℕ) (f v t n : ℕ) : Type 0 where
 pub record Linked (m : List ℕ) (f : ℕ) (last before : List ℕ) : Type 0 where
   pub ofValue : (v : ℕ) → v < length last → Latest m f v (getD last v 0) (word m 7)
   pub ofOrder : (k : ℕ) → k < word m 7 → Latest m f (word m (240 + 6 * k + f)) (getD before k 0) k
+
+-- whether the order at place j goes the way of the one at place k, if they are of one period
+unfoldable pub goesWith : List ℕ → ℕ → ℕ → Bool
+goesWith m k j = not (eqb (word m (240 + 6 * j + 3)) (word m (240 + 6 * k + 3))) || eqb (word m (240 + 6 * j + 2)) (word m (240 + 6 * k + 2))
+
+-- of each period and the first k orders: what is above each buy price and not above it needlessly, and what is not above
+-- any sell price and not below it needlessly
+pub record Prices (m : List ℕ) (k : ℕ) (high low : List ℕ) : Type 0 where
+  pub above : (p j : ℕ) → p < periods (word m 0) → j < k → word m (240 + 6 * j + 2) ≡ 1 → word m (240 + 6 * j + 3) ≡ p → word m (240 + 6 * j + 4) < getD high p 0
+  pub least : (p x : ℕ) → p < periods (word m 0) → ((j : ℕ) → j < k → word m (240 + 6 * j + 2) ≡ 1 → word m (240 + 6 * j + 3) ≡ p → word m (240 + 6 * j + 4) < x) → getD high p 0 ≤ x
+  pub below : (p j : ℕ) → p < periods (word m 0) → j < k → word m (240 + 6 * j + 2) ≡ 0 → word m (240 + 6 * j + 3) ≡ p → getD low p 0 ≤ word m (240 + 6 * j + 4)
+  pub most : (p x : ℕ) → p < periods (word m 0) → x ≤ 10_000_000 → ((j : ℕ) → j < k → word m (240 + 6 * j + 2) ≡ 0 → word m (240 + 6 * j + 3) ≡ p → x < word m (240 + 6 * j + 4)) → x < getD low p 0
+
+-- r says whether the order at place k crosses none before it; if so, its price is entered
+pub record Priced (m : List ℕ) (k : ℕ) (r : Bool) (high low : List ℕ) : Type 0 where
+  pub answer : r ≡ all k (λ j. holds (apart (orderAt (ordersPart m) k) (orderAt (ordersPart m) j) ∷ apart (orderAt (ordersPart m) j) (orderAt (ordersPart m) k) ∷ []))
+  pub entered : r ≡ true → Prices m (k + 1) high low
+
+-- r says whether the order at place k may stand with each before it; in the rolling phase its price is then entered
+pub record OrderStands (m : List ℕ) (k : ℕ) (r : Bool) (high low : List ℕ) : Type 0 where
+  pub answer : r ≡ all k (λ j. pairFits (word m 3) (orderAt (ordersPart m) k) (orderAt (ordersPart m) j))
+  pub entered : r ≡ true → word m 3 ≡ 1 → Prices m (k + 1) high low
 
 -- the direction that raises the unit at place k
 unfoldable pub raisingWay : List ℕ → ℕ → ℕ

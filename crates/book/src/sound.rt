@@ -35,8 +35,7 @@ pub fn sound_book(book: &[u64]) -> bool
     if !numbers_differ(book) {
         return false;
     }
-    let n = book[7] as usize;
-    if !orders_fit(&book[240..1776], n, book[3]) {
+    if !orders_fit(book) {
         return false;
     }
     units_fit(book)

@@ -1,6 +1,6 @@
 -- `sound_book`: a test that fails contradicts soundness; the fit of the units decides the rest.
 use Prim.Native.Nat.{ℕ, _≤_, _+_, _*_}
-use mathlib.Core.Path.{_≡_, sym, ap, _∙_}
+use mathlib.Core.Path.{_≡_, sym, _∙_}
 use mathlib.Core.Bool.{Bool, true, false}
 use mathlib.Core.List.{List}
 use native.Mathlib.Omega.{arith}
@@ -11,9 +11,8 @@ use Rattle.measures.proofs.ListLaws.{not-both}
 use Rattle.book.specs.Sound.{headIn}
 use Rattle.book.specs.Opening.{bookWords}
 use Rattle.book.specs.Layout.{word, decode}
-use Rattle.book.specs.Readable.{Readable, Ranged, pairsFit}
+use Rattle.book.specs.Readable.{Readable, Ranged}
 use Rattle.book.proofs.RangeFacts.{Head, head-facts, readable}
-use Rattle.book.proofs.NumberLaws.{orders-from}
 use Rattle.book.proofs.SoundInLaws.{SoundWords, sound-fails, sound-by-units, never-short, ranged}
 use borrow.Author.Needs.{needs}
 use Rattle.book.proofs.sound.sound_book.Statement.{statement}
@@ -82,40 +81,21 @@ numbers-differ-requires c κs = can-read (c .before .before .before .before .bef
 returns-7 : tie.Need-returns-7
 returns-7 c = sound-fails _ (λ s. not-both _ (s .numbers) (sym (c .before .numbers-differ .ensures) ∙ not-true _ (c .if7 .taken)))
 
-shared-slice-read-n : tie.Need-shared-slice-read-n
-shared-slice-read-n c = search needs
-
-sub-orders-fit : tie.Need-sub-orders-fit
-sub-orders-fit c = search needs
-
-part-orders-fit-start : tie.Need-part-orders-fit-start
-part-orders-fit-start c = search needs
-
-part-orders-fit-end : tie.Need-part-orders-fit-end
-part-orders-fit-end c = search needs
-
-shared-slice-read-orders-fit : tie.Need-shared-slice-read-orders-fit
-shared-slice-read-orders-fit c = search needs
-
 orders-fit-requires : tie.Need-orders-fit-requires
-orders-fit-requires c κs = let r = can-read (c .before .before .before .before .before .before .before .before .before .before .before) in search needs
+orders-fit-requires c κs = (in-range (c .before .before), head-facts _ (headed (c .before .before .before .before .before .before .before .before)) .ceiling)
 
 returns-8 : tie.Need-returns-8
-returns-8 c =
-    let m = c .before .before .before .before .before .before .before .before .before .before .before .before .before .before .before .before .before .before .before .args .book .now in
-    sound-fails m (λ s. not-both _ (s .pairs) (ap (pairsFit (word m 3)) (orders-from m) ∙ sym (c .before .orders-fit .ensures) ∙ not-true _ (c .if8 .taken)))
+returns-8 c = sound-fails _ (λ s. not-both _ (s .pairs) (sym (c .before .orders-fit .ensures) ∙ not-true _ (c .if8 .taken)))
 
 units-fit-requires : tie.Need-units-fit-requires
-units-fit-requires c κs = in-range (c .before .before .before .before .before .before .before)
+units-fit-requires c κs = in-range (c .before .before .before .before)
 
 returns-9 : tie.Need-returns-9
 returns-9 c =
-    let m = c .before .before .before .before .before .before .before .before .before .before .before .before .before .before .before .before .before .before .before .before .args .book .now in
-    let r = in-range (c .before .before .before .before .before .before .before .before) in
+    let r = in-range (c .before .before .before .before .before) in
     c .units-fit .ensures
-    ∙ sound-by-units m (long-enough (c .before .before .before .before .before .before .before .before .before .before .before .before .before .before)) (headed (c .before .before .before .before .before .before .before .before .before .before .before .before .before .before)) (r .units) (r .offers) (r .orders)
-    (sym (c .before .before .before .before .before .before .before .numbers-differ .ensures) ∙ not-false _ (c .before .before .before .before .before .before .if7 .left))
-    (ap (pairsFit (word m 3)) (orders-from m) ∙ sym (c .before .before .orders-fit .ensures) ∙ not-false _ (c .before .if8 .left))
+    ∙ sound-by-units (c .before .before .before .before .before .before .before .before .before .before .before .before .before .before .before .before .before .args .book .now) (long-enough (c .before .before .before .before .before .before .before .before .before .before .before)) (headed (c .before .before .before .before .before .before .before .before .before .before .before)) (r .units) (r .offers) (r .orders)
+    (sym (c .before .before .before .before .numbers-differ .ensures) ∙ not-false _ (c .before .before .before .if7 .left)) (sym (c .before .before .orders-fit .ensures) ∙ not-false _ (c .before .if8 .left))
 
 pub sound-book-spec : {M : Type 1} → statement M
 sound-book-spec =
@@ -136,11 +116,6 @@ sound-book-spec =
     returns-6
     numbers-differ-requires
     returns-7
-    shared-slice-read-n
-    sub-orders-fit
-    part-orders-fit-start
-    part-orders-fit-end
-    shared-slice-read-orders-fit
     orders-fit-requires
     returns-8
     units-fit-requires
