@@ -2,8 +2,12 @@
 //!
 //! A trial takes the function to try as an argument, so that the tests also see that wrong versions are found.
 
+pub mod damaged;
+pub mod engine;
 pub mod exported;
+pub mod layout;
 pub mod limits;
+pub mod lists;
 pub mod plain;
 pub mod random;
 pub mod sharing;
