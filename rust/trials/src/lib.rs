@@ -2,6 +2,7 @@
 //!
 //! A trial takes the function to try as an argument, so that the tests also see that wrong versions are found.
 
+pub mod books;
 pub mod damaged;
 pub mod engine;
 pub mod exported;
@@ -11,3 +12,4 @@ pub mod lists;
 pub mod plain;
 pub mod random;
 pub mod sharing;
+pub mod timing;

@@ -15,29 +15,23 @@ const TIGHT: &Manner = &MANNERS[0];
 const DAY: &Manner = &MANNERS[1];
 const ORDERS: &Manner = &MANNERS[6];
 
-/// Makes the call, then changes what was told, the book or the rows if it was accepted.
-fn if_accepted(
-    call: &Call,
-    book: &mut [u64],
-    rows: &mut [u64],
-    change: impl FnOnce(&mut Told, &mut [u64], &mut [u64]),
-) -> Told {
-    let mut told = exported::make(call, book, rows);
-    if told.refusal == 0 {
-        change(&mut told, book, rows);
-    }
-    told
+/// Whether a call was accepted or refused.
+#[derive(PartialEq)]
+enum If {
+    Accepted,
+    Refused,
 }
 
-/// The same if it was refused.
-fn if_refused(
+/// Makes the call, then changes what was told, the book or the rows.
+fn then(
+    end: If,
     call: &Call,
     book: &mut [u64],
     rows: &mut [u64],
     change: impl FnOnce(&mut Told, &mut [u64], &mut [u64]),
 ) -> Told {
     let mut told = exported::make(call, book, rows);
-    if told.refusal != 0 {
+    if (told.refusal == 0) == (end == If::Accepted) {
         change(&mut told, book, rows);
     }
     told
@@ -63,48 +57,50 @@ const WAY: usize = 4;
 
 const WRONG: [(&str, &str, &Manner, Engine); 18] = [
     ("one kWh more in a row", "other rows", TIGHT, |call, book, rows| {
-        if_accepted(call, book, rows, |told, _, rows| {
+        then(If::Accepted, call, book, rows, |told, _, rows| {
             if told.count > 0 {
                 rows[4] += 1;
             }
         })
     }),
     ("two rows swapped", "other rows", DAY, |call, book, rows| {
-        if_accepted(call, book, rows, |told, _, rows| {
+        then(If::Accepted, call, book, rows, |told, _, rows| {
             if told.count > 1 {
                 rows[..12].rotate_left(6);
             }
         })
     }),
     ("a row too many", "another count", TIGHT, |call, book, rows| {
-        if_accepted(call, book, rows, |told, _, _| told.count += u64::from(told.count > 0))
+        then(If::Accepted, call, book, rows, |told, _, _| told.count += u64::from(told.count > 0))
     }),
     ("a row past the counted", "memory past the rows", TIGHT, |call, book, rows| {
-        if_accepted(call, book, rows, |told, _, rows| {
+        then(If::Accepted, call, book, rows, |told, _, rows| {
             if told.count > 0 {
                 rows[6 * told.count as usize] = 0;
             }
         })
     }),
     ("a refusal that writes a row", "memory past the rows", TIGHT, |call, book, rows| {
-        if_refused(call, book, rows, |_, _, rows| {
+        then(If::Refused, call, book, rows, |_, _, rows| {
             if let Some(word) = rows.first_mut() {
                 *word = 0;
             }
         })
     }),
     ("a refusal that gives a number", "another number", TIGHT, |call, book, rows| {
-        if_refused(call, book, rows, |told, book, _| {
+        then(If::Refused, call, book, rows, |told, book, _| {
             if told.refusal == 19 {
                 told.number = book[GIVEN] + 1;
             }
         })
     }),
     ("a refusal that uses up a number", "a refusal or curve changed", TIGHT, |call, book, rows| {
-        if_refused(call, book, rows, |told, book, _| book[GIVEN] += u64::from(told.refusal == 19))
+        then(If::Refused, call, book, rows, |told, book, _| {
+            book[GIVEN] += u64::from(told.refusal == 19)
+        })
     }),
     ("a take that names its offer", "another number", DAY, |call, book, rows| {
-        if_accepted(call, book, rows, |told, _, _| {
+        then(If::Accepted, call, book, rows, |told, _, _| {
             if let Call::Take { number, .. } = *call {
                 told.number = number;
             }
@@ -134,7 +130,7 @@ const WRONG: [(&str, &str, &Manner, Engine); 18] = [
         exported::make(call, book, rows)
     }),
     ("the larger half first", "other rows or points", TIGHT, |call, book, rows| {
-        if_accepted(call, book, rows, |_, _, points| {
+        then(If::Accepted, call, book, rows, |_, _, points| {
             if matches!(call, Call::Curve { .. }) {
                 points[..48].chunks_mut(2).for_each(|pair| pair.reverse());
             }
@@ -143,7 +139,7 @@ const WRONG: [(&str, &str, &Manner, Engine); 18] = [
     ("a unit with another's old figures", "another book", TIGHT, |call, book, rows| match call {
         Call::Enrol { .. } => {
             let before = book.to_vec();
-            if_accepted(call, book, rows, |told, book, _| {
+            then(If::Accepted, call, book, rows, |told, book, _| {
                 let at = figures_at(told.number as usize - 1, 0);
                 book[at..at + FIGURES].copy_from_slice(&before[at..at + FIGURES]);
             })
@@ -152,7 +148,7 @@ const WRONG: [(&str, &str, &Manner, Engine); 18] = [
     }),
     ("a close that keeps what was lowered", "another book", TIGHT, |call, book, rows| {
         let before = book.to_vec();
-        if_accepted(call, book, rows, |_, book, _| {
+        then(If::Accepted, call, book, rows, |_, book, _| {
             if matches!(call, Call::Close) {
                 for unit in 0..book[UNIT_COUNT] as usize {
                     let at = figures_at(unit, 9) + LOWERED;
@@ -162,14 +158,14 @@ const WRONG: [(&str, &str, &Manner, Engine); 18] = [
         })
     }),
     ("a word past the book", "memory past the book", TIGHT, |call, book, rows| {
-        if_accepted(call, book, rows, |_, book, _| {
+        then(If::Accepted, call, book, rows, |_, book, _| {
             if let Some(past) = book.get_mut(words(book[DAYS])) {
                 *past = 0;
             }
         })
     }),
     ("a word past what is lent", "a refusal or curve changed", TIGHT, |call, book, rows| {
-        if_refused(call, book, rows, |_, book, _| {
+        then(If::Refused, call, book, rows, |_, book, _| {
             // SAFETY: a guard word of the trial follows the book's memory.
             unsafe { *book.as_mut_ptr().add(book.len()) = 0 };
         })
