@@ -8,30 +8,25 @@ use second::calls::Call;
 
 #[path = "../../cenduxari/src/sys.rs"]
 mod sys;
+use sys::*;
 
 // SAFETY of each call below: every slice and array is one that Rust lends, and no function has a `requires`.
 
 /// `cenduxari_share`.
 pub fn share(amount: u64, amounts: &[u64], parts: &mut [u64]) -> u64 {
     unsafe {
-        sys::cenduxari_share(
-            amount,
-            amounts.as_ptr(),
-            amounts.len(),
-            parts.as_mut_ptr(),
-            parts.len(),
-        )
+        cenduxari_share(amount, amounts.as_ptr(), amounts.len(), parts.as_mut_ptr(), parts.len())
     }
 }
 
 /// `cenduxari_limits`.
 pub fn limits([days, kind, capacity, asset, period]: Asked, out: &mut [u64; 3]) -> u64 {
-    unsafe { sys::cenduxari_limits(days, kind, capacity, asset, period, out) }
+    unsafe { cenduxari_limits(days, kind, capacity, asset, period, out) }
 }
 
 /// `cenduxari_book_words`.
 pub fn book_words(days: u64) -> u64 {
-    unsafe { sys::cenduxari_book_words(days) }
+    unsafe { cenduxari_book_words(days) }
 }
 
 /// The engine's number and count of rows, between two guard words.
@@ -58,35 +53,35 @@ pub fn make(call: &Call, book: &mut [u64], lent: &mut [u64]) -> Told {
     let (rows, length) = (lent.as_mut_ptr(), lent.len());
     match *call {
         Call::Open { days, floor, ceiling, .. } => {
-            Told::of(unsafe { sys::cenduxari_open(memory, words, days, floor, ceiling) })
+            Told::of(unsafe { cenduxari_open(memory, words, days, floor, ceiling) })
         }
         Call::Enrol { kind, capacity, asset } => {
-            told(|out| unsafe { sys::cenduxari_enrol(memory, words, kind, capacity, asset, out) })
+            told(|out| unsafe { cenduxari_enrol(memory, words, kind, capacity, asset, out) })
         }
         Call::Offer { unit, partner, price, ref amounts } => told(|out| unsafe {
             let (list, periods) = (amounts.as_ptr(), amounts.len());
-            sys::cenduxari_offer(memory, words, unit, partner, price, list, periods, out)
+            cenduxari_offer(memory, words, unit, partner, price, list, periods, out)
         }),
         Call::Take { unit, number, quantity, .. } => told(|out| unsafe {
-            sys::cenduxari_take(memory, words, unit, number, quantity, rows, length, out)
+            cenduxari_take(memory, words, unit, number, quantity, rows, length, out)
         }),
         Call::Withdraw { unit, number } => {
-            Told::of(unsafe { sys::cenduxari_withdraw(memory, words, unit, number) })
+            Told::of(unsafe { cenduxari_withdraw(memory, words, unit, number) })
         }
         Call::Order { unit, direction, period, price, quantity, .. } => told(|out| unsafe {
-            sys::cenduxari_order(
+            cenduxari_order(
                 memory, words, unit, direction, period, price, quantity, rows, length, out,
             )
         }),
         Call::Cancel { unit, number } => {
-            Told::of(unsafe { sys::cenduxari_cancel(memory, words, unit, number) })
+            Told::of(unsafe { cenduxari_cancel(memory, words, unit, number) })
         }
         Call::Clear { .. } => {
-            told(|out| unsafe { sys::cenduxari_clear(memory, words, rows, length, out) })
+            told(|out| unsafe { cenduxari_clear(memory, words, rows, length, out) })
         }
-        Call::Close => Told::of(unsafe { sys::cenduxari_close(memory, words) }),
+        Call::Close => Told::of(unsafe { cenduxari_close(memory, words) }),
         Call::Curve { unit, day, .. } => {
-            Told::of(unsafe { sys::cenduxari_curve(memory, words, unit, day, rows, length) })
+            Told::of(unsafe { cenduxari_curve(memory, words, unit, day, rows, length) })
         }
     }
 }

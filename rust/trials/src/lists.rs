@@ -9,25 +9,18 @@ use second::calls::{Call, POINTS_LENT, ROWS_LENT};
 use second::generate::Generator;
 use second::limits::days_in_range;
 use second::manners::{Manner, MANNERS, MONTH, NUMBERS};
-use second::sharing::MOST_ENERGY;
 use std::collections::BTreeMap;
 use std::fmt;
 
 /// Any term and any number of units, beside the second engine's manners.
 pub const TERM: Manner = Manner {
     name: "term",
-    length: 400,
     days: [1, 31],
     units: [1, 64],
-    kinds: &[1, 2, 3, 4],
     capacity: [1, 5_000_000],
-    asset: [0, MOST_ENERGY],
     ceiling: [1, MOST_PRICE],
     quantity: 100_000,
-    periods: 4,
-    apart: false,
-    weights: [1, 15, 20, 3, 60, 5, 2, 3, 2],
-    spoil: 60,
+    ..MANNERS[MONTH]
 };
 
 /// What lists came to.
