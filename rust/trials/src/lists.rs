@@ -91,32 +91,24 @@ impl Counts {
 
 impl fmt::Display for Counts {
     fn fmt(&self, f: &mut fmt::Formatter<'_>) -> fmt::Result {
-        let [damaged, unsound] = self.damages();
         writeln!(f, "lists {}, calls {}, accepted {}", self.lists, self.made(), self.told(0))?;
-        write!(f, "refusals")?;
+        write!(f, "memory too short {}, refusals", self.short)?;
         for refusal in 1..=21 {
-            write!(f, " {refusal}: {},", self.told(refusal))?;
+            write!(f, " {refusal}: {}", self.told(refusal))?;
         }
-        writeln!(f, " with memory too short {}", self.short)?;
         let [_, bilateral, listing, clear, rolling] = self.rows;
-        writeln!(f, "rows {}: bilateral {bilateral}, listing {listing}, clear {clear}, rolling {rolling}; most of a call {:?}", self.rows.iter().sum::<u64>(), self.most_rows)?;
-        writeln!(f, "curves {}", self.curves)?;
-        writeln!(
-            f,
-            "terms of {} lengths; most units {}, offers {}, orders {}, numbers of a day {}",
-            self.days.len(),
-            self.most_units,
-            self.most_offers,
-            self.most_orders,
-            self.most_given
-        )?;
         write!(
             f,
-            "damaged books {damaged}, not sound {unsound}, next to an edge {}; by call",
-            self.edges
+            "\nrows: bilateral {bilateral}, listing {listing}, clear {clear}, rolling {rolling}"
         )?;
+        writeln!(f, "; most of a call {:?}", self.most_rows)?;
+        writeln!(f, "curves {}, terms of {} lengths", self.curves, self.days.len())?;
+        write!(f, "most units {}, offers {}", self.most_units, self.most_offers)?;
+        writeln!(f, ", orders {}, numbers of a day {}", self.most_orders, self.most_given)?;
+        let [damaged, unsound] = self.damages();
+        write!(f, "damaged books {damaged}, not sound {unsound}, at an edge {}", self.edges)?;
         for (name, [all, unsound]) in &self.damaged {
-            write!(f, " {name} {all}/{unsound}")?;
+            write!(f, ", {name} {all}/{unsound}")?;
         }
         writeln!(f)
     }
@@ -175,24 +167,34 @@ pub fn run_list(
     let spare = random.of(&[0, 1, 500]);
     let mut trial = Trial::new(plan.engine, words(manner.days[1]) + spare, &mut random);
     let mut copy = Trial::new(plan.engine, 0, &mut random);
+    let named = |at, fault| format!("{fault}; manner {} seed {seed} call {at}", manner.name);
     counts.lists += 1;
     for at in 0..calls {
-        let call = generator.call(&trial.second);
-        let (call, length) = lend(call, &trial, &mut random);
-        let named =
-            |fault| format!("{fault}; manner {} seed {seed} call {at}: {call:?}", manner.name);
-        step(&mut trial, &call, length, &mut random, counts).map_err(named)?;
+        step(&mut trial, &mut generator, &mut random, counts).map_err(|fault| named(at, fault))?;
         if trial.second.days > 0 && random.to(plan.damage[0] - 1) == 0 {
             for _ in 0..plan.damage[1].div_ceil(trial.second.days) {
-                damaged::step(&trial, &mut copy, &mut generator, &mut random, counts).map_err(
-                    |fault| format!("{fault}; after manner {} seed {seed} call {at}", manner.name),
-                )?;
+                damaged::step(&trial, &mut copy, &mut generator, &mut random, counts)
+                    .map_err(|fault| named(at, fault))?;
             }
         }
     }
-    let drawn = trial.curves();
-    counts.curves += drawn
-        .map_err(|fault| format!("{fault}; curves after manner {} seed {seed}", manner.name))?;
+    counts.curves += trial.curves().map_err(|fault| named(calls, fault.to_string()))?;
+    Ok(())
+}
+
+/// Makes one call and counts what it came to.
+fn step(
+    trial: &mut Trial,
+    generator: &mut Generator,
+    random: &mut Random,
+    counts: &mut Counts,
+) -> Result<(), String> {
+    let (call, length) = lend(generator.call(&trial.second), trial, random);
+    let short = !matches!(call, Call::Open { .. }) && length < trial.needed();
+    let made = trial.call(&call, length, random);
+    let (told, written) = made.map_err(|fault| format!("{fault}: {call:?}"))?;
+    counts.short += u64::from(short);
+    counts.count(&call, told, &written, &trial.second);
     Ok(())
 }
 
@@ -228,19 +230,4 @@ pub(crate) fn lend(mut call: Call, trial: &Trial, random: &mut Random) -> (Call,
         };
     }
     (call, length)
-}
-
-/// Makes one call and counts what it came to.
-fn step(
-    trial: &mut Trial,
-    call: &Call,
-    length: usize,
-    random: &mut Random,
-    counts: &mut Counts,
-) -> Result<(), &'static str> {
-    let short = !matches!(call, Call::Open { .. }) && length < trial.needed();
-    let (told, written) = trial.call(call, length, random)?;
-    counts.short += u64::from(short);
-    counts.count(call, told, &written, &trial.second);
-    Ok(())
 }
