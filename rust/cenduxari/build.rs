@@ -18,4 +18,6 @@ fn main() {
     }
     println!("cargo:rustc-link-search=native={}", folder.display());
     println!("cargo:rustc-link-lib=static={library}");
+    // For the tests that link it from C.
+    println!("cargo:rustc-env=CENDUXARI_LIBRARY={}", archive.display());
 }

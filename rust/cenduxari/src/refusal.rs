@@ -54,11 +54,11 @@ pub enum Refusal {
     TableFull = 17,
     /// 18: 65,535 numbers used.
     NumbersUsed = 18,
-    /// 19: hour limit doesn't fit, or lowering past held.
+    /// 19: hour doesn't fit, or lowering past held.
     HourLimit = 19,
-    /// 20: term limit doesn't fit.
+    /// 20: term doesn't fit.
     TermLimit = 20,
-    /// 21: volume limit doesn't fit.
+    /// 21: volume doesn't fit.
     VolumeLimit = 21,
 }
 
@@ -130,9 +130,11 @@ impl fmt::Display for Refusal {
             Refusal::TwoOpen => "the unit has two orders open in that period",
             Refusal::TableFull => "8 offers or 256 orders are already open",
             Refusal::NumbersUsed => "65,535 numbers are used",
-            Refusal::HourLimit => "the hour limit doesn't fit, or it lowers past held",
-            Refusal::TermLimit => "the term limit doesn't fit",
-            Refusal::VolumeLimit => "the volume limit doesn't fit",
+            Refusal::HourLimit => {
+                "the declaration doesn't fit the hour limit, or lowers more than was held"
+            },
+            Refusal::TermLimit => "the declaration doesn't fit the term limit",
+            Refusal::VolumeLimit => "the declaration doesn't fit the volume limit",
         })
     }
 }

@@ -59,7 +59,7 @@ fn in_rust((name, form): &(String, String)) -> String {
     }
 }
 
-/// The text with each run of white space as one space, and none inside brackets' edges.
+/// The text on one line, with one space where there were several and none beside a bracket.
 fn plain(text: &str) -> String {
     let words: Vec<&str> = text.split_whitespace().collect();
     words.join(" ").replace("( ", "(").replace(", )", ")")
@@ -97,7 +97,7 @@ fn a_program_in_c_plays_the_papers_transcript() {
         .args(["-std=c11", "-Wall", "-Wextra", "-Wpedantic", "-Werror", "-O2", "-I"])
         .arg(root().join("include"))
         .arg(Path::new(env!("CARGO_MANIFEST_DIR")).join("tests/transcript.c"))
-        .arg(root().join("target/staticlib/libcenduxari.a"))
+        .arg(env!("CENDUXARI_LIBRARY"))
         .arg("-o")
         .arg(&program)
         .output()
