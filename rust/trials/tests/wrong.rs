@@ -55,7 +55,7 @@ fn with(call: &Call, book: &mut [u64], rows: &mut [u64], other: &[(usize, u64)])
 const LOWERED: usize = 2;
 const WAY: usize = 4;
 
-const WRONG: [(&str, &str, &Manner, Engine); 18] = [
+const WRONG: [(&str, &str, &Manner, Engine); 19] = [
     ("one kWh more in a row", "other rows", TIGHT, |call, book, rows| {
         then(If::Accepted, call, book, rows, |told, _, rows| {
             if told.count > 0 {
@@ -164,7 +164,15 @@ const WRONG: [(&str, &str, &Manner, Engine); 18] = [
             }
         })
     }),
-    ("a word past what is lent", "a refusal or curve changed", TIGHT, |call, book, rows| {
+    ("a word past the lent rows", "memory past the rows", TIGHT, |call, book, rows| {
+        then(If::Accepted, call, book, rows, |told, _, rows| {
+            if told.count > 0 {
+                // SAFETY: a guard word of the trial follows the rows.
+                unsafe { *rows.as_mut_ptr().add(rows.len()) = 0 };
+            }
+        })
+    }),
+    ("a word past the lent book", "a refusal or curve changed", TIGHT, |call, book, rows| {
         then(If::Refused, call, book, rows, |_, book, _| {
             // SAFETY: a guard word of the trial follows the book's memory.
             unsafe { *book.as_mut_ptr().add(book.len()) = 0 };
