@@ -1,4 +1,4 @@
-//! Sound books of given sizes, for the benchmark.
+//! Sound books of given sizes, for the benchmark and for deep trials.
 
 use second::book::{Book, Figures, Offer, Order, Unit, BUY, CALL, ROLLING, SELL};
 use second::calls::{Call, POINTS_LENT, ROWS_LENT};
@@ -6,8 +6,8 @@ use second::calls::{Call, POINTS_LENT, ROWS_LENT};
 /// The listing's number; orders follow it.
 const LISTING: u64 = 1;
 
-/// Units, generators and loads in turn, that hold energy in every period; orders of one kWh and more that raise.
-fn book(days: u64, units: u64, phase: u64, orders: Vec<Order>) -> Book {
+/// A book whose units, generators and loads in turn, hold 1,000 kWh in every period.
+pub fn book(days: u64, units: u64, phase: u64, orders: Vec<Order>) -> Book {
     let periods = 24 * days as usize;
     let figures = Figures { held: 1_000, volume: 1_000, ..Figures::default() };
     let unit = |place| Unit {

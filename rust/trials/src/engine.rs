@@ -2,7 +2,7 @@
 //! whole book must be equal, and nothing else in memory may change.
 
 use crate::exported;
-use crate::layout::{decode, sound_book, words};
+use crate::layout::{decode, encode, sound_book, words};
 use crate::random::Random;
 use cenduxari::{lent, Refusal};
 use second::book::Book;
@@ -124,6 +124,12 @@ impl Trial {
         let memory = Memory::new(length, random);
         let rows = Memory::new(lent::ROWS_WORDS + 64, random);
         Trial { engine, memory, rows, second: Book::blank() }
+    }
+
+    /// Puts a book into the memory, whatever it held.
+    pub fn forge(&mut self, book: Book) {
+        encode(&book, self.memory.all_mut());
+        self.second = book;
     }
 
     /// Becomes a trial of the other's memory with one word of it changed.

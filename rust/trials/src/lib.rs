@@ -7,6 +7,7 @@
 
 pub mod books;
 pub mod damaged;
+pub mod deep;
 pub mod engine;
 pub mod exported;
 pub mod layout;

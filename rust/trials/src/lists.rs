@@ -47,6 +47,8 @@ pub struct Counts {
     pub damaged: BTreeMap<&'static str, [u64; 2]>,
     /// Those of the damaged that lie next to an edge of soundness.
     pub edges: u64,
+    /// Calls on deep books.
+    pub deep: u64,
 }
 
 impl Counts {
@@ -67,7 +69,7 @@ impl Counts {
             .fold([0; 2], |[all, unsound], more| [all + more[0], unsound + more[1]])
     }
 
-    fn count(&mut self, call: &Call, told: Told, written: &[u64], book: &Book) {
+    pub(crate) fn count(&mut self, call: &Call, told: Told, written: &[u64], book: &Book) {
         let name = name(call);
         *self.calls.entry((name, told.refusal)).or_default() += 1;
         match *call {
@@ -102,7 +104,8 @@ impl fmt::Display for Counts {
             "\nrows: bilateral {bilateral}, listing {listing}, clear {clear}, rolling {rolling}"
         )?;
         writeln!(f, "; most of a call {:?}", self.most_rows)?;
-        writeln!(f, "curves {}, terms of {} lengths", self.curves, self.days.len())?;
+        write!(f, "curves {}, terms of {} lengths", self.curves, self.days.len())?;
+        writeln!(f, ", calls on deep books {}", self.deep)?;
         write!(f, "most units {}, offers {}", self.most_units, self.most_offers)?;
         writeln!(f, ", orders {}, numbers of a day {}", self.most_orders, self.most_given)?;
         let [damaged, unsound] = self.damages();

@@ -1,6 +1,7 @@
 //! The engine on random lists and damaged books: the exported functions and the safe crate.
 
 use second::manners::{Manner, MANNERS, MONTH, NUMBERS};
+use trials::deep::run_deep;
 use trials::engine::{published, safe};
 use trials::exported;
 use trials::layout::{decode, encode, words};
@@ -63,6 +64,15 @@ fn all_numbers_of_a_day() {
     for call in ["offer", "order"] {
         assert!(counts.calls[&(call, 18)] > 100);
     }
+}
+
+/// Orders that meet up to 255, and clears of up to 256 orders.
+#[test]
+fn deep_books() {
+    let mut counts = Counts::default();
+    run_deep(PLAN.engine, 8, 20_000, &mut counts).unwrap();
+    print!("{counts}");
+    assert!(counts.most_rows["order"] > 200 && counts.most_rows["clear"] > 200);
 }
 
 #[test]

@@ -1,9 +1,10 @@
 //! `soak_engine CALLS SEED` feeds random lists to the proved engine and to the second one, with damaged books between,
-//! and prints counts. One list uses all numbers of a day.
+//! then orders and clears of deep books, and prints counts. One list uses all numbers of a day.
 
 use second::manners::{MANNERS, NUMBERS};
 use std::process::ExitCode;
 use std::time::Instant;
+use trials::deep::run_deep;
 use trials::exported;
 use trials::lists::{run_list, run_lists, Counts, Plan};
 
@@ -20,7 +21,8 @@ fn main() -> ExitCode {
     let mut counts = Counts::default();
     let start = Instant::now();
     let end = run_list(seldom, seed, numbers, numbers.length, &mut counts)
-        .and_then(|()| run_lists(plan, seed, calls, &mut counts));
+        .and_then(|()| run_lists(plan, seed, calls, &mut counts))
+        .and_then(|()| run_deep(plan.engine, seed, calls / 4, &mut counts));
     print!("{counts}");
     println!("seconds {:.1}", start.elapsed().as_secs_f64());
     match end {
