@@ -26,17 +26,74 @@ struct Size {
     calls: Vec<(&'static str, Times)>,
 }
 
+/// A call that matches orders, and the check of its book alone.
+struct Matched {
+    name: String,
+    whole: Times,
+    check: Times,
+}
+
+impl Matched {
+    fn new(name: String, book: &Book, call: &Call) -> Matched {
+        Matched { name, whole: passes(book, call), check: passes(book, &check_alone()) }
+    }
+
+    /// The engine's and the second engine's time without the check.
+    fn less_check(&self) -> [f64; 2] {
+        let Matched { whole, check, .. } = self;
+        [whole.engine - check.engine, whole.second - check.second]
+    }
+}
+
 fn main() {
-    let sizes = sizes();
+    let (sizes, matched) = (sizes(), matched());
     let mut text = String::new();
+    aims(&sizes, &matched, &mut text);
     worst(&sizes, &mut text);
     calls(&sizes, &mut text);
-    matching(&mut text);
+    matching(&matched, &mut text);
     growth(&mut text);
     print!("{text}");
     if let Some(file) = std::env::args().nth(1) {
         replace(&file, &text);
     }
+}
+
+/// Which calls miss which aim.
+fn aims(sizes: &[Size], matched: &[Matched], text: &mut String) {
+    let names: Vec<&str> = sizes[0].calls.iter().map(|&(name, _)| name).collect();
+    let above = |aim: f64, ratio: fn(&Times) -> f64| {
+        let missed = |place: usize| sizes.iter().any(|size| ratio(&size.calls[place].1) > aim);
+        (0..names.len()).filter(|&place| missed(place)).map(|place| names[place]).collect()
+    };
+    let mut aim = |name: &str, missed: Vec<&str>| {
+        let end = if missed.is_empty() {
+            "met".into()
+        } else {
+            format!("missed by {}", missed.join(", "))
+        };
+        writeln!(text, "- {name}: {end}.").unwrap();
+    };
+    aim("No call above the second engine", above(1.0, beside_second));
+    let mut no_rows: Vec<&str> = above(3.0, beside_floor);
+    no_rows.retain(|&name| name != "take");
+    aim("None above three times the floor where it moves no rows", no_rows);
+    let large = matched.iter().filter(|call| call.whole.rows > 200);
+    let slow = large.clone().filter(|call| beside_second(&call.whole) > 1.5);
+    aim(
+        "255 met or 256 cleared at most 1.5 × the second engine, with the check",
+        slow.map(|call| &*call.name).collect(),
+    );
+    let slow = large.filter(|call| call.less_check()[0] > 1.5 * call.less_check()[1]);
+    aim("The same without the check", slow.map(|call| &*call.name).collect());
+}
+
+fn beside_second(times: &Times) -> f64 {
+    times.engine / times.second
+}
+
+fn beside_floor(times: &Times) -> f64 {
+    times.engine / times.floor
 }
 
 /// All sizes, in several passes, so that one disturbance spoils no cell.
@@ -101,8 +158,8 @@ fn worst(sizes: &[Size], text: &mut String) {
             let missed = sizes.iter().filter(|size| ratio(size) > aim).count();
             format!("{:.2} ({}, {}, {}) | {missed}", ratio(at), at.days, at.units, at.orders)
         };
-        let second = ratio(|times| times.engine / times.second, 1.0);
-        let floor = ratio(|times| times.engine / times.floor, 3.0);
+        let second = ratio(beside_second, 1.0);
+        let floor = ratio(beside_floor, 3.0);
         writeln!(text, "| {name} | {second} | {floor} |").unwrap();
     }
 }
@@ -123,7 +180,29 @@ fn calls(sizes: &[Size], text: &mut String) {
 }
 
 /// Orders that meet many counterparts, and clears of many orders.
-fn matching(text: &mut String) {
+fn matched() -> Vec<Matched> {
+    let mut matched = Vec::new();
+    for sells in [16, 64, 255] {
+        let name = format!("order that meets {sells}");
+        matched.push(Matched::new(name, &waiting(sells), &sweep(sells)));
+    }
+    let manners = [
+        ("in one period", 1, false),
+        ("in one period at one price", 1, true),
+        ("over 24 periods", 24, false),
+    ];
+    for (manner, periods, one_price) in manners {
+        for orders in [16, 64, 256] {
+            let name = format!("clear of {orders} {manner}");
+            let book = crossing(orders, periods, one_price);
+            matched.push(Matched::new(name, &book, &Call::Clear { lent: ROWS_LENT }));
+        }
+    }
+    matched
+}
+
+/// A line for each of them, with and without the check of its book.
+fn matching(matched: &[Matched], text: &mut String) {
     let columns = [
         "call",
         "rows",
@@ -134,74 +213,38 @@ fn matching(text: &mut String) {
         "second less check",
         "ratio",
     ];
-    head(
-        "One day and 64 units, in microseconds; less check: without the check of the book.",
-        &columns,
-        text,
-    );
-    for sells in [16, 64, 255] {
-        let book = waiting(sells);
-        let met = passes(&book, &sweep(sells));
-        beside_check(&format!("order that meets {sells}"), &book, met, text);
-    }
-    let manners = [
-        ("in one period", 1, false),
-        ("in one period at one price", 1, true),
-        ("over 24 periods", 24, false),
-    ];
-    for (name, periods, one_price) in manners {
-        for orders in [16, 64, 256] {
-            let book = crossing(orders, periods, one_price);
-            let cleared = passes(&book, &Call::Clear { lent: ROWS_LENT });
-            beside_check(&format!("clear of {orders} {name}"), &book, cleared, text);
+    let title = "One day and 64 units, in microseconds; less check: without the check of the book.";
+    head(title, &columns, text);
+    for call in matched {
+        let Times { engine, second, rows, .. } = call.whole;
+        write!(text, "| {} | {rows}", call.name).unwrap();
+        for [engine, second] in [[engine, second], call.less_check()] {
+            let ratio = engine / second;
+            write!(text, " | {} | {} | {ratio:.2}", micros(engine), micros(second)).unwrap();
         }
+        writeln!(text, " |").unwrap();
     }
-}
-
-/// A line of a call, with and without the check of its book.
-fn beside_check(name: &str, book: &Book, made: Times, text: &mut String) {
-    let check = passes(book, &check_alone());
-    let (engine, second) = (made.engine - check.engine, made.second - check.second);
-    writeln!(
-        text,
-        "| {name} | {} | {} | {} | {:.2} | {} | {} | {:.2} |",
-        made.rows,
-        micros(made.engine),
-        micros(made.second),
-        made.engine / made.second,
-        micros(engine),
-        micros(second),
-        engine / second
-    )
-    .unwrap();
 }
 
 /// What one more of each costs the check of the book.
 fn growth(text: &mut String) {
-    head(
-        "How the check of the book grows, in nanoseconds.",
-        &["for each", "engine", "second", "floor"],
-        text,
-    );
+    let title = "How the check of the book grows, in nanoseconds.";
+    head(title, &["for each", "engine", "second"], text);
     let check = |book: &Book| passes(book, &check_alone());
-    let (periods, units) = (744.0, 64.0);
     let (one, many) = (check(&listed(31, 1, 0)), check(&listed(31, 64, 0)));
-    line("unit and period", one, many, (units - 1.0) * periods, text);
-    line("period, whatever the units", check(&listed(1, 1, 0)), one, periods - 24.0, text);
-    line("offer and period", many, check(&listed(31, 64, 8)), 8.0 * periods, text);
-    for days in [1, 31] {
-        let [none, some, most] = ORDERS.map(|orders| check(&spread(days, 64, orders)));
-        line(&format!("order to 64, {days} days"), none, some, 64.0, text);
-        line(&format!("order past 64, {days} days"), some, most, 191.0, text);
-    }
+    line("unit and period", one, many, 63 * 744, text);
+    line("period, whatever the units", check(&listed(1, 1, 0)), one, 30 * 24, text);
+    line("offer and period", many, check(&listed(31, 64, 8)), 8 * 744, text);
+    let [none, some, most] = ORDERS.map(|orders| check(&spread(1, 64, orders)));
+    line("order to 64", none, some, 64, text);
+    line("order past 64", some, most, 255 - 64, text);
 }
 
 /// The difference of two times, for each of so many.
-fn line(name: &str, less: Times, more: Times, count: f64, text: &mut String) {
-    let each = |of: fn(&Times) -> f64| 1_000.0 * (of(&more) - of(&less)) / count;
+fn line(name: &str, less: Times, more: Times, count: u64, text: &mut String) {
+    let each = |of: fn(&Times) -> f64| 1_000.0 * (of(&more) - of(&less)) / count as f64;
     let (engine, second) = (each(|times| times.engine), each(|times| times.second));
-    let floor = each(|times| times.floor);
-    writeln!(text, "| {name} | {engine:.2} | {second:.2} | {floor:.2} |").unwrap();
+    writeln!(text, "| {name} | {engine:.2} | {second:.2} |").unwrap();
 }
 
 /// Puts the tables between the marks of a page.
