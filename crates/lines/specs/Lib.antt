@@ -1,0 +1,5 @@
+pub mod Lines
+pub mod Readings
+pub mod Printed
+pub mod Puts
+pub mod Answers
