@@ -11,8 +11,11 @@ use lines::reading::Reading;
 use lines::reading::has_begun;
 use lines::reading::line_end;
 use lines::reading::read_piece;
-ghost use Prim.Native.Nat.{_≤_};
+ghost use Prim.Native.Nat.{ℕ, _≤_};
+ghost use mathlib.Core.List.{List};
 ghost use lib.ListN.{length};
+ghost use Rattle.lines.specs.Readings.{Reads};
+ghost use Rattle.rehearse.specs.Running.{running};
 
 // What goes from piece to piece: the line so far, whether an O was accepted, and whether the input goes on.
 struct Desk {
@@ -41,7 +44,7 @@ fn answer(
     printed.started
 }
 
-// Answers each line that ends in the piece, and keeps what is read of the next one.
+// Answers each line that ends in the piece, and keeps what is read of the next one: no byte is lost between pieces.
 fn answer_piece(
     piece: &[u8],
     desk: Desk,
@@ -49,7 +52,9 @@ fn answer_piece(
     book: &mut BookMemory,
     rows: &mut RowMemory,
     out: &mut Text,
-) -> Desk {
+) -> Desk
+    ensures { λ r. ⌜ ((line : List ℕ) → Reads line (desk .reading) (now (numbers .entry)) → Reads (running line (now (piece .entry))) (r .reading) (now (numbers .exit))) ⌝ }
+{
     let mut reading = desk.reading;
     let mut started = desk.started;
     let mut from = 0;

@@ -1,4 +1,5 @@
--- `answer_piece`: each line ends within the piece, and behind where it runs.
+-- `answer_piece`: what is kept at `from` is what is kept of the line that runs there; each line ends within the piece.
+use Rattle.rehearse.proofs.RunningLaws.{Keeps, keeps-first, keeps-next, keeps-break, keeps-all}
 use Prim.Native.Nat.{_-_}
 use native.Mathlib.Omega.{arith}
 use lib.ListN.{length}
@@ -8,7 +9,7 @@ use Rattle.rehearse.proofs.answer_piece.Statement.{statement}
 use Rattle.rehearse.proofs.answer_piece.Tie as tie
 
 abbrev Inv-loop : tie.InvT-loop
-Inv-loop piece numbers₀ book₀ rows₀ out₀ reading₀ started₀ from₀ numbers book rows out reading started from = Unit {0}
+Inv-loop piece numbers₀ book₀ rows₀ out₀ reading₀ started₀ from₀ numbers book rows out reading started from = Keeps piece reading₀ numbers₀ from reading numbers
 
 abbrev μ-loop : tie.MeasureT-loop
 μ-loop piece numbers₀ book₀ rows₀ out₀ reading₀ started₀ from₀ numbers book rows out reading started from = length piece - from
@@ -17,7 +18,7 @@ ends : (c : tie.After-line-end Inv-loop μ-loop) → EndsAt (c .before .before .
 ends c = c .line-end .ensures (omega arith)
 
 loop-holds : tie.Need-loop-holds Inv-loop μ-loop
-loop-holds c = search needs
+loop-holds c = keeps-first _ _ _
 
 line-end-requires : tie.Need-line-end-requires Inv-loop μ-loop
 line-end-requires c κs = search needs
@@ -44,13 +45,13 @@ loop-less : tie.Need-loop-less Inv-loop μ-loop
 loop-less c = let e = ends (c .before .before .before .before .before .before .before .before .before) in omega arith
 
 loop-again : tie.Need-loop-again Inv-loop μ-loop
-loop-again c = search needs
+loop-again c = keeps-next _ _ _ _ _ _ _ _ (ends (c .before .before .before .before .before .before .before .before .before)) (let e = ends (c .before .before .before .before .before .before .before .before .before) in omega arith) (c .before .before .before .before .before .before .before .before .before .before .before .loop .inv)
 
 returns : tie.Need-returns Inv-loop μ-loop
-returns c = search needs
+returns c = keeps-all _ _ _ _ _ _ (omega arith) (c .before .loop .inv)
 
 returns-2 : tie.Need-returns-2 Inv-loop μ-loop
-returns-2 c = search needs
+returns-2 c = keeps-break _ _ _ _ _ _ _ _ _ (ends (c .before .before .before .before)) (let e = ends (c .before .before .before .before) in omega arith) (c .before .before .before .before .before .before .loop .inv) (c .before .read-piece .ensures)
 
 pub answer-piece-spec : {M : Type 1} → statement M
 answer-piece-spec =
