@@ -168,13 +168,15 @@ lost-stays ns b = record { within = λ w. tt; rest = λ w more. refl; begins = r
 -- a line of no byte, and a byte more
 pub reads-none : (ns : List ℕ) → Reads [] Start ns
 unfolding restOf
-reads-none ns = record { within = tt; rest = λ more. refl }
+reads-none ns = record { within = tt; rest = λ more. refl; begins = refl }
 
 pub reads-more : (line : List ℕ) (r : Reading) (ns : List ℕ) (b : ℕ) (r′ : Reading) (ns′ : List ℕ) → Reads line r ns → Follows r ns b r′ ns′ → Reads (line ++ (b ∷ [])) r′ ns′
 reads-more line r ns b r′ ns′ f g =
+    let l = length-append line (b ∷ []) in
     record {
       within = g .within (f .within);
       rest = λ more. ap parse (append-assoc line (b ∷ []) more) ∙ f .rest (b ∷ more) ∙ g .rest (f .within) more;
+      begins = g .begins ∙ sym (lt-ltb 0 (length (line ++ (b ∷ []))) (omega arith));
     }
 
 -- the end of a line

@@ -3,3 +3,4 @@ pub mod Readings
 pub mod Printed
 pub mod Puts
 pub mod Answers
+pub mod Transcript

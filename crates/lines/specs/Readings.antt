@@ -4,6 +4,7 @@ use mathlib.Core.Path.{_≡_}
 use mathlib.Core.Bool.{Bool, true, false, cond, _&&_}
 use mathlib.Core.List.{List, [], _∷_, _++_}
 use lib.ListN.{length, getD, take}
+use lib.Dec.{ltb}
 use Rattle.measures.specs.Lists.{every}
 use Rattle.lines.specs.declared.reading.Reading.{Reading}
 use Rattle.lines.specs.declared.reading.Reading.the-variants.{Start, Letter, Space, Digits, Lost}
@@ -40,6 +41,7 @@ begun Lost = true
 pub record Reads (line : List ℕ) (r : Reading) (ns : List ℕ) : Type 0 where
   pub within : InRange r
   pub rest : (more : List ℕ) → parse (line ++ more) ≡ restOf r ns more
+  pub begins : begun r ≡ ltb 0 (length line)
 
 -- r′ and ns′ are what is kept after the byte b
 pub record Follows (r : Reading) (ns : List ℕ) (b : ℕ) (r′ : Reading) (ns′ : List ℕ) : Type 0 where

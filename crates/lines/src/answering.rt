@@ -3,7 +3,6 @@ use crate::printing::print_no;
 use crate::printing::print_ok;
 use crate::reading::Numbers;
 use crate::reading::Reading;
-use crate::reading::end_line;
 use book::Answer;
 use book::calls::cancel;
 use book::calls::clear;
@@ -15,14 +14,14 @@ use book::calls::take;
 use book::calls::withdraw;
 use book::opening::open;
 ghost use mathlib.Core.Path.{_≡_};
-ghost use mathlib.Core.Bool.{Bool, true, _&&_};
-ghost use Prim.Native.Nat.{ℕ, _+_, _*_, _-_, _≤_, _<_};
-ghost use mathlib.Core.List.{List, [], _∷_, _++_};
-ghost use lib.ListN.{length, getD, take, drop};
+ghost use mathlib.Core.Bool.{true, _&&_};
+ghost use Prim.Native.Nat.{ℕ, _≤_};
+ghost use mathlib.Core.List.{List};
+ghost use lib.ListN.{length, getD, take};
 ghost use lib.Dec.{eqb, leb};
 ghost use Rattle.book.specs.Layout.{decode};
 ghost use Rattle.book.specs.Contract.{Made, toldBy};
-ghost use Rattle.lines.specs.Lines.{countOf, isCall, callOf, opening, calling, parse};
+ghost use Rattle.lines.specs.Lines.{countOf, isCall, callOf, called, opening, calling, parse};
 ghost use Rattle.lines.specs.Readings.{Reads};
 ghost use Rattle.lines.specs.Printed.{printedNo};
 ghost use Rattle.lines.specs.Answers.{Answered};
@@ -35,6 +34,12 @@ pub type RowMemory = [u64; 4464];
 
 pub type Text = [u8; 95256];
 
+// A line's letter and its count of numbers; no letter where the line is not understood.
+struct Heard {
+    letter: u8,
+    count: usize,
+}
+
 // An answer in numbers: the refusal (0: none), the number, the count of rows.
 struct Told {
     refusal: u64,
@@ -46,6 +51,42 @@ struct Told {
 pub struct Printed {
     pub started: bool,
     pub length: usize,
+}
+
+// What a line says at its end.
+fn end_line(reading: Reading, numbers: &mut [u64]) -> Heard
+    requires { ⌜ length (now numbers) ≡ 27 ⌝ }
+    ensures { λ r. ⌜ ((line : List ℕ) → Reads line reading (now (numbers .entry)) → parse line ≡ called (r .letter) (take (r .count) (now (numbers .exit)))) ⌝ }
+    ensures { λ r. ⌜ r .count ≤ 27 ⌝ }
+{
+    match reading {
+        Reading::Start => Heard {
+            letter: 0,
+            count: 0,
+        },
+        Reading::Letter(letter) => Heard { letter, count: 0 },
+        Reading::Space(_, _) => Heard {
+            letter: 0,
+            count: 0,
+        },
+        Reading::Digits(letter, count, value) => {
+            if 27 <= count {
+                return Heard {
+                    letter: 0,
+                    count: 0,
+                };
+            }
+            numbers[count] = value;
+            Heard {
+                letter,
+                count: count + 1,
+            }
+        }
+        Reading::Lost => Heard {
+            letter: 0,
+            count: 0,
+        },
+    }
 }
 
 fn told_by(answer: Answer) -> Told

@@ -1,9 +1,8 @@
 // Reading a line in pieces of any length.
 ghost use mathlib.Core.Path.{_≡_};
-ghost use Prim.Native.Nat.{ℕ, _+_, _*_, _-_, _≤_, _<_};
-ghost use mathlib.Core.List.{List, [], _∷_, _++_};
-ghost use lib.ListN.{length, take, drop};
-ghost use Rattle.lines.specs.Lines.{parse, called};
+ghost use Prim.Native.Nat.{ℕ, _≤_};
+ghost use mathlib.Core.List.{List, _++_};
+ghost use lib.ListN.{length};
 ghost use Rattle.lines.specs.Readings.{Reads, Follows, begun, EndsAt};
 
 // The numbers of a line: no letter has more than 27.
@@ -21,12 +20,6 @@ pub enum Reading {
     Digits(u8, usize, u64),
     // Not understood, whatever follows.
     Lost,
-}
-
-// A line's letter and its count of numbers; no letter where the line is not understood.
-pub struct Heard {
-    pub letter: u8,
-    pub count: usize,
 }
 
 fn after_start(byte: u8, numbers: &[u64]) -> Reading
@@ -129,42 +122,6 @@ fn read_bytes(reading: Reading, piece: &[u8], numbers: &mut [u64]) -> Reading
         i += 1;
     }
     read
-}
-
-// Ends a line.
-pub fn end_line(reading: Reading, numbers: &mut [u64]) -> Heard
-    requires { ⌜ length (now numbers) ≡ 27 ⌝ }
-    ensures { λ r. ⌜ ((line : List ℕ) → Reads line reading (now (numbers .entry)) → parse line ≡ called (r .letter) (take (r .count) (now (numbers .exit)))) ⌝ }
-    ensures { λ r. ⌜ r .count ≤ 27 ⌝ }
-{
-    match reading {
-        Reading::Start => Heard {
-            letter: 0,
-            count: 0,
-        },
-        Reading::Letter(letter) => Heard { letter, count: 0 },
-        Reading::Space(_, _) => Heard {
-            letter: 0,
-            count: 0,
-        },
-        Reading::Digits(letter, count, value) => {
-            if 27 <= count {
-                return Heard {
-                    letter: 0,
-                    count: 0,
-                };
-            }
-            numbers[count] = value;
-            Heard {
-                letter,
-                count: count + 1,
-            }
-        }
-        Reading::Lost => Heard {
-            letter: 0,
-            count: 0,
-        },
-    }
 }
 
 // Whether a byte of the line was read.

@@ -3,8 +3,8 @@ use mathlib.Core.List.{[]}
 use native.Mathlib.Omega.{arith}
 use Rattle.lines.proofs.ReadingLaws.{end-unknown, start-unknown, space-unknown, lost-unknown, end-letter, end-number}
 use borrow.Author.Needs.{needs}
-use Rattle.lines.proofs.reading.end_line.Statement.{statement}
-use Rattle.lines.proofs.reading.end_line.Tie as tie
+use Rattle.lines.proofs.answering.end_line.Statement.{statement}
+use Rattle.lines.proofs.answering.end_line.Tie as tie
 
 enum-told : tie.Need-enum-told
 enum-told c = search needs
