@@ -1,0 +1,4 @@
+pub mod ReadingLaws
+pub mod PuttingLaws
+pub mod AnswerLaws
+pub mod TranscriptHolds

@@ -1,0 +1,257 @@
+//! Times every call of the engine beside the second engine and beside a plain read of the book's memory, and prints
+//! tables. With a file's name, as docs/COST.md, the tables take the place of those that stand in it.
+
+use second::book::Book;
+use second::calls::{Call, ROWS_LENT};
+use std::fmt::Write;
+use std::fs;
+use trials::books::{check_alone, crossing, each_call, listed, spread, sweep, waiting};
+use trials::timing::{times, Times};
+
+const DAYS: [u64; 3] = [1, 7, 31];
+const UNITS: [u64; 3] = [1, 16, 64];
+const ORDERS: [u64; 3] = [0, 64, 255];
+
+/// How often all is timed.
+const PASSES: usize = 3;
+
+/// What stands around the tables in the page.
+const MARKS: [&str; 2] = ["<!-- tables of bench_engine -->\n", "<!-- end of tables -->\n"];
+
+/// The times of each call on a book of this size.
+struct Size {
+    days: u64,
+    units: u64,
+    orders: u64,
+    calls: Vec<(&'static str, Times)>,
+}
+
+/// A call that matches orders, and the check of its book alone.
+struct Matched {
+    name: String,
+    whole: Times,
+    check: Times,
+}
+
+impl Matched {
+    fn new(name: String, book: &Book, call: &Call) -> Matched {
+        Matched { name, whole: passes(book, call), check: passes(book, &check_alone()) }
+    }
+
+    /// The engine's and the second engine's time without the check.
+    fn less_check(&self) -> [f64; 2] {
+        let Matched { whole, check, .. } = self;
+        [whole.engine - check.engine, whole.second - check.second]
+    }
+}
+
+fn main() {
+    let (sizes, matched) = (sizes(), matched());
+    let mut text = String::new();
+    aims(&sizes, &matched, &mut text);
+    worst(&sizes, &mut text);
+    calls(&sizes, &mut text);
+    matching(&matched, &mut text);
+    growth(&mut text);
+    print!("{text}");
+    if let Some(file) = std::env::args().nth(1) {
+        replace(&file, &text);
+    }
+}
+
+/// Which calls miss which aim.
+fn aims(sizes: &[Size], matched: &[Matched], text: &mut String) {
+    let names: Vec<&str> = sizes[0].calls.iter().map(|&(name, _)| name).collect();
+    let above = |aim: f64, ratio: fn(&Times) -> f64| {
+        let missed = |place: usize| sizes.iter().any(|size| ratio(&size.calls[place].1) > aim);
+        (0..names.len()).filter(|&place| missed(place)).map(|place| names[place]).collect()
+    };
+    let mut aim = |name: &str, missed: Vec<&str>| {
+        let end = if missed.is_empty() {
+            "met".into()
+        } else {
+            format!("missed by {}", missed.join(", "))
+        };
+        writeln!(text, "- {name}: {end}.").unwrap();
+    };
+    aim("No call above the second engine", above(1.0, beside_second));
+    let mut no_rows: Vec<&str> = above(3.0, beside_floor);
+    no_rows.retain(|&name| name != "take");
+    aim("None above three times the floor where it moves no rows", no_rows);
+    let large = matched.iter().filter(|call| call.whole.rows > 200);
+    let slow = large.clone().filter(|call| beside_second(&call.whole) > 1.5);
+    aim(
+        "255 met or 256 cleared at most 1.5 × the second engine, with the check",
+        slow.map(|call| &*call.name).collect(),
+    );
+    let slow = large.filter(|call| call.less_check()[0] > 1.5 * call.less_check()[1]);
+    aim("The same without the check", slow.map(|call| &*call.name).collect());
+}
+
+fn beside_second(times: &Times) -> f64 {
+    times.engine / times.second
+}
+
+fn beside_floor(times: &Times) -> f64 {
+    times.engine / times.floor
+}
+
+/// All sizes, in several passes, so that one disturbance spoils no cell.
+fn sizes() -> Vec<Size> {
+    let mut sizes = one_pass();
+    for _ in 1..PASSES {
+        for (size, again) in sizes.iter_mut().zip(one_pass()) {
+            for ((_, times), (_, more)) in size.calls.iter_mut().zip(again.calls) {
+                *times = times.least(more);
+            }
+        }
+    }
+    sizes
+}
+
+fn one_pass() -> Vec<Size> {
+    let mut sizes = Vec::new();
+    for days in DAYS {
+        for units in UNITS {
+            for orders in ORDERS {
+                let calls = each_call(days, units, orders).into_iter();
+                let calls = calls.map(|(name, book, call)| (name, times(&book, &call))).collect();
+                sizes.push(Size { days, units, orders, calls });
+            }
+        }
+    }
+    sizes
+}
+
+/// The times of one call, in several passes.
+fn passes(book: &Book, call: &Call) -> Times {
+    (1..PASSES).fold(times(book, call), |least, _| least.least(times(book, call)))
+}
+
+/// A table's head.
+fn head(title: &str, columns: &[&str], text: &mut String) {
+    writeln!(text, "\n{title}\n\n| {} |", columns.join(" | ")).unwrap();
+    writeln!(text, "|{}", "---|".repeat(columns.len())).unwrap();
+}
+
+/// Microseconds in three figures or so.
+fn micros(time: f64) -> String {
+    match time {
+        100.0.. => format!("{time:.0}"),
+        10.0.. => format!("{time:.1}"),
+        _ => format!("{time:.2}"),
+    }
+}
+
+/// The largest ratio of each call to the second engine and to the floor, where, and how often an aim is missed.
+fn worst(sizes: &[Size], text: &mut String) {
+    let columns =
+        ["call", "× second, at most", "sizes above 1 ×", "× floor, at most", "sizes above 3 ×"];
+    let title =
+        format!("Largest ratios over {} sizes; in brackets days, units and orders.", sizes.len());
+    head(&title, &columns, text);
+    for (place, &(name, _)) in sizes[0].calls.iter().enumerate() {
+        let ratio = |of: fn(&Times) -> f64, aim: f64| {
+            let ratio = |size: &Size| of(&size.calls[place].1);
+            let largest = |one: &&Size, other: &&Size| ratio(one).total_cmp(&ratio(other));
+            let at = sizes.iter().max_by(largest).unwrap();
+            let missed = sizes.iter().filter(|size| ratio(size) > aim).count();
+            format!("{:.2} ({}, {}, {}) | {missed}", ratio(at), at.days, at.units, at.orders)
+        };
+        let second = ratio(beside_second, 1.0);
+        let floor = ratio(beside_floor, 3.0);
+        writeln!(text, "| {name} | {second} | {floor} |").unwrap();
+    }
+}
+
+/// The times of each call at each size.
+fn calls(sizes: &[Size], text: &mut String) {
+    let mut columns = vec!["days", "units", "orders", "floor"];
+    columns.extend(sizes[0].calls.iter().map(|(name, _)| name));
+    head("Microseconds of a call: the engine / the second engine.", &columns, text);
+    for Size { days, units, orders, calls } in sizes {
+        let floor = calls.iter().map(|(_, times)| times.floor).fold(f64::MAX, f64::min);
+        write!(text, "| {days} | {units} | {orders} | {} |", micros(floor)).unwrap();
+        for (_, times) in calls {
+            write!(text, " {} / {} |", micros(times.engine), micros(times.second)).unwrap();
+        }
+        writeln!(text).unwrap();
+    }
+}
+
+/// Orders that meet many counterparts, and clears of many orders.
+fn matched() -> Vec<Matched> {
+    let mut matched = Vec::new();
+    for sells in [16, 64, 255] {
+        let name = format!("order that meets {sells}");
+        matched.push(Matched::new(name, &waiting(sells), &sweep(sells)));
+    }
+    let manners = [
+        ("in one period", 1, false),
+        ("in one period at one price", 1, true),
+        ("over 24 periods", 24, false),
+    ];
+    for (manner, periods, one_price) in manners {
+        for orders in [16, 64, 256] {
+            let name = format!("clear of {orders} {manner}");
+            let book = crossing(orders, periods, one_price);
+            matched.push(Matched::new(name, &book, &Call::Clear { lent: ROWS_LENT }));
+        }
+    }
+    matched
+}
+
+/// A line for each of them, with and without the check of its book.
+fn matching(matched: &[Matched], text: &mut String) {
+    let columns = [
+        "call",
+        "rows",
+        "engine",
+        "second",
+        "ratio",
+        "engine less check",
+        "second less check",
+        "ratio",
+    ];
+    let title = "One day and 64 units, in microseconds; less check: without the check of the book.";
+    head(title, &columns, text);
+    for call in matched {
+        let Times { engine, second, rows, .. } = call.whole;
+        write!(text, "| {} | {rows}", call.name).unwrap();
+        for [engine, second] in [[engine, second], call.less_check()] {
+            let ratio = engine / second;
+            write!(text, " | {} | {} | {ratio:.2}", micros(engine), micros(second)).unwrap();
+        }
+        writeln!(text, " |").unwrap();
+    }
+}
+
+/// What one more of each costs the check of the book.
+fn growth(text: &mut String) {
+    let title = "How the check of the book grows, in nanoseconds.";
+    head(title, &["for each", "engine", "second"], text);
+    let check = |book: &Book| passes(book, &check_alone());
+    let (one, many) = (check(&listed(31, 1, 0)), check(&listed(31, 64, 0)));
+    line("unit and period", one, many, 63 * 744, text);
+    line("period, whatever the units", check(&listed(1, 1, 0)), one, 30 * 24, text);
+    line("offer and period", many, check(&listed(31, 64, 8)), 8 * 744, text);
+    let [none, some, most] = ORDERS.map(|orders| check(&spread(1, 64, orders)));
+    line("order to 64", none, some, 64, text);
+    line("order past 64", some, most, 255 - 64, text);
+}
+
+/// The difference of two times, for each of so many.
+fn line(name: &str, less: Times, more: Times, count: u64, text: &mut String) {
+    let each = |of: fn(&Times) -> f64| 1_000.0 * (of(&more) - of(&less)) / count as f64;
+    let (engine, second) = (each(|times| times.engine), each(|times| times.second));
+    writeln!(text, "| {name} | {engine:.2} | {second:.2} |").unwrap();
+}
+
+/// Puts the tables between the marks of a page.
+fn replace(file: &str, tables: &str) {
+    let page = fs::read_to_string(file).expect("the page can be read");
+    let (before, rest) = page.split_once(MARKS[0]).expect("the page has the first mark");
+    let (_, after) = rest.split_once(MARKS[1]).expect("the page has the second mark");
+    let page = [before, MARKS[0], tables, "\n", MARKS[1], after].concat();
+    fs::write(file, page).expect("the page can be written");
+}

@@ -1,0 +1,217 @@
+//! Engines with one fault each, made from the exported functions: lists and damaged books must find each.
+
+use second::book::{BUY, ROLLING};
+use second::calls::Call;
+use second::manners::{Manner, MANNERS};
+use trials::engine::{Engine, Told};
+use trials::exported;
+use trials::layout::{
+    figures_at, unit_at, words, DAYS, FIGURES, GIVEN, ORDER_COUNT, PHASE, UNIT_COUNT,
+};
+use trials::lists::{run_list, Counts, Plan};
+
+/// Manners by their places.
+const TIGHT: &Manner = &MANNERS[0];
+const DAY: &Manner = &MANNERS[1];
+const ORDERS: &Manner = &MANNERS[6];
+
+/// Whether a call was accepted or refused.
+#[derive(PartialEq)]
+enum If {
+    Accepted,
+    Refused,
+}
+
+/// Makes the call, then changes what was told, the book or the rows.
+fn then(
+    end: If,
+    call: &Call,
+    book: &mut [u64],
+    rows: &mut [u64],
+    change: impl FnOnce(&mut Told, &mut [u64], &mut [u64]),
+) -> Told {
+    let mut told = exported::make(call, book, rows);
+    if (told.refusal == 0) == (end == If::Accepted) {
+        change(&mut told, book, rows);
+    }
+    told
+}
+
+/// The call on the book with other words; after it they differ by as much as before it.
+fn with(call: &Call, book: &mut [u64], rows: &mut [u64], other: &[(usize, u64)]) -> Told {
+    let mut differences = Vec::new();
+    for &(place, word) in other {
+        differences.push((place, book[place].wrapping_sub(word)));
+        book[place] = word;
+    }
+    let told = exported::make(call, book, rows);
+    for (place, difference) in differences {
+        book[place] = book[place].wrapping_add(difference);
+    }
+    told
+}
+
+/// Words of figures: lowered and the mark of ways 3 and 4.
+const LOWERED: usize = 2;
+const WAY: usize = 4;
+
+const WRONG: [(&str, &str, &Manner, Engine); 19] = [
+    ("one kWh more in a row", "other rows", TIGHT, |call, book, rows| {
+        then(If::Accepted, call, book, rows, |told, _, rows| {
+            if told.count > 0 {
+                rows[4] += 1;
+            }
+        })
+    }),
+    ("two rows swapped", "other rows", DAY, |call, book, rows| {
+        then(If::Accepted, call, book, rows, |told, _, rows| {
+            if told.count > 1 {
+                rows[..12].rotate_left(6);
+            }
+        })
+    }),
+    ("a row too many", "another count", TIGHT, |call, book, rows| {
+        then(If::Accepted, call, book, rows, |told, _, _| told.count += u64::from(told.count > 0))
+    }),
+    ("a row past the counted", "memory past the rows", TIGHT, |call, book, rows| {
+        then(If::Accepted, call, book, rows, |told, _, rows| {
+            if told.count > 0 {
+                rows[6 * told.count as usize] = 0;
+            }
+        })
+    }),
+    ("a refusal that writes a row", "memory past the rows", TIGHT, |call, book, rows| {
+        then(If::Refused, call, book, rows, |_, _, rows| {
+            if let Some(word) = rows.first_mut() {
+                *word = 0;
+            }
+        })
+    }),
+    ("a refusal that gives a number", "another number", TIGHT, |call, book, rows| {
+        then(If::Refused, call, book, rows, |told, book, _| {
+            if told.refusal == 19 {
+                told.number = book[GIVEN] + 1;
+            }
+        })
+    }),
+    ("a refusal that uses up a number", "a refusal or curve changed", TIGHT, |call, book, rows| {
+        then(If::Refused, call, book, rows, |told, book, _| {
+            book[GIVEN] += u64::from(told.refusal == 19)
+        })
+    }),
+    ("a take that names its offer", "another number", DAY, |call, book, rows| {
+        then(If::Accepted, call, book, rows, |told, _, _| {
+            if let Call::Take { number, .. } = *call {
+                told.number = number;
+            }
+        })
+    }),
+    ("today's trade is held", "another refusal", TIGHT, |call, book, rows| match *call {
+        Call::Order { unit, period, .. } if held_can_grow(book, unit, period) => {
+            let at = figures_at(unit as usize - 1, period as usize);
+            let held = book[at] + book[at + 1];
+            with(call, book, rows, &[(at, held), (at + 1, 0)])
+        }
+        _ => exported::make(call, book, rows),
+    }),
+    ("orders that wait and never match", "another count", TIGHT, |call, book, rows| match call {
+        Call::Order { .. } if book.len() > PHASE && book[PHASE] == ROLLING => {
+            with(call, book, rows, &[(PHASE, 0)])
+        }
+        _ => exported::make(call, book, rows),
+    }),
+    ("full with a place free", "another refusal", ORDERS, |call, book, rows| {
+        let full = book.len() > ORDER_COUNT && book[ORDER_COUNT] == 255;
+        if full && matches!(call, Call::Order { direction: BUY, .. }) {
+            let mut copy = book.to_vec();
+            let told = exported::make(call, &mut copy, &mut rows.to_vec());
+            return if told.refusal == 0 { Told::of(17) } else { told };
+        }
+        exported::make(call, book, rows)
+    }),
+    ("the larger half first", "other rows or points", TIGHT, |call, book, rows| {
+        then(If::Accepted, call, book, rows, |_, _, points| {
+            if matches!(call, Call::Curve { .. }) {
+                points[..48].chunks_mut(2).for_each(|pair| pair.reverse());
+            }
+        })
+    }),
+    ("a unit with another's old figures", "another book", TIGHT, |call, book, rows| match call {
+        Call::Enrol { .. } => {
+            let before = book.to_vec();
+            then(If::Accepted, call, book, rows, |told, book, _| {
+                let at = figures_at(told.number as usize - 1, 0);
+                book[at..at + FIGURES].copy_from_slice(&before[at..at + FIGURES]);
+            })
+        }
+        _ => exported::make(call, book, rows),
+    }),
+    ("a close that keeps what was lowered", "another book", TIGHT, |call, book, rows| {
+        let before = book.to_vec();
+        then(If::Accepted, call, book, rows, |_, book, _| {
+            if matches!(call, Call::Close) {
+                for unit in 0..book[UNIT_COUNT] as usize {
+                    let at = figures_at(unit, 9) + LOWERED;
+                    book[at] = before[at];
+                }
+            }
+        })
+    }),
+    ("a word past the book", "memory past the book", TIGHT, |call, book, rows| {
+        then(If::Accepted, call, book, rows, |_, book, _| {
+            if let Some(past) = book.get_mut(words(book[DAYS])) {
+                *past = 0;
+            }
+        })
+    }),
+    ("a word past the lent rows", "memory past the rows", TIGHT, |call, book, rows| {
+        then(If::Accepted, call, book, rows, |told, _, rows| {
+            if told.count > 0 {
+                // SAFETY: a guard word of the trial follows the rows.
+                unsafe { *rows.as_mut_ptr().add(rows.len()) = 0 };
+            }
+        })
+    }),
+    ("a word past the lent book", "a refusal or curve changed", TIGHT, |call, book, rows| {
+        then(If::Refused, call, book, rows, |_, book, _| {
+            // SAFETY: a guard word of the trial follows the book's memory.
+            unsafe { *book.as_mut_ptr().add(book.len()) = 0 };
+        })
+    }),
+    ("a mark out of range let through", "another refusal", DAY, |call, book, rows| {
+        let units = book.get(UNIT_COUNT).map_or(0, |&units| units.min(64));
+        let marks =
+            (0..units as usize).flat_map(|unit| (0..24).map(move |p| figures_at(unit, p) + WAY));
+        let wrong = marks.filter(|&at| book.len() > at && book[at] > 2);
+        let mended: Vec<(usize, u64)> = wrong.map(|at| (at, 0)).collect();
+        with(call, book, rows, &mended)
+    }),
+    ("a capacity one over let through", "another refusal", DAY, |call, book, rows| {
+        let most = 5_000_000;
+        let over = (0..64).map(unit_at).find(|at| book.get(at + 1) == Some(&(most + 1)));
+        let mended: Vec<(usize, u64)> = over.iter().map(|at| (at + 1, most)).collect();
+        with(call, book, rows, &mended)
+    }),
+];
+
+/// Do the figures of this unit stand in this memory, with sums that fit a word?
+fn held_can_grow(book: &[u64], unit: u64, period: u64) -> bool {
+    let known = (1..=64).contains(&unit) && period < 744;
+    known && {
+        let at = figures_at(unit as usize - 1, period as usize);
+        book.len() > at + 1 && book[at].checked_add(book[at + 1]).is_some()
+    }
+}
+
+#[test]
+fn wrong_engines_are_found() {
+    for (name, fault, manner, engine) in WRONG {
+        let plan = Plan { engine, damage: [4, 4] };
+        let mut counts = Counts::default();
+        let found = (0..400)
+            .find_map(|seed| run_list(plan, seed, manner, manner.length, &mut counts).err());
+        let found = found.unwrap_or_else(|| panic!("{name} was not found"));
+        println!("{name}: after {} calls and {} damaged books", counts.made(), counts.damages()[0]);
+        assert!(found.starts_with(fault), "{name}: {found}");
+    }
+}
