@@ -5,4 +5,5 @@ pub mod Best
 pub mod Clearing
 pub mod Answers
 pub mod Places
+pub mod Runs
 pub mod Figures
