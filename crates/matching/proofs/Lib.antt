@@ -35,6 +35,7 @@ pub mod MeetingLaws
 pub mod RollingLaws
 pub mod ExchangeLaws
 pub mod MetLaws
+pub mod TurnLaws
 pub mod FiguresHold
 pub mod RollingFigure
 pub mod Figure2Cleared
