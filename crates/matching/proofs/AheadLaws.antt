@@ -181,6 +181,46 @@ pub ask-other : (a b : Order) → (a .number ≡ b .number → ⊥) → askAhead
 unfolding askAhead
 ask-other = ahead-other cheaper cheaper-strict
 
+-- what does not stand ahead of an order does not stand ahead of one before it
+not-ahead : (better : ℕ → ℕ → Bool) → Strict better → (a b c : Order) → aheadBy better b a ≡ false → aheadBy better c b ≡ false → aheadBy better c a ≡ false
+not-ahead better st a b c e f = go (aheadBy better c a) refl
+  where
+    Fore : Order → Order → Type 0
+    Fore x y = (better (x .price) (y .price) ≡ true) ⊎ ((x .price ≡ y .price) × (x .number < y .number))
+
+    refused : (x y : Order) → aheadBy better x y ≡ false → Fore x y → ⊥
+    refused x y z h = both-ways (sym (is-ahead better st x y h) ∙ z)
+
+    price : (x y : Order) → aheadBy better x y ≡ false → (t : Bool) → better (x .price) (y .price) ≡ t → t ≡ false
+    price x y z true h = absurd (refused x y z (inl h))
+    price x y z false h = refl
+
+    ba : better (b .price) (a .price) ≡ false
+    ba = price b a e (better (b .price) (a .price)) refl
+
+    cb : better (c .price) (b .price) ≡ false
+    cb = price c b f (better (c .price) (b .price)) refl
+
+    same : a .price ≡ b .price → c .price ≡ a .price → c .number < a .number → Dec (b .number < a .number) → ⊥
+    same p q l (yes k) = refused b a e (inr (sym p, k))
+    same p q l (no k) = refused c b f (inr (q ∙ p, omega arith))
+
+    no-fore : Fore c a → ⊥
+    no-fore (inl h) = both-ways (sym h ∙ not-better better st (a .price) (b .price) (c .price) ba cb)
+    no-fore (inr h) = same (st .total (a .price) (b .price) (rw (h .0) at cb) ba) (h .0) (h .1) (decLt (b .number) (a .number))
+
+    go : (t : Bool) → aheadBy better c a ≡ t → t ≡ false
+    go true h = absurd (no-fore (ahead-of better st c a h))
+    go false h = refl
+
+pub ask-far : (a b c : Order) → askAhead b a ≡ false → askAhead c b ≡ false → askAhead c a ≡ false
+unfolding askAhead
+ask-far = not-ahead cheaper cheaper-strict
+
+pub bid-far : (a b c : Order) → bidAhead b a ≡ false → bidAhead c b ≡ false → bidAhead c a ≡ false
+unfolding bidAhead
+bid-far = not-ahead dearer dearer-strict
+
 pub laid-bids : (os : List Order) → laid bidAhead os ≡ laid (aheadBy dearer) os
 unfolding bidAhead
 laid-bids os = refl

@@ -13,7 +13,6 @@ use lib.Seq.{drop-cons, getD-drop}
 use Rattle.matching.specs.Orders.{Order, insert, laid}
 use Rattle.matching.specs.Memory.{ordersIn, noOrder}
 use Rattle.matching.specs.Rolling.{candidate, aheadFor, counterparts}
-use Rattle.matching.specs.Best.{nextBest}
 use Rattle.matching.proofs.OrderLaws.{orders-length}
 
 -- the place of the best counterpart, or the length where there is none
@@ -108,59 +107,10 @@ unfolding best counterparts laid
 picked i [] = none refl refl
 picked i (o ∷ os) = picked-more i o os (best i os) (picked i os)
 
--- what is found, and that nothing is
+-- what is found
 pub found-laid-first : (i : Order) (os : List Order) → best i os < length os → counterparts i os ≡ getD os (best i os) noOrder ∷ counterparts i (without (best i os) os)
 found-laid-first i os l = go (picked i os)
   where
     go : Picked i os (best i os) → counterparts i os ≡ getD os (best i os) noOrder ∷ counterparts i (without (best i os) os)
     go (none e h) = absurd (omega arith)
     go (some u h) = h
-
-pub none-found : (i : Order) (os : List Order) → length os ≤ best i os → counterparts i os ≡ []
-none-found i os l = go (picked i os)
-  where
-    go : Picked i os (best i os) → counterparts i os ≡ []
-    go (none e h) = h
-    go (some u h) = absurd (omega arith)
-
--- the scan: one order more is looked at
-scan-more : (i : Order) (os : List Order) (k b : ℕ) → k < length os → b ≡ suc k + best i (drop (suc k) os) → nextBest i os b k ≡ k + best i (drop k os)
-unfolding best nextBest
-scan-more i os k b l e = rw (drop-cons os k noOrder l) (go (candidate i o) refl (ℕ-discrete b (length os)) (aheadFor i o (getD os b noOrder)) refl)
-  where
-    o : Order
-    o = getD os k noOrder
-
-    rest : List Order
-    rest = drop (suc k) os
-
-    len : length rest ≡ length os - suc k
-    len = length-drop (suc k) os
-
-    same : getD rest (best i rest) noOrder ≡ getD os b noOrder
-    same = getD-drop (suc k) os (best i rest) noOrder ∙ ap (λ (j : ℕ). getD os j noOrder) (sym e)
-
-    go : (c : Bool) → candidate i o ≡ c → Dec (b ≡ length os) → (a : Bool) → aheadFor i o (getD os b noOrder) ≡ a
-        → cond (candidate i o) (cond (eqb b (length os)) k (cond (aheadFor i o (getD os b noOrder)) k b)) b
-        ≡ k + cond (candidate i o) (cond (eqb (best i rest) (length rest)) 0 (cond (aheadFor i o (getD rest (best i rest) noOrder)) 0 (suc (best i rest)))) (suc (best i rest))
-    go false ec d a ea = rw ec (omega arith)
-    go true ec (yes z) a ea = rw (ec, eq-eqb b (length os) z, eq-eqb (best i rest) (length rest) (omega (arith, len))) (omega arith)
-    go true ec (no z) true ea = rw (ec, ne-eqb b (length os) z, ne-eqb (best i rest) (length rest) (omega (arith, len)), same, ea) (omega arith)
-    go true ec (no z) false ea = rw (ec, ne-eqb b (length os) z, ne-eqb (best i rest) (length rest) (omega (arith, len)), same, ea) (omega arith)
-
--- the scan in memory, from the last order down to the first
-module _ (i : Order) (m : List ℕ) (n : ℕ) where
-  pub scan-starts : n ≡ n + best i (drop n (ordersIn m n))
-  unfolding best
-  scan-starts =
-      let e : drop n (ordersIn m n) ≡ [] = drop-of-length-le (ordersIn m n) {i = n} (omega (arith, orders-length m n)) in
-      rw e (sym (add-zero n))
-
-  pub scan-down : (k b : ℕ) → 0 < k → k ≤ n → b ≡ k + best i (drop k (ordersIn m n)) → nextBest i (ordersIn m n) b (k - 1) ≡ (k - 1) + best i (drop (k - 1) (ordersIn m n))
-  scan-down k b pos l e =
-      let s : k ≡ suc (k - 1) = omega arith in
-      scan-more i (ordersIn m n) (k - 1) b (omega (arith, orders-length m n))
-      (e ∙ ap (λ (j : ℕ). j + best i (drop j (ordersIn m n))) s)
-
-  pub scan-ends : (k b : ℕ) → k ≡ 0 → b ≡ k + best i (drop k (ordersIn m n)) → b ≡ best i (ordersIn m n)
-  scan-ends k b z e = e ∙ ap (λ (j : ℕ). j + best i (drop j (ordersIn m n))) z ∙ zero-add (best i (ordersIn m n))

@@ -3,12 +3,17 @@ pub mod RowLaws
 pub mod FitLaws
 pub mod EachLaws
 pub mod LaidLaws
+pub mod MergeLaws
 pub mod AheadLaws
 pub mod VolumeLaws
 pub mod WalkLaws
 pub mod OverlapLaws
 pub mod TakingLaws
 pub mod LayingLaws
+pub mod KeyLaws
+pub mod RunLaws
+pub mod LayRunLaws
+pub mod DrawLaws
 pub mod PickLaws
 pub mod PlaceLaws
 pub mod StepLaws
@@ -30,6 +35,7 @@ pub mod MeetingLaws
 pub mod RollingLaws
 pub mod ExchangeLaws
 pub mod MetLaws
+pub mod TurnLaws
 pub mod FiguresHold
 pub mod RollingFigure
 pub mod Figure2Cleared

@@ -16,7 +16,7 @@ use Rattle.matching.specs.Memory.{noOrder}
 use Rattle.matching.specs.Rolling.{Match, candidate, aheadFor, counterparts, matches, matchRow, afterMatches, meet}
 use Rattle.matching.proofs.EachLaws.{Each, Has, Pairs, each-both, each-keep, kept, has-self}
 use Rattle.matching.proofs.LaidLaws.{laid-length, laid-each, laid-sorted}
-use Rattle.matching.proofs.AheadLaws.{Strict, dearer, cheaper, dearer-strict, cheaper-strict, aheadBy, not-better, ahead-of, is-ahead, ask-one, bid-one}
+use Rattle.matching.proofs.AheadLaws.{ask-one, bid-one, ask-far, bid-far}
 use Rattle.matching.proofs.CounterpartLaws.{Picked, none, some, best, picked}
 use Rattle.matching.proofs.TakeOffLaws.{lessen-rises}
 use Rattle.matching.proofs.MeetingLaws.{match, matches-none, matched, matched-after, matched-length}
@@ -211,45 +211,6 @@ unfolding meet
 nothing-crosses-after i os rises l = crosses-none (i .quantity + length os) i os (i .quantity) (omega arith) rises (omega arith)
 
 -- "best price first, then lowest number": no later counterpart stands ahead of an earlier one
-not-ahead : (better : ℕ → ℕ → Bool) → Strict better → (a b c : Order) → aheadBy better b a ≡ false → aheadBy better c b ≡ false → aheadBy better c a ≡ false
-not-ahead better st a b c e f = go (aheadBy better c a) refl
-  where
-    Fore : Order → Order → Type 0
-    Fore x y = (better (x .price) (y .price) ≡ true) ⊎ ((x .price ≡ y .price) × (x .number < y .number))
-
-    refused : (x y : Order) → aheadBy better x y ≡ false → Fore x y → ⊥
-    refused x y z h = both-ways (sym (is-ahead better st x y h) ∙ z)
-
-    price : (x y : Order) → aheadBy better x y ≡ false → (t : Bool) → better (x .price) (y .price) ≡ t → t ≡ false
-    price x y z true h = absurd (refused x y z (inl h))
-    price x y z false h = refl
-
-    ba : better (b .price) (a .price) ≡ false
-    ba = price b a e (better (b .price) (a .price)) refl
-
-    cb : better (c .price) (b .price) ≡ false
-    cb = price c b f (better (c .price) (b .price)) refl
-
-    same : a .price ≡ b .price → c .price ≡ a .price → c .number < a .number → Dec (b .number < a .number) → ⊥
-    same p q l (yes k) = refused b a e (inr (sym p, k))
-    same p q l (no k) = refused c b f (inr (q ∙ p, omega arith))
-
-    no-fore : Fore c a → ⊥
-    no-fore (inl h) = both-ways (sym h ∙ not-better better st (a .price) (b .price) (c .price) ba cb)
-    no-fore (inr h) = same (st .total (a .price) (b .price) (rw (h .0) at cb) ba) (h .0) (h .1) (decLt (b .number) (a .number))
-
-    go : (t : Bool) → aheadBy better c a ≡ t → t ≡ false
-    go true h = absurd (no-fore (ahead-of better st c a h))
-    go false h = refl
-
-ask-far : (a b c : Order) → askAhead b a ≡ false → askAhead c b ≡ false → askAhead c a ≡ false
-unfolding askAhead
-ask-far = not-ahead cheaper cheaper-strict
-
-bid-far : (a b c : Order) → bidAhead b a ≡ false → bidAhead c b ≡ false → bidAhead c a ≡ false
-unfolding bidAhead
-bid-far = not-ahead dearer dearer-strict
-
 pub best-first : (i : Order) (os : List Order) → Pairs (λ a b. aheadFor i b a ≡ false) (counterparts i os)
 unfolding counterparts
 best-first i os = laid-sorted (aheadFor i) (λ a b. aheadFor i b a ≡ false) one (λ a b e. e) far (keep (candidate i) os)

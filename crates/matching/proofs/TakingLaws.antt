@@ -271,7 +271,7 @@ closing-end m₀ ss n m to k h g =
     orders-take m n to (omega arith) ∙ sym (append-nil (take to (ordersIn m n))) ∙ ap (λ (l : List Order). take to (ordersIn m n) ++ l) (sym (ap (standing (drop k (take n ss))) e ∙ standing-none (drop k (take n ss)))) ∙ g .rest
 
 -- where no mark is 0 all stand
-pub standing-all : (n w : ℕ) (os : List Order) → length os ≡ n → n ≤ w → standing (take n (replicate w 1)) os ≡ os
+standing-all : (n w : ℕ) (os : List Order) → length os ≡ n → n ≤ w → standing (take n (replicate w 1)) os ≡ os
 unfolding standing
 standing-all zero w [] e h = refl
 standing-all zero w (o ∷ os) e h = absurd (omega arith)
@@ -287,6 +287,12 @@ numbers-there m m′ (p ∷ ps) n e b =
     let h : orderAt m′ p .number ≡ orderAt m p .number = sym (numbers-at m′ n p l) ∙ ap (λ (r : List ℕ). getD r p 0) e ∙ numbers-at m n p l in
     ap₂ (λ (x : ℕ) (xs : List ℕ). x ∷ xs) h (numbers-there m m′ ps n e (and-right (ltb p n) (every (λ q. ltb q n) ps) b))
 
+-- fills taken off orders that all stand
+pub rest-left : (m m₁ ss₁ ps xs : List ℕ) (n c : ℕ) → n ≤ 256
+    → Taken m (replicate 256 1) n (afterFills (fillsAt m ps xs c) (standing (take n (replicate 256 1)) (ordersIn m n))) m₁ ss₁
+    → standing (take n ss₁) (ordersIn m₁ n) ≡ afterFills (fillsAt m ps xs c) (ordersIn m n)
+rest-left m m₁ ss₁ ps xs n c h t = t .orders ∙ ap (afterFills (fillsAt m ps xs c)) (standing-all n 256 (ordersIn m n) (orders-length m n) h)
+
 -- the bids' fills taken off, then the asks', and the gaps closed
 pub rests-left : (m m₁ ss₁ m₂ ss₂ bids bought asks sold : List ℕ) (n nb na : ℕ) → n ≤ 256 → Filling asks sold n na
     → Taken m (replicate 256 1) n (afterFills (fillsAt m bids bought nb) (standing (take n (replicate 256 1)) (ordersIn m n))) m₁ ss₁
@@ -294,7 +300,5 @@ pub rests-left : (m m₁ ss₁ m₂ ss₂ bids bought asks sold : List ℕ) (n n
     → standing (take n ss₂) (ordersIn m₂ n) ≡ afterFills (fillsAt m asks sold na) (afterFills (fillsAt m bids bought nb) (ordersIn m n))
 unfolding fillsAt
 rests-left m m₁ ss₁ m₂ ss₂ bids bought asks sold n nb na h f t u =
-    let all : standing (take n (replicate 256 1)) (ordersIn m n) ≡ ordersIn m n = standing-all n 256 (ordersIn m n) (orders-length m n) h in
-    let first : standing (take n ss₁) (ordersIn m₁ n) ≡ afterFills (fillsAt m bids bought nb) (ordersIn m n) = t .orders ∙ ap (afterFills (fillsAt m bids bought nb)) all in
-    u .orders ∙ ap (afterFills (fillsAt m₁ asks sold na)) first
+    u .orders ∙ ap (afterFills (fillsAt m₁ asks sold na)) (rest-left m m₁ ss₁ bids bought n nb h t)
     ∙ fills-by-number (ordersAt m₁ (take na asks)) (ordersAt m (take na asks)) (take na sold) (afterFills (fillsAt m bids bought nb) (ordersIn m n)) (numbers-there m m₁ (take na asks) n (t .numbers) (f .below))

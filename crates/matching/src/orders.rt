@@ -60,7 +60,7 @@ pub fn read(orders: &[u64], k: usize) -> Order
 }
 
 // The order at place k keeps q open.
-pub fn leave(orders: &mut [u64], n: usize, k: usize, q: Energy)
+pub(crate) fn leave(orders: &mut [u64], n: usize, k: usize, q: Energy)
     requires { ⌜ (6 * n ≤ length (now orders)) × (k < n) × (n ≤ 256) ⌝ }
     ensures { λ _. ⌜ (ordersIn (now (orders .exit)) n ≡ set (ordersIn (now (orders .entry)) n) k (leaving (orderAt (now (orders .entry)) k) (q .0))) × (drop (6 * n) (now (orders .exit)) ≡ drop (6 * n) (now (orders .entry))) ⌝ }
 {

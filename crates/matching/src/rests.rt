@@ -87,3 +87,19 @@ pub(crate) fn leave_rests(
     take_fills(orders, n, &mut stands, asks, sold, na);
     close_gaps(orders, n, &stands)
 }
+
+// What is left of the orders after the fills at places; how many stand.
+pub(crate) fn leave_rest(
+    orders: &mut [u64],
+    n: usize,
+    places: &[u64],
+    amounts: &[u64],
+    count: usize,
+) -> usize
+    requires { ⌜ (6 * n ≤ length (now orders)) × (n ≤ 256) × (rising (numbers (ordersIn (now orders) n)) ≡ true) × Filling (now places) (now amounts) n count ⌝ }
+    ensures { λ r. ⌜ (ordersIn (now (orders .exit)) r ≡ afterFills (fillsAt (now (orders .entry)) (now (places .entry)) (now (amounts .entry)) count) (ordersIn (now (orders .entry)) n)) × (drop (6 * n) (now (orders .exit)) ≡ drop (6 * n) (now (orders .entry))) ⌝ }
+{
+    let mut stands = [1u64; 256];
+    take_fills(orders, n, &mut stands, places, amounts, count);
+    close_gaps(orders, n, &stands)
+}

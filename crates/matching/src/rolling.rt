@@ -1,5 +1,8 @@
 // Rolling matching: an incoming order meets the waiting ones (paper 01, "The eight calls", Order).
 use crate::fitness::fits;
+use crate::laying;
+use crate::laying::First;
+use crate::laying::Side;
 use crate::orders;
 use crate::orders::Matched;
 use crate::orders::Order;
@@ -7,66 +10,33 @@ use crate::orders::Row;
 use measures::Energy;
 ghost use mathlib.Core.Path.{_≡_};
 ghost use mathlib.Core.Bool.{true};
-ghost use Prim.Native.Nat.{_*_, _<_, _≤_};
-ghost use lib.ListN.{length, drop};
-ghost use Rattle.matching.specs.Orders.{lessen, rising, numbers};
-ghost use Rattle.matching.specs.Memory.{orderOf, rowOf, orderAt, ordersIn};
-ghost use Rattle.matching.specs.Rolling.{Match, candidate, aheadFor, matchRow};
-ghost use Rattle.matching.specs.Best.{nextBest};
+ghost use mathlib.Core.List.{List, [], _∷_, _++_};
+ghost use Prim.Native.Nat.{ℕ, _+_, _-_, _*_, _<_, _≤_, min};
+ghost use lib.ListN.{length};
+ghost use Rattle.matching.specs.Orders.{Row as RowRecord, rising, numbers};
+ghost use Rattle.matching.specs.Memory.{orderOf, rowOf, orderAt, ordersIn, written};
+ghost use Rattle.matching.specs.Rolling.{Match, matchRow};
+ghost use Rattle.matching.specs.Runs.{keyOf, MetInTurn};
 ghost use Rattle.matching.specs.Answers.{Meets};
 
-// Whether the incoming order meets a waiting one: opposite, of its period, and at a price that it can take.
-fn is_candidate(incoming: Order, o: Order) -> bool
-    ensures { λ r. ⌜ r ≡ candidate (orderOf incoming) (orderOf o) ⌝ }
-{
-    if o.period != incoming.period {
-        return false;
-    }
-    if incoming.direction == 1 {
-        if o.direction != 0 {
-            return false;
-        }
-        return incoming.price.meets(o.price);
-    }
-    if incoming.direction != 0 {
-        return false;
-    }
-    if o.direction != 1 {
-        return false;
-    }
-    o.price.meets(incoming.price)
+// What is left of an incoming order, and how many orders it met.
+pub struct Traded {
+    pub left: Energy,
+    pub count: usize,
 }
 
-// Whether the incoming order meets a before b: the better price first, then the lower number.
-fn is_ahead(incoming: Order, a: Order, b: Order) -> bool
-    ensures { λ r. ⌜ r ≡ aheadFor (orderOf incoming) (orderOf a) (orderOf b) ⌝ }
+// The side that an incoming order meets: opposite, of its period, and at a price that it can take.
+fn side_met(incoming: Order) -> Side
+    requires { ⌜ incoming .direction < 2 ⌝ }
+    ensures { λ r. ⌜ (r .direction ≡ 1 - incoming .direction) × (r .period ≡ incoming .period) × (r .limit ≡ keyOf (1 - incoming .direction) (incoming .price .0)) ⌝ }
 {
-    if a.price.0 == b.price.0 {
-        return a.number < b.number;
+    let direction = 1 - incoming.direction;
+    let limit = laying::key_of(direction, incoming.price.0);
+    Side {
+        direction: direction,
+        period: incoming.period,
+        limit: limit,
     }
-    if incoming.direction == 1 {
-        return a.price.0 < b.price.0;
-    }
-    b.price.0 < a.price.0
-}
-
-// The place of the better one of the order at place k and the best so far, which is n where there is none.
-fn next_best(orders: &[u64], n: usize, incoming: Order, best: usize, k: usize) -> usize
-    requires { ⌜ (6 * n ≤ length (now orders)) × (k < n) × (best ≤ n) × (n ≤ 256) ⌝ }
-    ensures { λ r. ⌜ (r ≡ nextBest (orderOf incoming) (ordersIn (now (orders .entry)) n) best k) × (r ≤ n) ⌝ }
-{
-    let o = orders::read(orders, k);
-    if !is_candidate(incoming, o) {
-        return best;
-    }
-    if best == n {
-        return k;
-    }
-    let p = orders::read(orders, best);
-    if is_ahead(incoming, o, p) {
-        return k;
-    }
-    best
 }
 
 // The row of a match with a waiting order, at the waiting order's price.
@@ -95,51 +65,98 @@ fn match_row(incoming: Order, o: Order, x: Energy) -> Row
     }
 }
 
-// x is taken off the order at place k, and how many orders then stand is answered.
-fn take_off(orders: &mut [u64], n: usize, k: usize, x: Energy) -> usize
-    requires { ⌜ (6 * n ≤ length (now orders)) × (k < n) × (n ≤ 256) × (rising (numbers (ordersIn (now orders) n)) ≡ true) ⌝ }
-    ensures { λ r. ⌜ (ordersIn (now (orders .exit)) r ≡ lessen (orderAt (now (orders .entry)) k .number) (x .0) (ordersIn (now (orders .entry)) n)) × (drop (6 * n) (now (orders .exit)) ≡ drop (6 * n) (now (orders .entry))) ⌝ }
+// Writes the row of a match with the order at place p behind the count rows that stand; what of it is taken.
+fn match_at(
+    orders: &[u64],
+    p: usize,
+    incoming: Order,
+    left: Energy,
+    rows: &mut [u64],
+    count: usize,
+) -> Energy
+    requires { ⌜ (6 * p + 6 ≤ length (now orders)) × (p < 256) × (6 * count + 6 ≤ length (now rows)) × (count < 1000000) ⌝ }
+    ensures { λ x. ⌜ (x .0 ≡ min (left .0) (orderAt (now (orders .entry)) p .quantity)) × ((m : List ℕ) (rs : List RowRecord) → length rs ≡ count → now (rows .entry) ≡ written m rs → now (rows .exit) ≡ written m (rs ++ (matchRow (orderOf incoming) (record { order = orderAt (now (orders .entry)) p; quantity = x .0 }) ∷ []))) ⌝ }
 {
-    let o = orders::read(orders, k);
-    let rest = o.quantity.minus(x);
-    if rest.is_zero() {
-        orders::remove(orders, n, k);
-        return n - 1;
-    }
-    orders::leave(orders, n, k, rest);
-    n
+    let o = orders::read(orders, p);
+    let x = left.least(o.quantity);
+    orders::put_row(rows, count, match_row(incoming, o, x));
+    x
 }
 
 // The incoming order meets the first n orders, best price first, then lowest number, until it is spent or no order
-// is left that it meets. Each match is a row. Orders that do not fit stay as they are.
+// is left that it meets. Each match is a row; the places that were met, and what was taken there, are kept.
+fn meet_in_turn(
+    orders: &[u64],
+    n: usize,
+    incoming: Order,
+    met: &mut [u64],
+    taken: &mut [u64],
+    rows: &mut [u64],
+) -> Traded
+    requires { ⌜ (6 * n ≤ length (now orders)) × (n ≤ 256) × (rising (numbers (ordersIn (now orders) n)) ≡ true) × (incoming .direction < 2) × (n ≤ length (now met)) × (n ≤ length (now taken)) × (6 * n ≤ length (now rows)) ⌝ }
+    ensures { λ r. ⌜ MetInTurn (now (orders .entry)) n (orderOf incoming) (now (rows .entry)) (r .left .0) (r .count) (now (met .exit)) (now (taken .exit)) (now (rows .exit)) ⌝ }
+{
+    let mut keys = [0u64; 256];
+    let mut places = [0u64; 256];
+    let mut heads = [0u64; 16];
+    let mut ends = [0u64; 16];
+    let side = side_met(incoming);
+    let runs = laying::lay_runs(
+        orders,
+        n,
+        side,
+        &mut keys,
+        &mut places,
+        &mut heads,
+        &mut ends,
+    );
+    let mut left = incoming.quantity;
+    let mut count: usize = 0;
+    'meeting: while count < n {
+        if left.is_zero() {
+            break 'meeting;
+        }
+        let mut best = First {
+            run: runs,
+            key: u64::MAX,
+        };
+        let mut j: usize = 0;
+        while j < runs {
+            best = laying::nearer(&keys, &heads, &ends, best, j);
+            j += 1;
+        }
+        if best.run == runs {
+            break 'meeting;
+        }
+        let p = laying::take_first(&places, &mut heads, best.run);
+        let x = match_at(orders, p, incoming, left, rows, count);
+        met[count] = p as u64;
+        taken[count] = x.0;
+        left = left.minus(x);
+        count += 1;
+    }
+    Traded {
+        left: left,
+        count: count,
+    }
+}
+
+// The incoming order meets the first n orders, and what was taken off them goes; an emptied order goes with it. Orders
+// that do not fit stay as they are.
 pub fn meet(orders: &mut [u64], n: usize, incoming: Order, rows: &mut [u64]) -> Matched
     ensures { λ r. ⌜ Meets (now (orders .entry)) (now (rows .entry)) n (orderOf incoming) r (now (orders .exit)) (now (rows .exit)) ⌝ }
 {
     if !fits(orders, n, rows) {
         return Matched::Unfit;
     }
-    let mut left = incoming.quantity;
-    let mut standing = n;
-    let mut count: usize = 0;
-    'meeting: while 0 < standing {
-        if left.is_zero() {
-            break 'meeting;
-        }
-        let mut best = standing;
-        let mut k = standing;
-        while 0 < k {
-            k -= 1;
-            best = next_best(orders, standing, incoming, best, k);
-        }
-        if best == standing {
-            break 'meeting;
-        }
-        let o = orders::read(orders, best);
-        let x = left.least(o.quantity);
-        orders::put_row(rows, count, match_row(incoming, o, x));
-        standing = take_off(orders, standing, best, x);
-        left = left.minus(x);
-        count += 1;
+    if incoming.direction > 1 {
+        let quantity = incoming.quantity;
+        return Matched::Done(quantity, 0, n);
     }
-    Matched::Done(left, count, standing)
+    let mut met = [0u64; 256];
+    let mut taken = [0u64; 256];
+    let traded = meet_in_turn(orders, n, incoming, &mut met, &mut taken, rows);
+    let standing = crate::rests::leave_rest(orders, n, &met, &taken, traded.count);
+    let left = traded.left;
+    Matched::Done(left, traded.count, standing)
 }

@@ -26,7 +26,7 @@ slice-aggregate-lay c = search needs
 lay-requires : tie.Need-lay-requires
 lay-requires c κs =
     let f = fit-gives _ _ _ (sym (c .before .before .before .fits2 .ensures) ∙ not-false _ (c .before .before .if1 .left)) in
-    (f .inside, f .few, f .few)
+    (f .inside, f .few, f .few, f .rises)
 
 slice-aggregate-lay-2 : tie.Need-slice-aggregate-lay-2
 slice-aggregate-lay-2 c = search needs
@@ -34,7 +34,7 @@ slice-aggregate-lay-2 c = search needs
 lay-requires-2 : tie.Need-lay-requires-2
 lay-requires-2 c κs =
     let f = fit-gives _ _ _ (sym (c .before .before .before .before .before .before .before .fits2 .ensures) ∙ not-false _ (c .before .before .before .before .before .before .if1 .left)) in
-    (f .inside, f .few, f .few)
+    (f .inside, f .few, f .few, f .rises)
 
 slice-aggregate-find-margins : tie.Need-slice-aggregate-find-margins
 slice-aggregate-find-margins c = search needs

@@ -1,0 +1,35 @@
+-- `match_at`: the smaller of what is left and what is open, as a row at the waiting order's price.
+use mathlib.Core.Path.{ap, _∙_}
+use mathlib.Core.List.{[], _∷_, _++_}
+use Rattle.matching.specs.Orders.{Row}
+use Rattle.matching.specs.Memory.{written}
+use Rattle.matching.proofs.TurnLaws.{least-of, row-of}
+use borrow.Author.Needs.{needs}
+use Rattle.matching.proofs.rolling.match_at.Statement.{statement}
+use Rattle.matching.proofs.rolling.match_at.Tie as tie
+
+read-requires : tie.Need-read-requires
+read-requires c κs = search needs
+
+least-requires : tie.Need-least-requires
+least-requires c κs = search needs
+
+match-row-requires : tie.Need-match-row-requires
+match-row-requires c κs = search needs
+
+put-row-requires : tie.Need-put-row-requires
+put-row-requires c κs = search needs
+
+same-length : tie.Need-same-length
+same-length c = search needs
+
+returns : tie.Need-returns
+returns c = (
+  least-of _ _ _ _ (c .before .before .before .before .before .least .ensures) (c .before .before .before .before .before .before .read .ensures),
+  λ m rs e h. c .before .before .put-row .ensures m rs e h ∙ ap (λ (r : Row). written m (rs ++ (r ∷ []))) (row-of _ _ _ _ _ (c .before .before .before .match-row .ensures) (c .before .before .before .before .before .before .read .ensures)),
+)
+
+pub match-at-spec : {M : Type 1} → statement M
+match-at-spec =
+    tie.close
+    (tie.spec read-requires least-requires match-row-requires put-row-requires same-length returns)
