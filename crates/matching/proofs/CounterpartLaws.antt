@@ -1,19 +1,15 @@
 -- Laws of counterparts: a scan from the last order to the first finds the one that is laid first.
-use Prim.Native.Nat.{ℕ, zero, suc, _+_, _-_, _<_, _≤_}
+use Prim.Native.Nat.{ℕ, zero, suc, _<_}
 use mathlib.Core.Path.{_≡_, refl, sym, ap, _∙_}
 use mathlib.Core.Bool.{Bool, true, false, cond}
 use mathlib.Core.List.{List, [], _∷_}
 use native.Mathlib.Omega.{arith}
-use native.Mathlib.Nat.{add-zero, zero-add}
-use native.Mathlib.Decide.{ℕ-discrete}
 use borrow.Author.Tests.{eq-eqb, ne-eqb}
-use lib.ListN.{length, getD, drop, length-drop, drop-of-length-le}
+use lib.ListN.{length, getD}
 use lib.Dec.{eqb}
-use lib.Seq.{drop-cons, getD-drop}
 use Rattle.matching.specs.Orders.{Order, insert, laid}
-use Rattle.matching.specs.Memory.{ordersIn, noOrder}
+use Rattle.matching.specs.Memory.{noOrder}
 use Rattle.matching.specs.Rolling.{candidate, aheadFor, counterparts}
-use Rattle.matching.proofs.OrderLaws.{orders-length}
 
 -- the place of the best counterpart, or the length where there is none
 unfoldable pub best : Order → List Order → ℕ

@@ -39,3 +39,4 @@ pub mod TurnLaws
 pub mod FiguresHold
 pub mod RollingFigure
 pub mod Figure2Cleared
+pub mod Figure3Cleared

@@ -1,26 +1,20 @@
 -- Laws of matches: one with the best counterpart, and those still to come.
-use Prim.Native.Nat.{ℕ, _+_, _*_, _-_, _<_, _≤_, min}
+use Prim.Native.Nat.{ℕ, _+_, _-_, _<_, _≤_, min}
 use mathlib.Core.Path.{_≡_, refl, sym, ap, _∙_}
 use mathlib.Core.Bool.{true, false}
-use mathlib.Core.List.{List, [], _∷_, _++_, map, append-assoc, append-nil}
+use mathlib.Core.List.{List, [], _∷_}
 use native.Mathlib.Omega.{arith}
-use native.Mathlib.Nat.{add-zero}
 use native.Mathlib.Decide.{decLt}
 use borrow.Author.Tests.{eq-eqb, ne-eqb}
-use lib.ListN.{length, getD, drop, length-append, length-set}
-use lib.Seq.{drop-drop}
-use Rattle.measures.specs.Lists.{sumOf}
-use Rattle.measures.proofs.ListLaws.{both-ways, sumOf-append}
+use lib.ListN.{length, getD, length-set}
+use Rattle.measures.proofs.ListLaws.{both-ways}
 use Rattle.matching.specs.declared.orders.Matched.{Matched}
-use Rattle.matching.specs.Orders.{Order, Row, less, lessen, rising, numbers}
-use Rattle.matching.specs.Memory.{orderAt, ordersIn, noOrder, written}
-use Rattle.matching.specs.Rolling.{Match, counterparts, matches, matchRow, afterMatches, meet}
-use Rattle.matching.specs.Answers.{fit, Answer, answerOf, Meets}
-use Rattle.matching.proofs.OrderLaws.{orders-length, orders-at}
-use Rattle.matching.proofs.RowLaws.{written-none}
-use Rattle.matching.proofs.FitLaws.{Fit, fit-gives}
+use Rattle.matching.specs.Orders.{Order, less, lessen, rising, numbers}
+use Rattle.matching.specs.Memory.{noOrder}
+use Rattle.matching.specs.Rolling.{Match, counterparts, matches, afterMatches}
+use Rattle.matching.specs.Answers.{fit, answerOf, Meets}
 use Rattle.matching.proofs.CounterpartLaws.{best, without, found-laid-first}
-use Rattle.matching.proofs.TakeOffLaws.{without-length, lessen-gone, lessen-kept, lessen-rises}
+use Rattle.matching.proofs.TakeOffLaws.{without-length, lessen-gone, lessen-kept}
 
 abbrev pub match : Order → ℕ → Match
 match o x = record { order = o; quantity = x }

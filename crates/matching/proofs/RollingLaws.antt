@@ -5,12 +5,11 @@ use mathlib.Core.Logic.{_⊎_, inl, inr}
 use mathlib.Core.Bool.{Bool, true, false, cond, _&&_, _||_}
 use mathlib.Core.List.{List, [], _∷_, map}
 use native.Mathlib.Omega.{arith}
-use native.Mathlib.Decide.{decLt}
 use borrow.Author.Tests.{eqb-true, eqb-false, leb-true, ltb-false, eq-eqb, ne-eqb}
 use lib.ListN.{length, getD}
 use lib.Dec.{eqb, leb, ltb}
 use Rattle.measures.specs.Lists.{sumOf, keep}
-use Rattle.measures.proofs.ListLaws.{both-ways, cond-case, and-left, and-right}
+use Rattle.measures.proofs.ListLaws.{cond-case, and-left, and-right}
 use Rattle.matching.specs.Orders.{Order, Row, buys, sells, lessen, rising, numbers, bidAhead, askAhead, laid}
 use Rattle.matching.specs.Memory.{noOrder}
 use Rattle.matching.specs.Rolling.{Match, candidate, aheadFor, counterparts, matches, matchRow, afterMatches, meet}

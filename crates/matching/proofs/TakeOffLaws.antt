@@ -1,16 +1,14 @@
 -- Laws of `lessen`: from rising numbers it changes one place, and they rise still.
-use Prim.Native.Nat.{ℕ, zero, suc, _+_, _-_, _<_, _≤_}
-use mathlib.Core.Path.{_≡_, refl, sym, ap, _∙_}
+use Prim.Native.Nat.{ℕ, zero, suc, _<_, _≤_}
+use mathlib.Core.Path.{_≡_, refl, ap}
 use mathlib.Core.Bool.{true}
-use mathlib.Core.List.{List, [], _∷_, _++_}
+use mathlib.Core.List.{List, [], _∷_}
 use native.Mathlib.Omega.{arith}
 use native.Mathlib.Nat.{not-suc-le-zero}
-use native.Mathlib.Numerals.{add-one}
 use borrow.Author.Tests.{eq-eqb, ne-eqb, le-leb, lt-leb}
-use lib.ListN.{length, getD, take, drop, set}
-use Rattle.matching.specs.Orders.{Order, leaving, less, lessen, rising, numbers}
-use Rattle.matching.specs.Memory.{orderAt, ordersIn, noOrder}
-use Rattle.matching.proofs.OrderLaws.{orders-length, orders-at}
+use lib.ListN.{length, getD, set}
+use Rattle.matching.specs.Orders.{Order, less, lessen, rising, numbers}
+use Rattle.matching.specs.Memory.{noOrder}
 use Rattle.matching.proofs.EachLaws.{each-at}
 use Rattle.matching.proofs.LessenLaws.{Numbered, rising-numbered, numbered-rising, lessen-numbered}
 use Rattle.matching.proofs.CounterpartLaws.{without}

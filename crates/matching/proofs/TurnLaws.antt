@@ -1,5 +1,5 @@
 -- Matching in turn: the matches so far, and those still to come from the runs.
-use Prim.Native.Nat.{ℕ, zero, suc, _+_, _*_, _-_, _<_, _≤_, min}
+use Prim.Native.Nat.{ℕ, suc, _+_, _*_, _-_, _<_, _≤_, min}
 use mathlib.Core.Path.{_≡_, refl, sym, ap, ap₂, _∙_}
 use mathlib.Core.Bool.{Bool, true, false, cond, _&&_}
 use mathlib.Core.List.{List, [], _∷_, _++_, map, append-assoc, append-nil}
@@ -12,7 +12,6 @@ use lib.ListN.{length, getD, take, drop, set, length-append}
 use lib.Seq.{take-suc-set}
 use lib.Dec.{eqb, leb, ltb}
 use Rattle.measures.specs.Lists.{every, keep, sumOf}
-use Rattle.measures.specs.Ranges.{mostEnergy}
 use Rattle.measures.specs.Sharing.{total}
 use Rattle.measures.proofs.ListLaws.{both-ways, cond-case, sumOf-append}
 use Rattle.matching.specs.declared.orders.Matched.{Matched}
@@ -25,8 +24,8 @@ use Rattle.matching.specs.Runs.{mostWord, keyOf, wanted, merged, runAt, 
 use Rattle.matching.specs.Answers.{fit, Answer, answerOf, Meets}
 use Rattle.matching.proofs.OrderLaws.{orders-length}
 use Rattle.matching.proofs.RowLaws.{written-none}
-use Rattle.matching.proofs.FitLaws.{Fit, fit-gives}
-use Rattle.matching.proofs.EachLaws.{keep-ext, keep-nothing, keep-sum, each-all}
+use Rattle.matching.proofs.FitLaws.{fit-gives}
+use Rattle.matching.proofs.EachLaws.{keep-ext, keep-nothing, each-all}
 use Rattle.matching.proofs.LaidLaws.{laid-quantities, laid-length}
 use Rattle.matching.proofs.LayingLaws.{map-join}
 use Rattle.matching.proofs.RunLaws.{runs-popped}

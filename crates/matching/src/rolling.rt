@@ -15,7 +15,7 @@ ghost use Prim.Native.Nat.{ℕ, _+_, _-_, _*_, _<_, _≤_, min};
 ghost use lib.ListN.{length};
 ghost use Rattle.matching.specs.Orders.{Row as RowRecord, rising, numbers};
 ghost use Rattle.matching.specs.Memory.{orderOf, rowOf, orderAt, ordersIn, written};
-ghost use Rattle.matching.specs.Rolling.{Match, matchRow};
+ghost use Rattle.matching.specs.Rolling.{matchRow};
 ghost use Rattle.matching.specs.Runs.{keyOf, MetInTurn};
 ghost use Rattle.matching.specs.Answers.{Meets};
 
