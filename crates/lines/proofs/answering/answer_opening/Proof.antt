@@ -15,7 +15,7 @@ same-length : tie.Need-same-length
 same-length c = search needs
 
 returns : tie.Need-returns
-returns c = (turned-down _ _ _ _ _ (days-down _ _ _ _ _ (c .before .before .before .before .if1 .taken)) (c .before .before .turn-down .ensures .0) (c .before .before .turn-down .ensures .1), c .before .before .turn-down .ensures .2)
+returns c = (turned-down _ _ _ _ _ (days-down _ _ _ _ _ (omega arith)) (c .before .before .turn-down .ensures .0) (c .before .before .turn-down .ensures .1), c .before .before .turn-down .ensures .2)
 
 shared-slice-read-open : tie.Need-shared-slice-read-open
 shared-slice-read-open c = search needs
