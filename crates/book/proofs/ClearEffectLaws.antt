@@ -1,6 +1,6 @@
 -- Clear on a sound book in memory: the orders' part cleared, its rows booked, and the phase set.
 use Prim.Native.Nat.{ℕ, _+_, _*_, _≤_, _<_}
-use mathlib.Core.Path.{_≡_, refl, ap, _∙_}
+use mathlib.Core.Path.{_≡_, refl, sym, ap, _∙_}
 use mathlib.Core.Bool.{true}
 use mathlib.Core.List.{List}
 use native.Mathlib.Omega.{arith}
@@ -8,20 +8,22 @@ use borrow.Rule.Slice.PartMut.{putMid}
 use lib.ListN.{length, getD, take, set, length-set, length-take, length-drop}
 use lib.Seq.{getD-set-same, getD-set-other, drop-set-lt}
 use Rattle.measures.specs.Lists.{table}
+use Rattle.measures.proofs.ListLaws.{all-true, all-at}
 use Rattle.matching.specs.Orders.{Row}
-use Rattle.matching.specs.Memory.{ordersIn, written}
+use Rattle.matching.specs.Memory.{orderAt, ordersIn, written}
 use Rattle.matching.proofs.EachLaws.{each-at}
 use Rattle.matching.proofs.RowLaws.{written-length}
 use Rattle.book.specs.Book.{Book, inPhase}
 use Rattle.book.specs.Trades.{rowsBooked}
+use Rattle.book.specs.Sound.{sound, orderIn}
 use Rattle.book.specs.Opening.{bookWords}
 use Rattle.book.specs.Layout.{word, decode, ordersPart, unitAt, offerAt}
 use Rattle.book.specs.Readable.{Readable}
 use Rattle.book.specs.Contract.{soundIn}
 use Rattle.book.specs.RowsIn.{rowAt, rowsIn, Small, smallFigures, RowFits, RowsFit, RowsTraded}
-use Rattle.book.specs.Periods.{Clearable, ClearsAll, clearedAll, Swept, AllCleared}
-use Rattle.book.proofs.RangeFacts.{units-held}
-use Rattle.book.proofs.MadeLaws.{sound-book, sound-readable}
+use Rattle.book.specs.Periods.{Clearable, OrdersBelow, ClearsAll, clearedAll, Swept, AllCleared}
+use Rattle.book.proofs.RangeFacts.{units-held, order-facts, orders-every, order-word}
+use Rattle.book.proofs.MadeLaws.{sound-book, sound-head, sound-readable}
 use Rattle.book.proofs.SoundLaws.{sound-facts}
 use Rattle.book.proofs.WordLaws.{book-same, units-same, offers-same, orders-same, orders-changed, word-before, word-behind, drop-behind, put-length, part-back}
 use Rattle.book.proofs.BookingLaws.{kept-past, kept-readable}
@@ -35,6 +37,17 @@ clear-asks m rows s l =
     let r = sound-readable m s in
     let f = sound-facts (decode m) (sound-book m s) in
     record { few = r .ordersTo; inside = simp (length-take, length-drop) (omega arith); lent = omega arith; rises = f .formed .ordersRise; small = orders-small (decode m) f }
+
+pub orders-below : (m : List ℕ) → soundIn m ≡ true → OrdersBelow (ordersPart m) (word m 7)
+unfolding sound
+orders-below m s k h =
+    let r = sound-readable m s in
+    let f = sound-head m s in
+    let t = all-true _ (sound-book m s) in
+    let o = order-facts m k (omega arith) (all-at (word m 7) (λ i. orderIn (decode m) (orderAt (ordersPart m) i)) k (sym (orders-every m) ∙ t .1 .1 .1 .0) h) in
+    let a : getD (ordersPart m) (6 * k + 3) 0 ≡ word m (240 + 6 * k + 3) = order-word m (6 * k + 3) (omega arith) ∙ ap (word m) (omega arith) in
+    let b : getD (ordersPart m) (6 * k + 4) 0 ≡ word m (240 + 6 * k + 4) = order-word m (6 * k + 4) (omega arith) ∙ ap (word m) (omega arith) in
+    (omega (arith, o .period), omega (arith, o .price .1, f .ceiling))
 
 -- the part is back, and the orders that stand are counted
 module _ (m rows ys rows′ : List ℕ) (count n′ : ℕ) (s : soundIn m ≡ true) (same : length ys ≡ 1536) (c : ClearsAll (ordersPart m) rows (word m 7) (24 * word m 0) count n′ ys rows′) where

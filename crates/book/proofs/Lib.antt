@@ -72,6 +72,7 @@ pub mod MatchTallyLaws
 pub mod RolledTallyLaws
 pub mod OrderTallyLaws
 pub mod ListsLaws
+pub mod SkipLaws
 pub mod TogetherLaws
 pub mod TraceLaws
 pub mod UnitsFitLaws

@@ -57,34 +57,6 @@ clear-room b lent e = go (ltb lent 4464) (eqb (b .phase) 1) refl e
     go true q ep h = absurd (omega arith)
     go false q ep h = ltb-false lent 4464 ep
 
--- a period of which there is no order
-abbrev NoneOf : ℕ → List OpenOrder → Type 0
-NoneOf p os = Each (λ (o : OpenOrder). o .period ≡ p → ⊥) os
-
-nothing-clears : (p : ℕ) (os : List OpenOrder) → NoneOf p os → clearPeriod p os ≡ record { rows = []; orders = os }
-unfolding clearPeriod clearedVolume largest laid
-nothing-clears p os h =
-    let kb : keep (isBid p) os ≡ [] = keep-nothing (isBid p) os (each-map (λ (o : OpenOrder). o .period ≡ p → ⊥) (λ (o : OpenOrder). isBid p o ≡ false) os (λ o n. and-right-false (buys (o .direction)) (eqb (o .period) p) (ne-eqb _ _ n)) h) in
-    let ka : keep (isAsk p) os ≡ [] = keep-nothing (isAsk p) os (each-map (λ (o : OpenOrder). o .period ≡ p → ⊥) (λ (o : OpenOrder). isAsk p o ≡ false) os (λ o n. and-right-false (sells (o .direction)) (eqb (o .period) p) (ne-eqb _ _ n)) h) in
-    rw (kb, ka) refl
-
-pass-one : (p n : ℕ) (os : List OpenOrder) → NoneOf p os → clearFrom p (suc n) os ≡ clearFrom (suc p) n os
-unfolding clearFrom
-pass-one p n os h = rw (nothing-clears p os h) refl
-
--- k periods without an order
-pass-over : (k p n : ℕ) (os : List OpenOrder) → Each (λ (o : OpenOrder). p ≤ o .period → p + k ≤ o .period) os → clearFrom p (k + n) os ≡ clearFrom (p + k) n os
-pass-over zero p n os h =
-    let a : 0 + n ≡ n = omega arith in
-    let b : p + 0 ≡ p = omega arith in
-    rw (a, b) refl
-pass-over (suc k) p n os h =
-    let a : suc k + n ≡ suc (k + n) = omega arith in
-    let b : p + suc k ≡ suc p + k = omega arith in
-    rw (a, b)
-    (pass-one p (k + n) os (each-map (λ (o : OpenOrder). p ≤ o .period → p + suc k ≤ o .period) (λ (o : OpenOrder). o .period ≡ p → ⊥) os (λ o f e. let t = f (omega arith) in omega arith) h)
-    ∙ pass-over k (suc p) n os (each-map (λ (o : OpenOrder). p ≤ o .period → p + suc k ≤ o .period) (λ (o : OpenOrder). suc p ≤ o .period → suc p + k ≤ o .period) os (λ o f l. let t = f (omega arith) in omega arith) h))
-
 -- rows that stand, and then what is cleared
 abbrev following : List Row → Cleared → Cleared
 following done c = record { rows = done ++ c .rows; orders = c .orders }
@@ -188,7 +160,7 @@ pub record Passing (m rows : List ℕ) (n end : ℕ) (m′ rows′ : List ℕ) (
   pub past : drop (6 * n) m′ ≡ drop (6 * n) m
 
 module _ (m rows : List ℕ) (n end : ℕ) (h : Clearable m rows n n) where
-  passing-start : Passing m rows n end m rows 0 n 0
+  pub passing-start : Passing m rows n end m rows 0 n 0
   passing-start =
       let t = waiting-all 0 (ordersIn m n) in
       let u = orders-length m n in
@@ -209,39 +181,6 @@ module _ (m rows : List ℕ) (n end : ℕ) (h : Clearable m rows n n) where
       }
 
   module _ (m′ rows′ : List ℕ) (count n′ : ℕ) where
-    -- on to the next period of which there is an order
-    pub passing-next : (q r : ℕ) → Passing m rows n end m′ rows′ count n′ q → q ≤ r → r ≤ end
-        → ((k : ℕ) → k < n′ → q ≤ getD m′ (6 * k + 3) 0 → r ≤ getD m′ (6 * k + 3) 0) → Passing m rows n end m′ rows′ count n′ r
-    passing-next q r g up le near =
-        let a : end - q ≡ (r - q) + (end - r) = omega arith in
-        let b : q + (r - q) ≡ r = omega arith in
-        let t = waiting-falls q r (ordersIn m′ n′) up in
-        let w = g .room in
-        let skip : clearFrom q (end - q) (ordersIn m′ n′) ≡ clearFrom r (end - r) (ordersIn m′ n′) =
-        ap (λ (x : ℕ). clearFrom q x (ordersIn m′ n′)) a ∙ pass-over (r - q) q (end - r) (ordersIn m′ n′) ahead ∙ ap (λ (x : ℕ). clearFrom x (end - r) (ordersIn m′ n′)) b in
-        record {
-          done = g .done;
-          counted = g .counted;
-          kept = g .kept;
-          rest = ap (following (g .done)) (sym skip) ∙ g .rest;
-          upto = le;
-          fewer = g .fewer;
-          rises = g .rises;
-          small = g .small;
-          room = omega arith;
-          long = g .long;
-          lent = g .lent;
-          past = g .past;
-        }
-      where
-        ahead : Each (λ (o : OpenOrder). q ≤ o .period → q + (r - q) ≤ o .period) (ordersIn m′ n′)
-        ahead =
-            each-by (λ (o : OpenOrder). q ≤ o .period → q + (r - q) ≤ o .period) (ordersIn m′ n′) noOrder
-            (λ i l.
-            let u : i < n′ = omega (arith, orders-length m′ n′) in
-            let e : getD (ordersIn m′ n′) i noOrder .period ≡ getD m′ (6 * i + 3) 0 = ap (λ (o : OpenOrder). o .period) (orders-at m′ n′ i u) in
-            λ f. let t = near i u (omega arith) in omega arith)
-
     module _ (p : ℕ) (g : Passing m rows n end m′ rows′ count n′ p) where
       pub passing-ready : Clearable m′ rows′ n′ count
       passing-ready =
@@ -315,15 +254,3 @@ module _ (m rows : List ℕ) (n end : ℕ) (h : Clearable m rows n n) where
             fewer = g .fewer;
             few = omega arith;
           }
-
-  pub passing-first : (r : ℕ) → r ≤ end → ((k : ℕ) → k < n → 0 ≤ getD m (6 * k + 3) 0 → r ≤ getD m (6 * k + 3) 0) → Passing m rows n end m rows 0 n r
-  passing-first r le near = passing-next m rows 0 n 0 r passing-start (omega arith) le near
-
--- one order more is looked at
-pub near-more : (m : List ℕ) (from k next next′ : ℕ) → ((j : ℕ) → j < k → from ≤ getD m (6 * j + 3) 0 → next ≤ getD m (6 * j + 3) 0)
-    → next′ ≤ next → (from ≤ getD m (6 * k + 3) 0 → next′ ≤ getD m (6 * k + 3) 0) → (j : ℕ) → j < k + 1 → from ≤ getD m (6 * j + 3) 0 → next′ ≤ getD m (6 * j + 3) 0
-near-more m from k next next′ h l g j u f = go (ℕ-discrete j k)
-  where
-    go : Dec (j ≡ k) → next′ ≤ getD m (6 * j + 3) 0
-    go (yes e) = rw e (g (rw e at f))
-    go (no n) = let t = h j (omega arith) f in omega arith

@@ -17,7 +17,7 @@ use Rattle.matching.specs.Memory.{orderAt, ordersIn}
 use Rattle.book.specs.Sound.{oneWay, apart}
 use Rattle.book.specs.Layout.{word, ordersPart, decode}
 use Rattle.book.specs.Readable.{Ranged, pairFits, pairsFit}
-use Rattle.book.specs.Whole.{Latest, goesWith, Prices, Priced, OrderStands}
+use Rattle.book.specs.Whole.{Latest, Alike, Prices, Priced, pairsBefore, OrderStands}
 use Rattle.book.proofs.RangeFacts.{order-word}
 use Rattle.book.proofs.ShareLaws.{order-words}
 use Rattle.book.proofs.MisfitLaws.{zeros-at}
@@ -56,66 +56,113 @@ module _ (m : List ℕ) (a b : ℕ) (ha : a < 256) (hb : b < 256) where
       let l = apart-fact (orderIn m a) (orderIn m b) t (field m a 2 ha (omega arith) ∙ d) (field m b 2 hb (omega arith) ∙ e) (field m a 3 ha (omega arith) ∙ p ∙ sym (field m b 3 hb (omega arith))) in
       omega (arith, field m a 4 ha (omega arith), field m b 4 hb (omega arith))
 
--- an order that goes with another of its period, or does not
-module _ (m : List ℕ) (k j : ℕ) where
-  pub goes-other : (word m (240 + 6 * j + 3) ≡ word m (240 + 6 * k + 3) → ⊥) → true ≡ goesWith m k j
-  unfolding goesWith
-  goes-other n = rw (ne-eqb _ _ n) refl
+-- the walk along the unit's and the period's orders before the one at place k: none passed has both
+pub record Seeking (m : List ℕ) (k a b : ℕ) : Type 0 where
+  pub fewUnit : a ≤ k
+  pub fewPeriod : b ≤ k
+  pub ownUnit : 0 < a → word m (240 + 6 * (a - 1) + 1) ≡ word m (240 + 6 * k + 1)
+  pub ownPeriod : 0 < b → word m (240 + 6 * (b - 1) + 3) ≡ word m (240 + 6 * k + 3)
+  pub noneUnit : (j : ℕ) → a ≤ j → j < k → word m (240 + 6 * j + 1) ≡ word m (240 + 6 * k + 1) → word m (240 + 6 * j + 3) ≡ word m (240 + 6 * k + 3) → ⊥
+  pub nonePeriod : (j : ℕ) → b ≤ j → j < k → word m (240 + 6 * j + 1) ≡ word m (240 + 6 * k + 1) → word m (240 + 6 * j + 3) ≡ word m (240 + 6 * k + 3) → ⊥
 
-  pub goes-by : (r : Bool) → word m (240 + 6 * j + 3) ≡ word m (240 + 6 * k + 3) → r ≡ eqb (word m (240 + 6 * j + 2)) (word m (240 + 6 * k + 2)) → r ≡ goesWith m k j
-  unfolding goesWith
-  goes-by r e f = rw (eq-eqb _ _ e) f
+module _ (m : List ℕ) (k : ℕ) where
+  pub seeking-starts : (a b : ℕ) → Latest m 1 (word m (240 + 6 * k + 1)) a k → Latest m 3 (word m (240 + 6 * k + 3)) b k → Seeking m k a b
+  seeking-starts a b u p =
+      record {
+        fewUnit = u .to;
+        fewPeriod = p .to;
+        ownUnit = u .own;
+        ownPeriod = p .own;
+        noneUnit = λ j h l x y. u .none j h l x;
+        nonePeriod = λ j h l x y. p .none j h l y;
+      }
 
-  pub goes-fact : goesWith m k j ≡ true → word m (240 + 6 * j + 3) ≡ word m (240 + 6 * k + 3) → word m (240 + 6 * j + 2) ≡ word m (240 + 6 * k + 2)
-  unfolding goesWith
-  goes-fact t e = eqb-true _ _ (rw (eq-eqb (word m (240 + 6 * j + 3)) (word m (240 + 6 * k + 3)) e) at t)
-
-  pub goes-not : goesWith m k j ≡ false → (word m (240 + 6 * j + 3) ≡ word m (240 + 6 * k + 3)) × (word m (240 + 6 * j + 2) ≡ word m (240 + 6 * k + 2) → ⊥)
-  unfolding goesWith
-  goes-not f = go (ℕ-discrete (word m (240 + 6 * j + 3)) (word m (240 + 6 * k + 3)))
-    where
-      go : Dec (word m (240 + 6 * j + 3) ≡ word m (240 + 6 * k + 3)) → (word m (240 + 6 * j + 3) ≡ word m (240 + 6 * k + 3)) × (word m (240 + 6 * j + 2) ≡ word m (240 + 6 * k + 2) → ⊥)
-      go (yes e) = (e, eqb-false _ _ (rw (eq-eqb (word m (240 + 6 * j + 3)) (word m (240 + 6 * k + 3)) e) at f))
-      go (no n) = both-ways (goes-other n ∙ f)
-
--- the walk through the unit's orders before the one at place k: those from `at` on go its way
-pub record Way (m : List ℕ) (k at : ℕ) : Type 0 where
-  pub few : at ≤ k
-  pub own : 0 < at → word m (240 + 6 * (at - 1) + 1) ≡ word m (240 + 6 * k + 1)
-  pub passed : (j : ℕ) → at ≤ j → j < k → oneWay (orderIn m k) (orderIn m j) ≡ true
-
-module _ (m : List ℕ) (k : ℕ) (hk : k < 256) where
-  other-unit : (j : ℕ) → j < k → (word m (240 + 6 * j + 1) ≡ word m (240 + 6 * k + 1) → ⊥) → oneWay (orderIn m k) (orderIn m j) ≡ true
-  other-unit j h n = way-holds m k j hk (omega arith) (λ u p. absurd (n (sym u)))
-
-  pub way-starts : (t : ℕ) → Latest m 1 (word m (240 + 6 * k + 1)) t k → Way m k t
-  way-starts t l = record { few = l .to; own = l .own; passed = λ j a b. other-unit j b (l .none j a b) }
-
-  module _ (at : ℕ) (h : 0 < at) (w : Way m k at) where
-    pub way-more : (t : ℕ) → Latest m 1 (word m (240 + 6 * (at - 1) + 1)) t (at - 1)
-        → goesWith m k (at - 1) ≡ true → Way m k t
-    way-more t l y =
-        let a = w .few in
-        let b = l .to in
-        record { few = omega arith; own = λ z. l .own z ∙ w .own h; passed = λ j c d. go j c d (ℕ-discrete j (at - 1)) }
+  module _ (a b : ℕ) (s : Seeking m k a b) where
+    pub seeking-more : (c d : ℕ) → 0 < a → 0 < b → (word m (240 + 6 * (a - 1) + 3) ≡ word m (240 + 6 * k + 3) → ⊥) → (word m (240 + 6 * (b - 1) + 1) ≡ word m (240 + 6 * k + 1) → ⊥)
+        → Latest m 1 (word m (240 + 6 * (a - 1) + 1)) c (a - 1) → Latest m 3 (word m (240 + 6 * (b - 1) + 3)) d (b - 1) → Seeking m k c d
+    seeking-more c d ha hb na nb u p =
+        let x = s .fewUnit in
+        let y = s .fewPeriod in
+        let z = u .to in
+        let t = p .to in
+        record {
+          fewUnit = omega arith;
+          fewPeriod = omega arith;
+          ownUnit = λ h. u .own h ∙ s .ownUnit ha;
+          ownPeriod = λ h. p .own h ∙ s .ownPeriod hb;
+          noneUnit = λ j h l. units j h l (ℕ-discrete j (a - 1)) (decLt j a);
+          nonePeriod = λ j h l. periodsOf j h l (ℕ-discrete j (b - 1)) (decLt j b);
+        }
       where
-        go : (j : ℕ) → t ≤ j → j < k → Dec (j ≡ at - 1) → oneWay (orderIn m k) (orderIn m j) ≡ true
-        go j c d (yes e) = way-holds m k j hk (omega arith) (λ u p. rw e (sym (goes-fact m k (at - 1) y (sym (rw e at p)))))
-        go j c d (no n) = other (decLt at (j + 1))
+        units : (j : ℕ) → c ≤ j → j < k → Dec (j ≡ a - 1) → Dec (j < a) → word m (240 + 6 * j + 1) ≡ word m (240 + 6 * k + 1) → word m (240 + 6 * j + 3) ≡ word m (240 + 6 * k + 3) → ⊥
+        units j h l (yes e) q x y = na (sym (ap (λ (i : ℕ). word m (240 + 6 * i + 3)) e) ∙ y)
+        units j h l (no e) (yes q) x y = u .none j h (omega arith) (x ∙ sym (s .ownUnit ha))
+        units j h l (no e) (no q) x y = s .noneUnit j (omega arith) l x y
+
+        periodsOf : (j : ℕ) → d ≤ j → j < k → Dec (j ≡ b - 1) → Dec (j < b) → word m (240 + 6 * j + 1) ≡ word m (240 + 6 * k + 1) → word m (240 + 6 * j + 3) ≡ word m (240 + 6 * k + 3) → ⊥
+        periodsOf j h l (yes e) q x y = nb (sym (ap (λ (i : ℕ). word m (240 + 6 * i + 1)) e) ∙ x)
+        periodsOf j h l (no e) (yes q) x y = p .none j h (omega arith) (y ∙ sym (s .ownPeriod hb))
+        periodsOf j h l (no e) (no q) x y = s .nonePeriod j (omega arith) l x y
+
+    pub none-of-unit : a ≤ 0 → Alike m k 0
+    none-of-unit h = record { to = omega arith; unit = λ z. absurd (omega arith); period = λ z. absurd (omega arith); none = λ z j l. s .noneUnit j (omega arith) l }
+
+    pub none-of-period : b ≡ 0 → Alike m k 0
+    none-of-period h = record { to = omega arith; unit = λ z. absurd (omega arith); period = λ z. absurd (omega arith); none = λ z j l. s .nonePeriod j (omega arith) l }
+
+    pub alike-by-unit : 0 < a → word m (240 + 6 * (a - 1) + 3) ≡ word m (240 + 6 * k + 3) → Alike m k a
+    alike-by-unit h e = record { to = s .fewUnit; unit = s .ownUnit; period = λ z. e; none = λ z. absurd (omega arith) }
+
+    pub alike-by-period : (b ≡ 0 → ⊥) → word m (240 + 6 * (b - 1) + 1) ≡ word m (240 + 6 * k + 1) → Alike m k b
+    alike-by-period h e = record { to = s .fewPeriod; unit = λ z. e; period = s .ownPeriod; none = λ z. absurd (h z) }
+
+-- the order at place k beside one of its unit and period, or none
+module _ (m : List ℕ) (k : ℕ) (hk : k < 256) where
+  pub way-alone : (t : ℕ) → t ≡ 0 → Alike m k t → true ≡ all k (λ j. oneWay (orderIn m k) (orderIn m j))
+  way-alone t e al = sym (all-by k _ (λ j l. way-holds m k j hk (omega arith) (λ u p. absurd (al .none e j l (sym u) (sym p)))))
+
+  module _ (t : ℕ) (some : t ≡ 0 → ⊥) (al : Alike m k t) where
+    place : (0 < t) × (t - 1 < k)
+    place = let z = al .to in go (decLt 0 t)
+      where
+        go : Dec (0 < t) → (0 < t) × (t - 1 < k)
+        go (yes h) = let z = al .to in (h, omega arith)
+        go (no h) = absurd (some (omega arith))
+
+    way-other : (word m (240 + 6 * (t - 1) + 2) ≡ word m (240 + 6 * k + 2) → ⊥) → false ≡ all k (λ j. oneWay (orderIn m k) (orderIn m j))
+    way-other n =
+        let h = place in
+        sym (all-fails k (λ j. oneWay (orderIn m k) (orderIn m j)) (t - 1) (h .1) (false-by _ (λ e. n (sym (way-fact m k (t - 1) hk (omega arith) e (sym (al .unit (h .0))) (sym (al .period (h .0))))))))
+
+    -- those before go one way, so the one found stands for all
+    way-same : pairsBefore m k ≡ true → word m (240 + 6 * (t - 1) + 2) ≡ word m (240 + 6 * k + 2) → true ≡ all k (λ j. oneWay (orderIn m k) (orderIn m j))
+    unfolding pairsBefore
+    way-same pb e = sym (all-by k _ (λ j l. way-holds m k j hk (omega arith) (λ u p. sym (dirs j l (sym u) (sym p)))))
+      where
+        pair : (i j : ℕ) → i < k → j < i → oneWay (orderIn m i) (orderIn m j) ≡ true
+        pair i j h l =
+            one-way-holds (orderIn m i) (orderIn m j)
+            (pair-fact (word m 3) (orderIn m i) (orderIn m j)
+            (all-at i (λ x. pairFits (word m 3) (orderIn m i) (orderIn m x)) j (all-at k (λ y. all y (λ x. pairFits (word m 3) (orderIn m y) (orderIn m x))) i pb h) l) .way)
+
+        dirs : (j : ℕ) → j < k → word m (240 + 6 * j + 1) ≡ word m (240 + 6 * k + 1) → word m (240 + 6 * j + 3) ≡ word m (240 + 6 * k + 3) → word m (240 + 6 * j + 2) ≡ word m (240 + 6 * k + 2)
+        dirs j l u p = go (decLt j (t - 1)) (decLt (t - 1) j)
           where
-            other : Dec (at < j + 1) → oneWay (orderIn m k) (orderIn m j) ≡ true
-            other (yes y) = w .passed j (omega arith) d
-            other (no y) = other-unit j d (λ u. l .none j c (omega arith) (u ∙ sym (w .own h)))
+            go : Dec (j < t - 1) → Dec (t - 1 < j) → word m (240 + 6 * j + 2) ≡ word m (240 + 6 * k + 2)
+            go (yes a) b =
+                let h = place in
+                sym (way-fact m (t - 1) j (omega arith) (omega arith) (pair (t - 1) j (h .1) a) (al .unit (h .0) ∙ sym u) (al .period (h .0) ∙ sym p)) ∙ e
+            go (no a) (yes b) =
+                let h = place in
+                way-fact m j (t - 1) (omega arith) (omega arith) (pair j (t - 1) l b) (u ∙ sym (al .unit (h .0))) (p ∙ sym (al .period (h .0))) ∙ e
+            go (no a) (no b) = let q : j ≡ t - 1 = omega arith in ap (λ (i : ℕ). word m (240 + 6 * i + 2)) q ∙ e
 
-    pub way-fails : goesWith m k (at - 1) ≡ false → false ≡ all k (λ j. oneWay (orderIn m k) (orderIn m j))
-    way-fails y =
-        let a = w .few in
-        let p = goes-not m k (at - 1) y .0 in
-        let n = goes-not m k (at - 1) y .1 in
-        sym (all-fails k (λ j. oneWay (orderIn m k) (orderIn m j)) (at - 1) (omega arith) (false-by _ (λ e. n (sym (way-fact m k (at - 1) hk (omega arith) e (sym (w .own h)) (sym p))))))
-
-  pub way-ends : (at : ℕ) → at ≤ 0 → Way m k at → true ≡ all k (λ j. oneWay (orderIn m k) (orderIn m j))
-  way-ends at h w = sym (all-by k _ (λ j l. w .passed j (omega arith) l))
+    pub way-tested : pairsBefore m k ≡ true → eqb (word m (240 + 6 * (t - 1) + 2)) (word m (240 + 6 * k + 2)) ≡ all k (λ j. oneWay (orderIn m k) (orderIn m j))
+    way-tested pb = go (eqb (word m (240 + 6 * (t - 1) + 2)) (word m (240 + 6 * k + 2))) refl
+      where
+        go : (b : Bool) → eqb (word m (240 + 6 * (t - 1) + 2)) (word m (240 + 6 * k + 2)) ≡ b → b ≡ all k (λ j. oneWay (orderIn m k) (orderIn m j))
+        go true e = way-same pb (eqb-true _ _ e)
+        go false e = way-other (eqb-false _ _ e)
 
 -- prices before any order
 const-at : (n c i : ℕ) → i < n → getD (replicate n c) i 0 ≡ c
@@ -296,14 +343,16 @@ module _ (m : List ℕ) (k : ℕ) (high low : List ℕ) where
 
 -- the orders below k stand
 pub record Stood (m : List ℕ) (k : ℕ) (high low : List ℕ) : Type 0 where
-  pub passed : all k (λ i. all i (λ j. pairFits (word m 3) (orderIn m i) (orderIn m j))) ≡ true
+  pub passed : pairsBefore m k ≡ true
   pub prices : word m 3 ≡ 1 → Prices m k high low
 
 pub stood-none : (m : List ℕ) → periods (word m 0) ≤ 744 → Stood m 0 (replicate 744 0) (replicate 744 10_000_001)
+unfolding pairsBefore
 stood-none m few = record { passed = all-none _; prices = λ z. prices-none m few }
 
 module _ (m : List ℕ) (k : ℕ) (high low high′ low′ : List ℕ) (s : Stood m k high low) (r : Bool) (d : OrderStands m k r high′ low′) where
   pub stood-more : r ≡ true → Stood m (k + 1) high′ low′
+  unfolding pairsBefore
   stood-more t = record { passed = all-more k _ (s .passed) (sym (d .answer) ∙ t); prices = d .entered t }
 
   pub stood-fails : k < word m 7 → r ≡ false → false ≡ pairsFit (word m 3) (decode m .orders)
@@ -311,5 +360,5 @@ module _ (m : List ℕ) (k : ℕ) (high low high′ low′ : List ℕ) (s : Stoo
   stood-fails h f = pairs-fail (word m 3) (ordersPart m) (word m 7) k h (sym (d .answer) ∙ f)
 
 pub stood-ends : (m : List ℕ) (k : ℕ) (high low : List ℕ) → k ≡ word m 7 → Stood m k high low → true ≡ pairsFit (word m 3) (decode m .orders)
-unfolding decode
+unfolding decode pairsBefore
 stood-ends m k high low e s = sym (pairs-by (word m 3) (ordersPart m) (word m 7) (rw e at (s .passed)))

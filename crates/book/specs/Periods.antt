@@ -3,9 +3,9 @@ use Prim.Native.Nat.{ℕ, _+_, _*_, _≤_, _<_}
 use mathlib.Core.Path.{_≡_}
 use mathlib.Core.Bool.{true}
 use mathlib.Core.List.{List, _++_}
-use lib.ListN.{length, drop}
+use lib.ListN.{length, getD, drop}
 use Rattle.measures.specs.Ranges.{mostEnergy}
-use Rattle.matching.specs.Orders.{Row, rising, numbers, quantities}
+use Rattle.matching.specs.Orders.{Order, Row, rising, numbers, quantities}
 use Rattle.matching.specs.Memory.{ordersIn, written}
 use Rattle.matching.specs.Clearing.{Cleared, clearPeriod}
 use Rattle.limits.specs.Units.{periods}
@@ -22,6 +22,21 @@ pub record Clearable (m rows : List ℕ) (n count : ℕ) : Type 0 where
   pub lent : 6 * count + 6 * n ≤ length rows
   pub rises : rising (numbers (ordersIn m n)) ≡ true
   pub small : quantities (ordersIn m n) ≤ mostEnergy
+
+-- the first n orders have periods and prices in range
+abbrev pub OrdersBelow : List ℕ → ℕ → Type 0
+OrdersBelow m n = (k : ℕ) → k < n → (getD m (6 * k + 3) 0 < 744) × (getD m (6 * k + 4) 0 ≤ 10_000_000)
+
+-- by period, `high` is above an order that buys, and `low` not above one that sells
+pub record PricedBy (high low : List ℕ) (o : Order) : Type 0 where
+  pub bid : o .direction ≡ 1 → o .price < getD high (o .period) 0
+  pub ask : o .direction ≡ 0 → getD low (o .period) 0 ≤ o .price
+
+-- the order's price is noted, and no other is lost
+pub record Noted (o : Order) (high low high′ low′ : List ℕ) : Type 0 where
+  pub own : PricedBy high′ low′ o
+  pub up : (p : ℕ) → getD high p 0 ≤ getD high′ p 0
+  pub down : (p : ℕ) → getD low′ p 0 ≤ getD low p 0
 
 -- a period of the n orders was cleared, and its rows stand behind the `count` rows; n′ orders are left
 pub record Stepped (m rows : List ℕ) (n period count count′ n′ : ℕ) (m′ rows′ : List ℕ) : Type 0 where

@@ -1,10 +1,10 @@
 -- What the functions that check all units, period by period, promise one another.
 use Prim.Native.Nat.{ℕ, _+_, _-_, _*_, _≤_, _<_}
 use mathlib.Core.Path.{_≡_}
-use mathlib.Core.Bool.{Bool, true, cond, not, _||_}
+use mathlib.Core.Bool.{Bool, true, cond}
 use mathlib.Core.List.{List, [], _∷_}
 use lib.ListN.{length, getD, set}
-use lib.Dec.{eqb, leb}
+use lib.Dec.{leb}
 use Rattle.measures.specs.Lists.{holds, sum, all}
 use Rattle.limits.specs.Units.{periods, generator}
 use Rattle.matching.specs.Memory.{orderAt}
@@ -24,9 +24,16 @@ pub record Linked (m : List ℕ) (f : ℕ) (last before : List ℕ) : Type 0 whe
   pub ofValue : (v : ℕ) → v < length last → Latest m f v (getD last v 0) (word m 7)
   pub ofOrder : (k : ℕ) → k < word m 7 → Latest m f (word m (240 + 6 * k + f)) (getD before k 0) k
 
--- whether the order at place j goes the way of the one at place k, if they are of one period
-unfoldable pub goesWith : List ℕ → ℕ → ℕ → Bool
-goesWith m k j = not (eqb (word m (240 + 6 * j + 3)) (word m (240 + 6 * k + 3))) || eqb (word m (240 + 6 * j + 2)) (word m (240 + 6 * k + 2))
+-- each order has a link to the one before it with its value of field f
+abbrev pub Chained : List ℕ → ℕ → List ℕ → Type 0
+Chained m f before = (k : ℕ) → k < word m 7 → Latest m f (word m (240 + 6 * k + f)) (getD before k 0) k
+
+-- t is one more than the place of an order before the one at place k with its unit and period, or 0 where there is none
+pub record Alike (m : List ℕ) (k t : ℕ) : Type 0 where
+  pub to : t ≤ k
+  pub unit : 0 < t → word m (240 + 6 * (t - 1) + 1) ≡ word m (240 + 6 * k + 1)
+  pub period : 0 < t → word m (240 + 6 * (t - 1) + 3) ≡ word m (240 + 6 * k + 3)
+  pub none : t ≡ 0 → (j : ℕ) → j < k → word m (240 + 6 * j + 1) ≡ word m (240 + 6 * k + 1) → word m (240 + 6 * j + 3) ≡ word m (240 + 6 * k + 3) → ⊥
 
 -- of each period and the first k orders: what is above each buy price and not above it needlessly, and what is not above
 -- any sell price and not below it needlessly
@@ -40,6 +47,10 @@ pub record Prices (m : List ℕ) (k : ℕ) (high low : List ℕ) : Type 0 where
 pub record Priced (m : List ℕ) (k : ℕ) (r : Bool) (high low : List ℕ) : Type 0 where
   pub answer : r ≡ all k (λ j. holds (apart (orderAt (ordersPart m) k) (orderAt (ordersPart m) j) ∷ apart (orderAt (ordersPart m) j) (orderAt (ordersPart m) k) ∷ []))
   pub entered : r ≡ true → Prices m (k + 1) high low
+
+-- whether each of the first k orders may stand with those before it
+unfoldable pub pairsBefore : List ℕ → ℕ → Bool
+pairsBefore m k = all k (λ i. all i (λ j. pairFits (word m 3) (orderAt (ordersPart m) i) (orderAt (ordersPart m) j)))
 
 -- r says whether the order at place k may stand with each before it; in the rolling phase its price is then entered
 pub record OrderStands (m : List ℕ) (k : ℕ) (r : Bool) (high low : List ℕ) : Type 0 where

@@ -9,33 +9,42 @@ ghost use Rattle.matching.specs.Memory.{orderAt};
 ghost use Rattle.book.specs.Sound.{oneWay};
 ghost use Rattle.book.specs.Layout.{word, ordersPart, decode};
 ghost use Rattle.book.specs.Readable.{Ranged, pairsFit};
-ghost use Rattle.book.specs.Whole.{Latest, goesWith, Prices, Priced, OrderStands};
+ghost use Rattle.book.specs.Whole.{Chained, Alike, Prices, Priced, pairsBefore, OrderStands};
 
-// Whether the order at place j goes the way of the one at place k, if they are of one period.
-fn goes_with(book: &[u64], k: usize, j: usize) -> bool
-    requires { ⌜ (Ranged (now book)) × (k < word (now book) 7) × (j < word (now book) 7) ⌝ }
-    ensures { λ r. ⌜ r ≡ goesWith (now (book .entry)) k j ⌝ }
+// One more than the place of an order before the one at place k with its unit and period, or 0 where there is none: the
+// orders of the unit and those of the period are walked together, so that the shorter way ends it.
+fn find_alike(book: &[u64], k: usize, own: &[u64], peers: &[u64]) -> usize
+    requires { ⌜ (Ranged (now book)) × (k < word (now book) 7) × (length (now own) ≡ 256) × (length (now peers) ≡ 256) × (Chained (now book) 1 (now own)) × (Chained (now book) 3 (now peers)) ⌝ }
+    ensures { λ r. ⌜ Alike (now (book .entry)) k r ⌝ }
 {
-    if book[240 + 6 * j + 3] != book[240 + 6 * k + 3] {
-        return true;
+    let mut a = own[k] as usize;
+    let mut b = peers[k] as usize;
+    while 0 < a {
+        if b == 0 {
+            return 0;
+        }
+        if book[240 + 6 * (a - 1) + 3] == book[240 + 6 * k + 3] {
+            return a;
+        }
+        if book[240 + 6 * (b - 1) + 1] == book[240 + 6 * k + 1] {
+            return b;
+        }
+        a = own[a - 1] as usize;
+        b = peers[b - 1] as usize;
     }
-    book[240 + 6 * j + 2] == book[240 + 6 * k + 2]
+    0
 }
 
-// Whether the order at place k goes the same way as the orders of its unit before it in its period.
-fn one_way(book: &[u64], k: usize, before: &[u64]) -> bool
-    requires { ⌜ (Ranged (now book)) × (k < word (now book) 7) × (length (now before) ≡ 256) × ((i : ℕ) → i < word (now book) 7 → Latest (now book) 1 (word (now book) (240 + 6 * i + 1)) (getD (now before) i 0) i) ⌝ }
+// Whether the order at place k goes the same way as the orders of its unit before it in its period, which go one way.
+fn one_way(book: &[u64], k: usize, own: &[u64], peers: &[u64]) -> bool
+    requires { ⌜ (Ranged (now book)) × (k < word (now book) 7) × (length (now own) ≡ 256) × (length (now peers) ≡ 256) × (Chained (now book) 1 (now own)) × (Chained (now book) 3 (now peers)) × (pairsBefore (now book) k ≡ true) ⌝ }
     ensures { λ r. ⌜ r ≡ all k (λ j. oneWay (orderAt (ordersPart (now (book .entry))) k) (orderAt (ordersPart (now (book .entry))) j)) ⌝ }
 {
-    let mut at = before[k] as usize;
-    while 0 < at {
-        let j = at - 1;
-        if !goes_with(book, k, j) {
-            return false;
-        }
-        at = before[j] as usize;
+    let t = find_alike(book, k, own, peers);
+    if t == 0 {
+        return true;
     }
-    true
+    book[240 + 6 * (t - 1) + 2] == book[240 + 6 * k + 2]
 }
 
 // Whether the order at place k crosses none before it: `high` has one more than the highest buy price of each period so
@@ -65,11 +74,18 @@ fn stands_apart(book: &[u64], k: usize, high: &mut [u64], low: &mut [u64]) -> bo
 }
 
 // Whether the order at place k may stand with each before it.
-fn order_stands(book: &[u64], k: usize, before: &[u64], high: &mut [u64], low: &mut [u64]) -> bool
-    requires { ⌜ (Ranged (now book)) × (word (now book) 2 ≤ 10000000) × (k < word (now book) 7) × (length (now before) ≡ 256) × ((i : ℕ) → i < word (now book) 7 → Latest (now book) 1 (word (now book) (240 + 6 * i + 1)) (getD (now before) i 0) i) × (length (now high) ≡ 744) × (length (now low) ≡ 744) × (word (now book) 3 ≡ 1 → Prices (now book) k (now high) (now low)) ⌝ }
+fn order_stands(
+    book: &[u64],
+    k: usize,
+    own: &[u64],
+    peers: &[u64],
+    high: &mut [u64],
+    low: &mut [u64],
+) -> bool
+    requires { ⌜ (Ranged (now book)) × (word (now book) 2 ≤ 10000000) × (k < word (now book) 7) × (length (now own) ≡ 256) × (length (now peers) ≡ 256) × (Chained (now book) 1 (now own)) × (Chained (now book) 3 (now peers)) × (pairsBefore (now book) k ≡ true) × (length (now high) ≡ 744) × (length (now low) ≡ 744) × (word (now book) 3 ≡ 1 → Prices (now book) k (now high) (now low)) ⌝ }
     ensures { λ r. ⌜ OrderStands (now (book .entry)) k r (now (high .exit)) (now (low .exit)) ⌝ }
 {
-    if !one_way(book, k, before) {
+    if !one_way(book, k, own, peers) {
         return false;
     }
     if book[3] != 1 {
@@ -78,23 +94,34 @@ fn order_stands(book: &[u64], k: usize, before: &[u64], high: &mut [u64], low: &
     stands_apart(book, k, high, low)
 }
 
-// Whether all open orders may stand together.
-pub(crate) fn orders_fit(book: &[u64]) -> bool
-    requires { ⌜ (Ranged (now book)) × (word (now book) 2 ≤ 10000000) ⌝ }
+// Whether the orders stand together, linked by unit and by period.
+fn all_stand(book: &[u64], own: &[u64], peers: &[u64]) -> bool
+    requires { ⌜ (Ranged (now book)) × (word (now book) 2 ≤ 10000000) × (length (now own) ≡ 256) × (length (now peers) ≡ 256) × (Chained (now book) 1 (now own)) × (Chained (now book) 3 (now peers)) ⌝ }
     ensures { λ r. ⌜ r ≡ pairsFit (word (now (book .entry)) 3) (decode (now (book .entry)) .orders) ⌝ }
 {
-    let mut last = [0u64; 65];
-    let mut before = [0u64; 256];
-    link_orders(book, 1, &mut last, &mut before);
     let mut high = [0u64; 744];
     let mut low = [10000001u64; 744];
     let n = book[7] as usize;
     let mut k: usize = 0;
     while k < n {
-        if !order_stands(book, k, &before, &mut high, &mut low) {
+        if !order_stands(book, k, own, peers, &mut high, &mut low) {
             return false;
         }
         k += 1;
     }
     true
+}
+
+// Whether all open orders may stand together.
+pub(crate) fn orders_fit(book: &[u64]) -> bool
+    requires { ⌜ (Ranged (now book)) × (word (now book) 2 ≤ 10000000) ⌝ }
+    ensures { λ r. ⌜ r ≡ pairsFit (word (now (book .entry)) 3) (decode (now (book .entry)) .orders) ⌝ }
+{
+    let mut units = [0u64; 65];
+    let mut own = [0u64; 256];
+    link_orders(book, 1, &mut units, &mut own);
+    let mut periods = [0u64; 744];
+    let mut peers = [0u64; 256];
+    link_orders(book, 3, &mut periods, &mut peers);
+    all_stand(book, &own, &peers)
 }

@@ -4,12 +4,14 @@ ghost use mathlib.Core.Path.{_≡_};
 ghost use mathlib.Core.Bool.{true};
 ghost use Prim.Native.Nat.{ℕ, _+_, _*_, _<_, _≤_};
 ghost use lib.ListN.{length, getD};
+ghost use Rattle.measures.specs.Lists.{Each};
+ghost use Rattle.matching.specs.Memory.{orderAt, ordersIn};
 ghost use Rattle.book.specs.Layout.{decode};
 ghost use Rattle.book.specs.Refusals.{firstOf};
 ghost use Rattle.book.specs.Readable.{Readable};
 ghost use Rattle.book.specs.Contract.{soundIn};
 ghost use Rattle.book.specs.Clear.{clearChecks};
-ghost use Rattle.book.specs.Periods.{Clearable, Stepped, ClearsAll, Swept, AllCleared};
+ghost use Rattle.book.specs.Periods.{Clearable, OrdersBelow, PricedBy, Noted, Stepped, ClearsAll, Swept, AllCleared};
 
 // How many rows were written, and how many orders stand.
 pub struct Passed {
@@ -31,32 +33,35 @@ pub(crate) fn clear_checks(book: &[u64], lent: usize) -> u64
     0
 }
 
-// The nearer of `next` and a period, if that is not below `from`.
-fn nearer(period: u64, from: u64, next: u64) -> u64
-    requires { ⌜ from ≤ next ⌝ }
-    ensures { λ r. ⌜ (from ≤ r) × (r ≤ next) × (from ≤ period → r ≤ period) ⌝ }
+// Notes the price of the order at place k: `high` has one more than the highest buy price of each period so far, `low` the
+// lowest sell price.
+fn note_price(orders: &[u64], k: usize, high: &mut [u64], low: &mut [u64])
+    requires { ⌜ (6 * k + 6 ≤ length (now orders)) × (k < 256) × (getD (now orders) (6 * k + 3) 0 < 744) × (getD (now orders) (6 * k + 4) 0 ≤ 10000000) × (length (now high) ≡ 744) × (length (now low) ≡ 744) ⌝ }
+    ensures { λ _. ⌜ Noted (orderAt (now (orders .entry)) k) (now (high .entry)) (now (low .entry)) (now (high .exit)) (now (low .exit)) ⌝ }
 {
-    if period < from {
-        return next;
+    let p = orders[6 * k + 3] as usize;
+    let price = orders[6 * k + 4];
+    if orders[6 * k + 2] == 1 {
+        if high[p] <= price {
+            high[p] = price + 1;
+        }
+        return;
     }
-    if period < next {
-        return period;
+    if price < low[p] {
+        low[p] = price;
     }
-    next
 }
 
-// The least period of the n orders that is not below `from`, or `end`.
-fn next_period(orders: &[u64], n: usize, from: u64, end: u64) -> u64
-    requires { ⌜ (6 * n ≤ length (now orders)) × (n ≤ 256) × (from ≤ end) ⌝ }
-    ensures { λ r. ⌜ (from ≤ r) × (r ≤ end) × ((k : ℕ) → k < n → from ≤ getD (now (orders .entry)) (6 * k + 3) 0 → r ≤ getD (now (orders .entry)) (6 * k + 3) 0) ⌝ }
+// Notes the prices of the first n orders.
+fn note_prices(orders: &[u64], n: usize, high: &mut [u64], low: &mut [u64])
+    requires { ⌜ (6 * n ≤ length (now orders)) × (n ≤ 256) × (length (now high) ≡ 744) × (length (now low) ≡ 744) × (OrdersBelow (now orders) n) ⌝ }
+    ensures { λ _. ⌜ Each (PricedBy (now (high .exit)) (now (low .exit))) (ordersIn (now (orders .entry)) n) ⌝ }
 {
-    let mut next = end;
     let mut k: usize = 0;
     while k < n {
-        next = nearer(orders[6 * k + 3], from, next);
+        note_price(orders, k, high, low);
         k += 1;
     }
-    next
 }
 
 // Clears a period; its rows go behind the `count` rows.
@@ -74,19 +79,41 @@ fn clear_one(orders: &mut [u64], n: usize, period: u64, rows: &mut [u64], count:
     }
 }
 
-// Clears each period below `end`; periods without an order are skipped.
+// Clears a period, if a bid and an ask in it may meet.
+fn clear_met(
+    orders: &mut [u64],
+    n: usize,
+    period: u64,
+    rows: &mut [u64],
+    count: usize,
+    high: &[u64],
+    low: &[u64],
+) -> Passed
+    requires { ⌜ (Clearable (now orders) (now rows) n count) × (period < 744) × (length (now high) ≡ 744) × (length (now low) ≡ 744) × (Each (PricedBy (now high) (now low)) (ordersIn (now orders) n)) ⌝ }
+    ensures { λ r. ⌜ Stepped (now (orders .entry)) (now (rows .entry)) n period count (r .count) (r .standing) (now (orders .exit)) (now (rows .exit)) ⌝ }
+{
+    if high[period as usize] <= low[period as usize] {
+        return Passed { count, standing: n };
+    }
+    clear_one(orders, n, period, rows, count)
+}
+
+// Clears each period below `end`; periods in which no prices meet are skipped.
 pub(crate) fn clear_orders(orders: &mut [u64], n: usize, end: u64, rows: &mut [u64]) -> Passed
-    requires { ⌜ Clearable (now orders) (now rows) n n ⌝ }
+    requires { ⌜ (Clearable (now orders) (now rows) n n) × (end ≤ 744) × (OrdersBelow (now orders) n) ⌝ }
     ensures { λ r. ⌜ ClearsAll (now (orders .entry)) (now (rows .entry)) n end (r .count) (r .standing) (now (orders .exit)) (now (rows .exit)) ⌝ }
 {
+    let mut high = [0u64; 744];
+    let mut low = [u64::MAX; 744];
+    note_prices(orders, n, &mut high, &mut low);
     let mut count: usize = 0;
     let mut standing = n;
-    let mut p = next_period(orders, n, 0, end);
+    let mut p: u64 = 0;
     while p < end {
-        let t = clear_one(orders, standing, p, rows, count);
+        let t = clear_met(orders, standing, p, rows, count, &high, &low);
         count = t.count;
         standing = t.standing;
-        p = next_period(orders, standing, p + 1, end);
+        p += 1;
     }
     Passed { count, standing }
 }

@@ -19,8 +19,8 @@ returns-2 c = stands-called _ _ _ _ _ (c .before .before .before .one-way .ensur
 
 stands-apart-requires : tie.Need-stands-apart-requires
 stands-apart-requires c κs =
-    let g = c .before .before .before .before .before .before .before .before .before .before .pre in
-    (g .0, g .1, g .2, g .5, g .6, g .7 (c .before .before .if2 .left))
+    let g = c .before .before .before .before .before .before .before .before .before .before .before .pre in
+    (g .0, g .1, g .2, g .8, g .9, g .10 (c .before .before .if2 .left))
 
 same-length : tie.Need-same-length
 same-length c = search needs

@@ -1,97 +1,57 @@
--- `orders_fit`: each order passed stands with those before it.
-use Prim.Native.Nat.{ℕ, _≤_, _-_}
-use mathlib.Core.Path.{_≡_, refl, sym, _∙_}
+-- `orders_fit`: the orders linked by unit and by period, then each beside those before it.
+use mathlib.Core.Path.{refl}
 use native.Mathlib.Omega.{arith}
-use borrow.Author.Tests.{not-true, not-false}
-use lib.ListN.{length}
-use Rattle.book.specs.Layout.{word}
 use Rattle.book.proofs.ShareLaws.{order-words}
 use Rattle.book.proofs.UnitsFitLaws.{zeros-below}
-use Rattle.book.proofs.TogetherLaws.{Stood, stood-none, stood-more, stood-fails, stood-ends}
 use borrow.Author.Needs.{needs}
 use Rattle.book.proofs.pairs.orders_fit.Statement.{statement}
 use Rattle.book.proofs.pairs.orders_fit.Tie as tie
 
-abbrev Inv-loop : tie.InvT-loop
-Inv-loop book before high₀ low₀ n k₀ high low k = (k ≤ word book 7) × (length high ≡ 744) × (length low ≡ 744) × (Stood book k high low)
-
-abbrev μ-loop : tie.MeasureT-loop
-μ-loop book before high₀ low₀ n k₀ high low k = word book 7 - k
-
-slice-aggregate-link-orders : tie.Need-slice-aggregate-link-orders Inv-loop μ-loop
+slice-aggregate-link-orders : tie.Need-slice-aggregate-link-orders
 slice-aggregate-link-orders c = search needs
 
-slice-aggregate-link-orders-2 : tie.Need-slice-aggregate-link-orders-2 Inv-loop μ-loop
+slice-aggregate-link-orders-2 : tie.Need-slice-aggregate-link-orders-2
 slice-aggregate-link-orders-2 c = search needs
 
-link-orders-requires : tie.Need-link-orders-requires Inv-loop μ-loop
+link-orders-requires : tie.Need-link-orders-requires
 link-orders-requires c κs =
     let g = c .before .before .before .pre in
     (g .0, omega arith, refl, zeros-below 65 0, λ k h. let d = g .0 .readable .unitsTo in omega (arith, order-words _ k (g .0) h .unit .1))
 
-shared-slice-read-n : tie.Need-shared-slice-read-n Inv-loop μ-loop
-shared-slice-read-n c = search needs
+slice-aggregate-link-orders-3 : tie.Need-slice-aggregate-link-orders-3
+slice-aggregate-link-orders-3 c = search needs
 
-loop-holds : tie.Need-loop-holds Inv-loop μ-loop
-loop-holds c =
-    let d = c .before .before .before .before .before .before .before .pre .0 .readable .daysTo in
-    (omega arith, refl, refl, stood-none _ (omega arith))
+slice-aggregate-link-orders-4 : tie.Need-slice-aggregate-link-orders-4
+slice-aggregate-link-orders-4 c = search needs
 
-slice-aggregate-order-stands : tie.Need-slice-aggregate-order-stands Inv-loop μ-loop
-slice-aggregate-order-stands c = search needs
+link-orders-requires-2 : tie.Need-link-orders-requires-2
+link-orders-requires-2 c κs =
+    let g = c .before .before .before .before .before .before .before .before .pre in
+    (g .0, omega arith, refl, zeros-below 744 0, λ k h. let d = g .0 .readable .daysTo in omega (arith, order-words _ k (g .0) h .period))
 
-slice-aggregate-order-stands-2 : tie.Need-slice-aggregate-order-stands-2 Inv-loop μ-loop
-slice-aggregate-order-stands-2 c = search needs
+slice-aggregate-all-stand : tie.Need-slice-aggregate-all-stand
+slice-aggregate-all-stand c = search needs
 
-slice-aggregate-order-stands-3 : tie.Need-slice-aggregate-order-stands-3 Inv-loop μ-loop
-slice-aggregate-order-stands-3 c = search needs
+slice-aggregate-all-stand-2 : tie.Need-slice-aggregate-all-stand-2
+slice-aggregate-all-stand-2 c = search needs
 
-order-stands-requires : tie.Need-order-stands-requires Inv-loop μ-loop
-order-stands-requires c κs =
-    let g = c .before .before .before .before .before .before .before .before .before .before .before .before .pre in
-    let t = c .before .before .before .before .before .before .before .before .link-orders in
-    let l = c .before .before .before .before .loop in
-    (g .0, g .1, omega arith, t .kept .1 .1 .1 .0, t .ensures .ofOrder, l .inv .1, l .inv .2, l .inv .3 .prices)
+all-stand-requires : tie.Need-all-stand-requires
+all-stand-requires c κs = search needs
 
-returns : tie.Need-returns Inv-loop μ-loop
-returns c =
-    let l = c .before .before .before .before .before .before .before .before .loop in
-    stood-fails _ (l .k) (l .high) (l .low) _ _ (l .inv .3) _ (c .before .before .before .order-stands .ensures) (omega arith) (not-true _ (c .if1 .taken))
-
-add-k : tie.Need-add-k Inv-loop μ-loop
-add-k c = search needs
-
-loop-less : tie.Need-loop-less Inv-loop μ-loop
-loop-less c = search needs
-
-loop-again : tie.Need-loop-again Inv-loop μ-loop
-loop-again c =
-    let l = c .before .before .before .before .before .before .before .before .loop in
-    let o = c .before .before .before .order-stands in
-    (search needs, o .kept .1 .1 .1 .0 ∙ l .inv .1, o .kept .1 .1 .1 .1 .0 ∙ l .inv .2, stood-more _ (l .k) (l .high) (l .low) _ _ (l .inv .3) _ (o .ensures) (not-false _ (c .if1 .left)))
-
-returns-2 : tie.Need-returns-2 Inv-loop μ-loop
-returns-2 c =
-    let l = c .before .loop in
-    stood-ends _ (l .k) (l .high) (l .low) (omega arith) (l .inv .3)
+returns : tie.Need-returns
+returns c = search needs
 
 pub orders-fit-spec : {M : Type 1} → statement M
 orders-fit-spec =
     tie.close
     (tie.spec
-    Inv-loop
-    μ-loop
     slice-aggregate-link-orders
     slice-aggregate-link-orders-2
     link-orders-requires
-    shared-slice-read-n
-    loop-holds
-    slice-aggregate-order-stands
-    slice-aggregate-order-stands-2
-    slice-aggregate-order-stands-3
-    order-stands-requires
-    returns
-    add-k
-    loop-less
-    loop-again
-    returns-2)
+    slice-aggregate-link-orders-3
+    slice-aggregate-link-orders-4
+    link-orders-requires-2
+    slice-aggregate-all-stand
+    slice-aggregate-all-stand-2
+    all-stand-requires
+    returns)

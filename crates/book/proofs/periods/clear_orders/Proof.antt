@@ -1,53 +1,74 @@
--- `clear_orders`: what is cleared and what is still to be cleared is the whole; periods without an order are passed over.
-use Prim.Native.Nat.{_+_, _-_}
+-- `clear_orders`: the prices noted first; what is cleared and what is still to be cleared is the whole.
+use Prim.Native.Nat.{_≤_, _+_, _-_}
+use mathlib.Core.Path.{_≡_, refl}
 use native.Mathlib.Omega.{arith}
-use Rattle.book.proofs.PassingLaws.{Passing, passing-first, passing-next, passing-ready, passing-more, passing-end}
+use lib.ListN.{length}
+use Rattle.measures.specs.Lists.{Each}
+use Rattle.matching.specs.Memory.{ordersIn}
+use Rattle.book.specs.Periods.{PricedBy}
+use Rattle.book.proofs.PassingLaws.{Passing, passing-start, passing-ready, passing-more, passing-end}
+use Rattle.book.proofs.SkipLaws.{priced-after}
 use borrow.Author.Needs.{needs}
 use Rattle.book.proofs.periods.clear_orders.Statement.{statement}
 use Rattle.book.proofs.periods.clear_orders.Tie as tie
 
 abbrev Inv-loop : tie.InvT-loop
-Inv-loop orders₀ n end rows₀ count₀ standing₀ p₀ orders rows count standing p = Passing orders₀ rows₀ n end orders rows count standing p
+Inv-loop orders₀ n end rows₀ high low count₀ standing₀ p₀ orders rows count standing p =
+    (Passing orders₀ rows₀ n end orders rows count standing p) × (length high ≡ 744) × (length low ≡ 744) × (Each (PricedBy high low) (ordersIn orders standing))
 
 abbrev μ-loop : tie.MeasureT-loop
-μ-loop orders₀ n end rows₀ count₀ standing₀ p₀ orders rows count standing p = end - p
+μ-loop orders₀ n end rows₀ high low count₀ standing₀ p₀ orders rows count standing p = end - p
 
--- after a period is cleared
-turned : (c : tie.After-clear-one Inv-loop μ-loop) → Passing (c .before .before .before .before .before .before .before .before .before .args .orders .now) (c .before .before .before .before .before .before .before .before .before .args .rows .now) (c .before .before .before .before .before .before .before .before .before .args .n) (c .before .before .before .before .before .before .before .before .before .args .end) (c .clear-one .last .0) (c .clear-one .last .1 .1 .1 .0) (c .clear-one .result .count) (c .clear-one .result .standing) (c .before .before .before .before .loop .p + 1)
-turned c = passing-more _ _ _ _ (c .before .before .before .before .before .before .before .before .before .pre) _ _ _ _ _ (c .before .before .before .before .loop .inv) _ _ _ _ (c .before .before .before .loop-test .taken) (c .clear-one .ensures) (c .clear-one .kept .0) (c .clear-one .kept .1 .1 .1 .0)
+slice-aggregate-note-prices : tie.Need-slice-aggregate-note-prices Inv-loop μ-loop
+slice-aggregate-note-prices c = search needs
 
-next-period-requires : tie.Need-next-period-requires Inv-loop μ-loop
-next-period-requires c κs = search needs
+slice-aggregate-note-prices-2 : tie.Need-slice-aggregate-note-prices-2 Inv-loop μ-loop
+slice-aggregate-note-prices-2 c = search needs
+
+note-prices-requires : tie.Need-note-prices-requires Inv-loop μ-loop
+note-prices-requires c κs =
+    let g = c .before .before .before .before .before .pre in
+    (g .0 .inside, g .0 .few, refl, refl, g .2)
 
 loop-holds : tie.Need-loop-holds Inv-loop μ-loop
-loop-holds c = passing-first _ _ _ _ (c .before .before .before .before .pre) _ (c .next-period .ensures .1) (c .next-period .ensures .2)
+loop-holds c =
+    let t = c .before .before .note-prices in
+    (passing-start _ _ _ _ (c .before .before .before .before .before .before .before .before .pre .0), t .kept .1 .1 .0, t .kept .1 .1 .1 .0, t .ensures)
 
-clear-one-requires : tie.Need-clear-one-requires Inv-loop μ-loop
-clear-one-requires c κs = passing-ready _ _ _ _ (c .before .before .before .before .before .before .before .before .pre) _ _ _ _ _ (c .before .before .before .loop .inv)
+slice-aggregate-clear-met : tie.Need-slice-aggregate-clear-met Inv-loop μ-loop
+slice-aggregate-clear-met c = search needs
 
-add-next-period : tie.Need-add-next-period Inv-loop μ-loop
-add-next-period c = search needs
+slice-aggregate-clear-met-2 : tie.Need-slice-aggregate-clear-met-2 Inv-loop μ-loop
+slice-aggregate-clear-met-2 c = search needs
 
-next-period-requires-2 : tie.Need-next-period-requires-2 Inv-loop μ-loop
-next-period-requires-2 c κs =
-    let t = turned (c .before .before .before .before .before) in
-    let h = c .before .before .before .before .before .before .before .before .before .before .before .before .before .before .pre in
-    omega arith
+clear-met-requires : tie.Need-clear-met-requires Inv-loop μ-loop
+clear-met-requires c κs =
+    let g = c .before .before .before .before .before .before .before .before .before .before .before .before .before .before .pre in
+    let l = c .before .before .before .before .before .loop in
+    (passing-ready _ _ _ _ (g .0) _ _ _ _ _ (l .inv .0), omega arith, l .inv .1, l .inv .2, l .inv .3)
+
+add-p : tie.Need-add-p Inv-loop μ-loop
+add-p c = search needs
 
 loop-less : tie.Need-loop-less Inv-loop μ-loop
 loop-less c = omega arith
 
 loop-again : tie.Need-loop-again Inv-loop μ-loop
-loop-again c = passing-next _ _ _ _ (c .before .before .before .before .before .before .before .before .before .before .before .before .before .before .before .pre) _ _ _ _ _ _ (turned (c .before .before .before .before .before .before)) (c .next-period2 .ensures .0) (c .next-period2 .ensures .1) (c .next-period2 .ensures .2)
+loop-again c =
+    let l = c .before .before .before .before .before .before .before .before .before .before .loop in
+    let t = c .before .before .before .before .clear-met in
+    (passing-more _ _ _ _ (c .before .before .before .before .before .before .before .before .before .before .before .before .before .before .before .before .before .before .before .pre .0) _ _ _ _ _ (l .inv .0) _ _ _ _ (c .before .before .before .before .before .before .before .before .before .loop-test .taken) (t .ensures) (t .kept .0) (t .kept .1 .1 .1 .0), l .inv .1, l .inv .2, priced-after _ _ _ _ _ _ _ _ _ _ _ (t .ensures) (l .inv .3))
 
 same-length : tie.Need-same-length Inv-loop μ-loop
-same-length c = c .before .loop .inv .long
+same-length c = c .before .loop .inv .0 .long
 
 same-length-2 : tie.Need-same-length-2 Inv-loop μ-loop
-same-length-2 c = c .before .loop .inv .lent
+same-length-2 c = c .before .loop .inv .0 .lent
 
 returns : tie.Need-returns Inv-loop μ-loop
-returns c = passing-end _ _ _ _ (c .before .before .before .before .before .before .pre) _ _ _ _ _ (c .before .loop .inv) (omega arith)
+returns c =
+    let l = c .before .loop in
+    passing-end _ _ _ _ (c .before .before .before .before .before .before .before .before .before .before .pre .0) _ _ _ _ _ (l .inv .0) (omega arith)
 
 pub clear-orders-spec : {M : Type 1} → statement M
 clear-orders-spec =
@@ -55,11 +76,14 @@ clear-orders-spec =
     (tie.spec
     Inv-loop
     μ-loop
-    next-period-requires
+    slice-aggregate-note-prices
+    slice-aggregate-note-prices-2
+    note-prices-requires
     loop-holds
-    clear-one-requires
-    add-next-period
-    next-period-requires-2
+    slice-aggregate-clear-met
+    slice-aggregate-clear-met-2
+    clear-met-requires
+    add-p
     loop-less
     loop-again
     same-length

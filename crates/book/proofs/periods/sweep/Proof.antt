@@ -4,7 +4,7 @@ use native.Mathlib.Omega.{arith}
 use mathlib.Core.Path.{_∙_}
 use Rattle.book.specs.Readable.{Readable}
 use Rattle.book.proofs.MadeLaws.{sound-readable}
-use Rattle.book.proofs.ClearEffectLaws.{clear-asks, swept}
+use Rattle.book.proofs.ClearEffectLaws.{clear-asks, orders-below, swept}
 use borrow.Author.Needs.{needs}
 use Rattle.book.proofs.periods.sweep.Statement.{statement}
 use Rattle.book.proofs.periods.sweep.Tie as tie
@@ -31,7 +31,10 @@ part-clear-orders-end : tie.Need-part-clear-orders-end
 part-clear-orders-end c = let r = ok (c .before .before .before .before) in omega arith
 
 clear-orders-requires : tie.Need-clear-orders-requires
-clear-orders-requires c κs = clear-asks _ _ (c .before .before .before .before .before .before .pre .0) (c .before .before .before .before .before .before .pre .1)
+clear-orders-requires c κs =
+    let s = c .before .before .before .before .before .before in
+    let d = ok s .daysTo in
+    (clear-asks _ _ (s .pre .0) (s .pre .1), omega arith, orders-below _ (s .pre .0))
 
 slice-write-book : tie.Need-slice-write-book
 slice-write-book c = let r = ok (c .before .before .before .before .before .before .before .before .before .before .before) in omega arith

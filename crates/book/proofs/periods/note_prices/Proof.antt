@@ -1,0 +1,63 @@
+-- `note_prices`: the prices of the orders passed are noted.
+use Prim.Native.Nat.{ℕ, _≤_, _-_}
+use mathlib.Core.Path.{_≡_, _∙_}
+use native.Mathlib.Omega.{arith}
+use lib.ListN.{length}
+use Rattle.book.proofs.SkipLaws.{NotedTo, noted-more, noted-all}
+use borrow.Author.Needs.{needs}
+use Rattle.book.proofs.periods.note_prices.Statement.{statement}
+use Rattle.book.proofs.periods.note_prices.Tie as tie
+
+abbrev Inv-loop : tie.InvT-loop
+Inv-loop orders n high₀ low₀ k₀ high low k = (k ≤ n) × (length high ≡ 744) × (length low ≡ 744) × (NotedTo orders high low k)
+
+abbrev μ-loop : tie.MeasureT-loop
+μ-loop orders n high₀ low₀ k₀ high low k = n - k
+
+loop-holds : tie.Need-loop-holds Inv-loop μ-loop
+loop-holds c = (search needs, search needs, search needs, λ i h. absurd (omega arith))
+
+note-price-requires : tie.Need-note-price-requires Inv-loop μ-loop
+note-price-requires c κs =
+    let g = c .before .before .before .before .before .before .before .pre in
+    let l = c .before .before .before .loop in
+    let t = g .4 (l .k) (omega arith) in
+    (omega arith, omega arith, t .0, t .1, l .inv .1, l .inv .2)
+
+add-k : tie.Need-add-k Inv-loop μ-loop
+add-k c = search needs
+
+loop-less : tie.Need-loop-less Inv-loop μ-loop
+loop-less c = search needs
+
+loop-again : tie.Need-loop-again Inv-loop μ-loop
+loop-again c =
+    let l = c .before .before .before .before .before .before .before .before .loop in
+    let d = c .before .before .before .before .note-price in
+    (search needs, d .kept .1 .1 .0 ∙ l .inv .1, d .kept .1 .1 .1 .0 ∙ l .inv .2, noted-more (c .before .before .before .before .before .before .before .before .before .before .before .before .args .orders .now) (l .high) (l .low) _ _ (l .k) (l .inv .3) (d .ensures))
+
+same-length : tie.Need-same-length Inv-loop μ-loop
+same-length c = search needs
+
+same-length-2 : tie.Need-same-length-2 Inv-loop μ-loop
+same-length-2 c = search needs
+
+returns : tie.Need-returns Inv-loop μ-loop
+returns c =
+    let l = c .before .loop in
+    noted-all _ _ _ (l .k) _ (omega arith) (l .inv .3)
+
+pub note-prices-spec : {M : Type 1} → statement M
+note-prices-spec =
+    tie.close
+    (tie.spec
+    Inv-loop
+    μ-loop
+    loop-holds
+    note-price-requires
+    add-k
+    loop-less
+    loop-again
+    same-length
+    same-length-2
+    returns)
