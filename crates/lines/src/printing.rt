@@ -101,7 +101,7 @@ fn put_rows(out: &mut [u8], at: usize, rows: &[u64], count: usize) -> usize
 }
 
 // `no` and the refusal.
-pub fn print_no(out: &mut [u8], refusal: u64) -> usize
+pub(crate) fn print_no(out: &mut [u8], refusal: u64) -> usize
     requires { ⌜ 24 ≤ length (now out) ⌝ }
     ensures { λ r. ⌜ (take r (now (out .exit)) ≡ printedNo refusal) × (r ≤ 24) ⌝ }
 {
@@ -112,7 +112,7 @@ pub fn print_no(out: &mut [u8], refusal: u64) -> usize
 }
 
 // `ok` and the number, then the rows.
-pub fn print_ok(out: &mut [u8], number: u64, rows: &[u64], count: usize) -> usize
+pub(crate) fn print_ok(out: &mut [u8], number: u64, rows: &[u64], count: usize) -> usize
     requires { ⌜ (24 + 128 * count ≤ length (now out)) × (6 * count ≤ length (now rows)) ⌝ }
     ensures { λ r. ⌜ (take r (now (out .exit)) ≡ okText number count (now (rows .entry))) × (r ≤ 24 + 128 * count) ⌝ }
 {
