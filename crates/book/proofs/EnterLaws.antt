@@ -28,12 +28,8 @@ use Rattle.book.proofs.MadeLaws.{sound-readable}
 use Rattle.book.proofs.BookingLaws.{past-dropped}
 use Rattle.book.proofs.SmallLaws.{noRow, row-written, rows-written, sound-small}
 use Rattle.book.proofs.PartyLaws.{offer-sound}
+use Rattle.book.proofs.ShareLaws.{getD-past}
 use Rattle.book.proofs.GatherLaws.{at-most-total}
-
-getD-past : (k : List ℕ) (i : ℕ) → length k ≤ i → getD k i 0 ≡ 0
-getD-past [] i h = refl
-getD-past (x ∷ k) zero h = absurd (omega arith)
-getD-past (x ∷ k) (suc i) h = getD-past k i (omega arith)
 
 -- the rows from period p on name the two units, periods of the term and the parts
 module _ (m : List ℕ) (w s b pr : ℕ) (hs : In 1 (word m 5) s) (hb : In 1 (word m 5) b) where

@@ -76,6 +76,7 @@ pub mod SkipLaws
 pub mod TogetherLaws
 pub mod TraceLaws
 pub mod UnitsFitLaws
+pub mod SettleLaws
 pub mod OrderCheckLaws
 pub mod OrderFitLaws
 pub mod WaitLaws

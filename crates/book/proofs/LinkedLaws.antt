@@ -22,7 +22,7 @@ use Rattle.book.specs.Readable.{Ranged}
 use Rattle.book.specs.Fitting.{Below, Added, orderShare, offerShare}
 use Rattle.book.specs.Whole.{Latest, Linked, raisingWay, orderRaises, orderLowers, offersRaise, ordersRaise, ordersLower, BothAdded}
 use Rattle.book.proofs.RangeFacts.{OrderWords, kind-at}
-use Rattle.book.proofs.ShareLaws.{order-words, offer-words, amount-small, added-none, share-other, share-against, share-there, offer-other, offer-own, shares-more, shares-end}
+use Rattle.book.proofs.ShareLaws.{order-words, offer-words, amount-small, added-none, placed, share-other, share-against, share-there, offer-other, offer-own, shares-more, shares-end}
 use Rattle.book.proofs.JoinLaws.{raises-by}
 
 -- the last order of a value: among none, with one more of the value, and with one more of another
@@ -97,19 +97,6 @@ linking-ends m f start last before k h g =
       ofValue = λ v l. rw (← e) (g .ofValue v l);
       ofOrder = λ i l. g .ofOrder i (omega arith);
     }
-
--- an amount added at one place
-placed : (n : ℕ) (l : List ℕ) (k q : ℕ) (f : ℕ → ℕ) → k < length l → q ≤ mostEnergy → f k ≡ q → ((i : ℕ) → (i ≡ k → ⊥) → f i ≡ 0)
-    → Added n l (set l k (getD l k 0 + q)) f mostEnergy
-placed n l k q f h s e z = record { long = length-set l _ _; each = λ i b. each i (ℕ-discrete i k); grown = λ i. grown i (ℕ-discrete i k) }
-  where
-    each : (i : ℕ) → Dec (i ≡ k) → getD (set l k (getD l k 0 + q)) i 0 ≡ getD l i 0 + f i
-    each i (yes w) = rw (w, e) (getD-set-same l k _ 0 h)
-    each i (no w) = rw (z i w) (getD-set-other l k i _ 0 w ∙ sym (add-zero _))
-
-    grown : (i : ℕ) → Dec (i ≡ k) → getD (set l k (getD l k 0 + q)) i 0 ≤ getD l i 0 + mostEnergy
-    grown i (yes w) = rw w (rw (getD-set-same l k (getD l k 0 + q) 0 h) (omega arith))
-    grown i (no w) = rw (getD-set-other l k i (getD l k 0 + q) 0 w) (omega arith)
 
 -- the offers passed have their amounts of the period added
 abbrev pub OffersAdded : List ℕ → ℕ → List ℕ → List ℕ → ℕ → Type 0

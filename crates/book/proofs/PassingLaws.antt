@@ -112,17 +112,17 @@ module _ (d rows : List ℕ) (rs cs : List Row) (count k : ℕ) (e : length rs �
       (sym (append-assoc (flat rs) (flat cs) (drop (6 * length cs) (drop (6 * length rs) d))))
 
 -- clearing one period, its rows behind the others
-module _ (m rows : List ℕ) (n p count : ℕ) (h : Clearable m rows n count) (a : Matched) (m′ ys : List ℕ) where
+module _ (m rows : List ℕ) (n p count : ℕ) (h : Clearable m rows n count) where
   abbrev part : List ℕ
   part = take (length rows - 6 * count) (drop (6 * count) rows)
 
   room : 6 * n ≤ length part
   room = let t = h .lent in simp (length-take, length-drop) (omega arith)
 
-  fit-part : fit m n part ≡ true
+  pub fit-part : fit m n part ≡ true
   fit-part = is-fit m part n (h .few) (h .inside) room (h .rises) ∙ le-leb (quantities (ordersIn m n)) mostEnergy (h .small)
 
-  module _ (x : Clears m part n p a m′ ys) where
+  module _ (a : Matched) (m′ ys : List ℕ) (x : Clears m part n p a m′ ys) where
     pub never-unfit : {X : Type 0} → answerOf a .fits ≡ false → X
     never-unfit e = both-ways (sym fit-part ∙ sym (x .fits) ∙ e)
 

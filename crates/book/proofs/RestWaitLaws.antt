@@ -1,6 +1,6 @@
 -- An order in the rolling phase on a sound book in memory: the open orders fit for matching, and what matching leaves.
 use Prim.Native.Nat.{ℕ, zero, suc, _+_, _-_, _*_, _≤_}
-use mathlib.Core.Path.{_≡_, refl, sym, ap, _∙_}
+use mathlib.Core.Path.{_≡_, refl, sym, ap, _∙_, subst}
 use mathlib.Core.Bool.{Bool, true, false, cond, _&&_}
 use mathlib.Core.List.{List, [], _∷_, _++_, append-nil}
 use native.Mathlib.Omega.{arith}
@@ -128,6 +128,17 @@ pub rest-none : (m : List ℕ) (o : OpenOrder) (left : ℕ) → left ≡ 0 → O
 unfolding waiting
 rest-none m o left e =
     record { long = refl; low = λ i l n. refl; high = λ i l. refl; orders = rw (eq-eqb left 0 e) (sym (append-nil (ordersIn (ordersPart m) (word m 7)))) }
+
+-- what is said of an order holds of an equal one
+module _ (o o′ : OpenOrder) (e : o ≡ o′) where
+  pub put-same : (m x : List ℕ) → OrdersPut m x (ordersIn (ordersPart m) (word m 7) ++ (o ∷ [])) → OrdersPut m x (ordersIn (ordersPart m) (word m 7) ++ (o′ ∷ []))
+  put-same m x h = subst (λ (z : OpenOrder). OrdersPut m x (ordersIn (ordersPart m) (word m 7) ++ (z ∷ []))) e h
+
+  pub waits-same : (m x : List ℕ) (q : ℕ) → OrdersPut m x (ordersIn (ordersPart m) (word m 7) ++ waiting (leaving o q)) → OrdersPut m x (ordersIn (ordersPart m) (word m 7) ++ waiting (leaving o′ q))
+  waits-same m x q h = subst (λ (z : OpenOrder). OrdersPut m x (ordersIn (ordersPart m) (word m 7) ++ waiting (leaving z q))) e h
+
+  pub rolled-same : (m x rows rows′ : List ℕ) (q n : ℕ) → Rolled m x rows rows′ o q n → Rolled m x rows rows′ o′ q n
+  rolled-same m x rows rows′ q n h = subst (λ (z : OpenOrder). Rolled m x rows rows′ z q n) e h
 
 pub rest-some : (m x : List ℕ) (o : OpenOrder) (left : ℕ) → (left ≡ 0 → ⊥) → OrdersPut m x (ordersIn (ordersPart m) (word m 7) ++ (leaving o left ∷ [])) → OrdersPut m x (ordersIn (ordersPart m) (word m 7) ++ waiting (leaving o left))
 unfolding waiting

@@ -1,8 +1,8 @@
 -- Amounts added by period: none, one more, and what an order and an offer in memory add.
-use Prim.Native.Nat.{ℕ, _+_, _-_, _*_, _≤_, _<_}
+use Prim.Native.Nat.{ℕ, zero, suc, _+_, _-_, _*_, _≤_, _<_}
 use mathlib.Core.Path.{_≡_, refl, sym, ap, _∙_}
 use mathlib.Core.Bool.{not, _&&_}
-use mathlib.Core.List.{List}
+use mathlib.Core.List.{List, [], _∷_}
 use native.Mathlib.Omega.{arith}
 use native.Mathlib.Nat.{add-zero}
 use native.Mathlib.Decide.{ℕ-discrete, decLt}
@@ -18,6 +18,12 @@ use Rattle.book.specs.Layout.{word, amountAt}
 use Rattle.book.specs.Readable.{Ranged}
 use Rattle.book.specs.Fitting.{Added, orderShare, offerShare}
 use Rattle.book.proofs.RangeFacts.{OrderWords, order-facts, orders-every, OfferWords, offer-facts, offers-every}
+
+-- nothing stands past the end of a list
+pub getD-past : (l : List ℕ) (i : ℕ) → length l ≤ i → getD l i 0 ≡ 0
+getD-past [] i h = refl
+getD-past (x ∷ l) zero h = absurd (omega arith)
+getD-past (x ∷ l) (suc i) h = getD-past l i (omega arith)
 
 -- what stands in a memory that is in range
 pub order-words : (m : List ℕ) (k : ℕ) → Ranged m → k < word m 7 → OrderWords m k
@@ -48,6 +54,19 @@ added-more n l x y f h s g d t a b e q =
       grown = λ p. let u = a .grown p in let v = b .grown p in omega arith;
     }
 
+-- an amount added at one place
+pub placed : (n : ℕ) (l : List ℕ) (k q : ℕ) (f : ℕ → ℕ) → k < length l → q ≤ mostEnergy → f k ≡ q → ((i : ℕ) → (i ≡ k → ⊥) → f i ≡ 0)
+    → Added n l (set l k (getD l k 0 + q)) f mostEnergy
+placed n l k q f h s e z = record { long = length-set l _ _; each = λ i b. each i (ℕ-discrete i k); grown = λ i. grown i (ℕ-discrete i k) }
+  where
+    each : (i : ℕ) → Dec (i ≡ k) → getD (set l k (getD l k 0 + q)) i 0 ≡ getD l i 0 + f i
+    each i (yes w) = rw (w, e) (getD-set-same l k _ 0 h)
+    each i (no w) = rw (z i w) (getD-set-other l k i _ 0 w ∙ sym (add-zero _))
+
+    grown : (i : ℕ) → Dec (i ≡ k) → getD (set l k (getD l k 0 + q)) i 0 ≤ getD l i 0 + mostEnergy
+    grown i (yes w) = rw w (rw (getD-set-same l k (getD l k 0 + q) 0 h) (omega arith))
+    grown i (no w) = rw (getD-set-other l k i (getD l k 0 + q) 0 w) (omega arith)
+
 -- the share of an order, by cases
 module _ (m : List ℕ) (u way k : ℕ) where
   pub share-other : (word m (240 + 6 * k + 1) ≡ u → ⊥) → (p : ℕ) → orderShare m u way k p ≡ 0
@@ -70,15 +89,7 @@ module _ (m : List ℕ) (u way k : ℕ) where
 
     pub order-added : (n : ℕ) (l : List ℕ) → word m (240 + 6 * k + 3) < length l → word m (240 + 6 * k + 5) ≤ mostEnergy
         → Added n l (set l (word m (240 + 6 * k + 3)) (getD l (word m (240 + 6 * k + 3)) 0 + word m (240 + 6 * k + 5))) (orderShare m u way k) mostEnergy
-    order-added n l h s = record { long = length-set l _ _; each = λ p i. each p (ℕ-discrete p (word m (240 + 6 * k + 3))); grown = λ p. grown p (ℕ-discrete p (word m (240 + 6 * k + 3))) }
-      where
-        each : (p : ℕ) → Dec (p ≡ word m (240 + 6 * k + 3)) → getD (set l (word m (240 + 6 * k + 3)) (getD l (word m (240 + 6 * k + 3)) 0 + word m (240 + 6 * k + 5))) p 0 ≡ getD l p 0 + orderShare m u way k p
-        each p (yes w) = rw (share-there p (sym w), w) (getD-set-same l _ _ 0 h)
-        each p (no w) = rw (share-elsewhere p (λ z. w (sym z))) (getD-set-other l _ p _ 0 w ∙ sym (add-zero _))
-
-        grown : (p : ℕ) → Dec (p ≡ word m (240 + 6 * k + 3)) → getD (set l (word m (240 + 6 * k + 3)) (getD l (word m (240 + 6 * k + 3)) 0 + word m (240 + 6 * k + 5))) p 0 ≤ getD l p 0 + mostEnergy
-        grown p (yes w) = rw w (rw (getD-set-same l _ _ 0 h) (omega arith))
-        grown p (no w) = rw (getD-set-other l _ p _ 0 w) (omega arith)
+    order-added n l h s = placed n l (word m (240 + 6 * k + 3)) (word m (240 + 6 * k + 5)) (orderShare m u way k) h s (share-there _ refl) (λ p w. share-elsewhere p (λ z. w (sym z)))
 
 -- the periods below p have f added, the others not yet
 pub record Adding (l x : List ℕ) (f : ℕ → ℕ) (p : ℕ) : Type 0 where

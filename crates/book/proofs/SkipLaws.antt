@@ -19,10 +19,12 @@ use Rattle.matching.proofs.LaidLaws.{laid-each}
 use Rattle.matching.proofs.VolumeLaws.{largest-below}
 use Rattle.matching.proofs.OrderLaws.{orders-at, orders-length}
 use Rattle.matching.proofs.PeriodLaws.{isBid, isAsk}
-use Rattle.book.specs.Periods.{PricedBy, Noted, Stepped}
+use Rattle.book.specs.Whole.{highWith, lowWith}
+use Rattle.book.specs.Periods.{PricedBy, Stepped}
 use Rattle.book.proofs.RemainLaws.{each-by, remains-each}
 use Rattle.book.proofs.FormedLaws.{LessOrder}
 use Rattle.book.proofs.LeftLaws.{cleared-remain}
+use Rattle.book.proofs.TogetherLaws.{high-new, high-not, low-new, low-not}
 
 module _ (p : ℕ) (os : List OpenOrder) (high low : List ℕ) (b : Each (PricedBy high low) os) (h : getD high p 0 ≤ getD low p 0) where
   bids-low : Each (λ (o : OpenOrder). o .price < getD high p 0) (bids p os)
@@ -92,47 +94,64 @@ priced-after m rows n p count count′ n′ m′ rows′ high low s b =
     rw (s .orders)
     (remains-each LessOrder (PricedBy high low) (PricedBy high low) (λ x y l q. rw (l .is) (record { bid = q .bid; ask = q .ask })) (cleared-remain p (ordersIn m n)) b)
 
--- a price noted
+-- an order's price entered
 module _ (o : OpenOrder) (high low : List ℕ) where
-  pub noted-raised : o .direction ≡ 1 → getD high (o .period) 0 ≤ o .price → o .period < length high → Noted o high low (set high (o .period) (o .price + 1)) low
-  noted-raised d l r =
-      let e = getD-set-same high (o .period) (o .price + 1) 0 r in
-      record { own = record { bid = λ z. omega arith; ask = λ z. absurd (omega arith) }; up = λ q. go q (ℕ-discrete q (o .period)); down = λ q. omega arith }
+  pub own-priced : o .period < length high → o .period < length low → PricedBy (highWith (o .direction) (o .period) (o .price) high) (lowWith (o .direction) (o .period) (o .price) low) o
+  own-priced rh rl = record { bid = λ e. bid e (decLt (o .price) (getD high (o .period) 0)); ask = λ e. ask (λ z. omega arith) (decLt (o .price) (getD low (o .period) 0)) }
     where
-      go : (q : ℕ) → Dec (q ≡ o .period) → getD high q 0 ≤ getD (set high (o .period) (o .price + 1)) q 0
-      go q (yes y) = rw y (let e = getD-set-same high (o .period) (o .price + 1) 0 r in omega arith)
-      go q (no y) = let e = getD-set-other high (o .period) q (o .price + 1) 0 y in omega arith
+      bid : o .direction ≡ 1 → Dec (o .price < getD high (o .period) 0) → o .price < getD (highWith (o .direction) (o .period) (o .price) high) (o .period) 0
+      bid e (yes u) = rw (high-not (o .direction) (o .period) (o .price) high (λ _. u)) u
+      bid e (no u) = rw (high-new (o .direction) (o .period) (o .price) high e (omega arith)) (omega (arith, getD-set-same high (o .period) (o .price + 1) 0 rh))
 
-  pub noted-bid : o .direction ≡ 1 → o .price < getD high (o .period) 0 → Noted o high low high low
-  noted-bid d l = record { own = record { bid = λ z. l; ask = λ z. absurd (omega arith) }; up = λ q. omega arith; down = λ q. omega arith }
+      ask : (o .direction ≡ 1 → ⊥) → Dec (o .price < getD low (o .period) 0) → getD (lowWith (o .direction) (o .period) (o .price) low) (o .period) 0 ≤ o .price
+      ask n (yes u) = rw (low-new (o .direction) (o .period) (o .price) low n u) (omega (arith, getD-set-same low (o .period) (o .price) 0 rl))
+      ask n (no u) = rw (low-not (o .direction) (o .period) (o .price) low (λ _. omega arith)) (omega arith)
 
-  pub noted-lowered : (o .direction ≡ 1 → ⊥) → o .price < getD low (o .period) 0 → o .period < length low → Noted o high low high (set low (o .period) (o .price))
-  noted-lowered n l r =
-      let e = getD-set-same low (o .period) (o .price) 0 r in
-      record { own = record { bid = λ z. absurd (n z); ask = λ z. omega arith }; up = λ q. omega arith; down = λ q. go q (ℕ-discrete q (o .period)) }
+-- and none that was entered is lost
+module _ (d p price : ℕ) where
+  high-more : (high : List ℕ) → p < length high → (q : ℕ) → getD high q 0 ≤ getD (highWith d p price high) q 0
+  high-more high r q = go (ℕ-discrete d 1) (decLt price (getD high p 0)) (ℕ-discrete q p)
     where
-      go : (q : ℕ) → Dec (q ≡ o .period) → getD (set low (o .period) (o .price)) q 0 ≤ getD low q 0
-      go q (yes y) = rw y (let e = getD-set-same low (o .period) (o .price) 0 r in omega arith)
-      go q (no y) = let e = getD-set-other low (o .period) q (o .price) 0 y in omega arith
+      go : Dec (d ≡ 1) → Dec (price < getD high p 0) → Dec (q ≡ p) → getD high q 0 ≤ getD (highWith d p price high) q 0
+      go (no n) u e = rw (high-not d p price high (λ z. absurd (n z))) (omega arith)
+      go (yes z) (yes u) e = rw (high-not d p price high (λ _. u)) (omega arith)
+      go (yes z) (no u) (yes e) = rw (high-new d p price high z (omega arith), e) (omega (arith, getD-set-same high p (price + 1) 0 r))
+      go (yes z) (no u) (no e) = rw (high-new d p price high z (omega arith)) (omega (arith, getD-set-other high p q (price + 1) 0 e))
 
-  pub noted-ask : (o .direction ≡ 1 → ⊥) → getD low (o .period) 0 ≤ o .price → Noted o high low high low
-  noted-ask n l = record { own = record { bid = λ z. absurd (n z); ask = λ z. l }; up = λ q. omega arith; down = λ q. omega arith }
+  low-less : (low : List ℕ) → p < length low → (q : ℕ) → getD (lowWith d p price low) q 0 ≤ getD low q 0
+  low-less low r q = go (ℕ-discrete d 1) (decLt price (getD low p 0)) (ℕ-discrete q p)
+    where
+      go : Dec (d ≡ 1) → Dec (price < getD low p 0) → Dec (q ≡ p) → getD (lowWith d p price low) q 0 ≤ getD low q 0
+      go (yes z) u e = rw (low-not d p price low (λ n. absurd (n z))) (omega arith)
+      go (no n) (no u) e = rw (low-not d p price low (λ _. omega arith)) (omega arith)
+      go (no n) (yes u) (yes e) = rw (low-new d p price low n u, e) (omega (arith, getD-set-same low p price 0 r))
+      go (no n) (yes u) (no e) = rw (low-new d p price low n u) (omega (arith, getD-set-other low p q price 0 e))
 
 -- the orders below k have their prices noted
 abbrev pub NotedTo : List ℕ → List ℕ → List ℕ → ℕ → Type 0
 NotedTo m high low k = (i : ℕ) → i < k → PricedBy high low (orderAt m i)
 
-pub noted-more : (m high low high′ low′ : List ℕ) (k : ℕ) → NotedTo m high low k → Noted (orderAt m k) high low high′ low′ → NotedTo m high′ low′ (k + 1)
-noted-more m high low high′ low′ k s d i h = go (ℕ-discrete i k)
-  where
-    go : Dec (i ≡ k) → PricedBy high′ low′ (orderAt m i)
-    go (yes e) = rw e (d .own)
-    go (no e) =
-        let q = s i (omega arith) in
-        record {
-          bid = λ z. let x = q .bid z in omega (arith, d .up (orderAt m i .period));
-          ask = λ z. let x = q .ask z in omega (arith, d .down (orderAt m i .period));
-        }
+module _ (m high low : List ℕ) (k : ℕ) (s : NotedTo m high low k) (rh : getD m (6 * k + 3) 0 < length high) (rl : getD m (6 * k + 3) 0 < length low) where
+  abbrev d : ℕ
+  d = getD m (6 * k + 2) 0
+
+  abbrev p : ℕ
+  p = getD m (6 * k + 3) 0
+
+  abbrev price : ℕ
+  price = getD m (6 * k + 4) 0
+
+  pub noted-more : NotedTo m (highWith d p price high) (lowWith d p price low) (k + 1)
+  noted-more i h = go (ℕ-discrete i k)
+    where
+      go : Dec (i ≡ k) → PricedBy (highWith d p price high) (lowWith d p price low) (orderAt m i)
+      go (yes e) = rw e (own-priced (orderAt m k) high low rh rl)
+      go (no e) =
+          let q = s i (omega arith) in
+          record {
+            bid = λ z. let x = q .bid z in omega (arith, high-more d p price high rh (orderAt m i .period));
+            ask = λ z. let x = q .ask z in omega (arith, low-less d p price low rl (orderAt m i .period));
+          }
 
 pub noted-all : (m high low : List ℕ) (k n : ℕ) → k ≡ n → NotedTo m high low k → Each (PricedBy high low) (ordersIn m n)
 noted-all m high low k n e s =

@@ -1,14 +1,14 @@
 -- Open orders that may stand together: a unit's orders of a period go one way, and no two of a period cross.
 use Prim.Native.Nat.{ℕ, zero, suc, _+_, _-_, _*_, _≤_, _<_}
 use mathlib.Core.Path.{_≡_, refl, sym, ap, _∙_}
-use mathlib.Core.Bool.{Bool, true, false, not, _&&_, _||_}
+use mathlib.Core.Bool.{Bool, true, false, cond, not, _&&_, _||_}
 use mathlib.Core.List.{List, [], _∷_}
 use native.Mathlib.Omega.{arith}
 use native.Mathlib.Decide.{ℕ-discrete, decLt}
-use borrow.Author.Tests.{eq-eqb, ne-eqb, eqb-true, eqb-false}
+use borrow.Author.Tests.{eq-eqb, ne-eqb, eqb-true, eqb-false, le-leb, lt-leb, lt-ltb, le-ltb}
 use lib.ListN.{length, getD, set, replicate}
 use lib.Seq.{getD-set-same, getD-set-other}
-use lib.Dec.{eqb}
+use lib.Dec.{eqb, leb, ltb}
 use Rattle.measures.specs.Lists.{holds, all}
 use Rattle.measures.proofs.ListLaws.{both-ways, false-by, not-both, all-true, holds-all, all-none, all-more, all-fails, all-at, all-by, all-ext}
 use Rattle.limits.specs.Units.{periods}
@@ -17,7 +17,7 @@ use Rattle.matching.specs.Memory.{orderAt, ordersIn}
 use Rattle.book.specs.Sound.{oneWay, apart}
 use Rattle.book.specs.Layout.{word, ordersPart, decode}
 use Rattle.book.specs.Readable.{Ranged, pairFits, pairsFit}
-use Rattle.book.specs.Whole.{Latest, Alike, Prices, Priced, pairsBefore, OrderStands}
+use Rattle.book.specs.Whole.{Latest, Alike, highWith, lowWith, Prices, Priced, pairsBefore, OrderStands}
 use Rattle.book.proofs.RangeFacts.{order-word}
 use Rattle.book.proofs.ShareLaws.{order-words}
 use Rattle.book.proofs.MisfitLaws.{zeros-at}
@@ -164,6 +164,36 @@ module _ (m : List ℕ) (k : ℕ) (hk : k < 256) where
         go true e = way-same pb (eqb-true _ _ e)
         go false e = way-other (eqb-false _ _ e)
 
+not-fails-back : (b : Bool) → not b ≡ false → b ≡ true
+not-fails-back true e = refl
+not-fails-back false e = both-ways e
+
+-- an order's price entered, by cases
+module _ (d p price : ℕ) (l : List ℕ) where
+  pub high-new : d ≡ 1 → getD l p 0 ≤ price → highWith d p price l ≡ set l p (price + 1)
+  unfolding highWith
+  high-new e h = rw (eq-eqb d 1 e, le-leb (getD l p 0) price h)
+
+  pub high-not : (d ≡ 1 → price < getD l p 0) → highWith d p price l ≡ l
+  unfolding highWith
+  high-not f = go (ℕ-discrete d 1)
+    where
+      go : Dec (d ≡ 1) → cond (eqb d 1 && leb (getD l p 0) price) (set l p (price + 1)) l ≡ l
+      go (yes e) = rw (eq-eqb d 1 e, lt-leb (getD l p 0) price (f e))
+      go (no n) = rw (ne-eqb d 1 n)
+
+  pub low-new : (d ≡ 1 → ⊥) → price < getD l p 0 → lowWith d p price l ≡ set l p price
+  unfolding lowWith
+  low-new n h = rw (ne-eqb d 1 n, lt-ltb price (getD l p 0) h)
+
+  pub low-not : ((d ≡ 1 → ⊥) → getD l p 0 ≤ price) → lowWith d p price l ≡ l
+  unfolding lowWith
+  low-not f = go (ℕ-discrete d 1)
+    where
+      go : Dec (d ≡ 1) → cond (not (eqb d 1) && ltb price (getD l p 0)) (set l p price) l ≡ l
+      go (yes e) = rw (eq-eqb d 1 e)
+      go (no n) = rw (ne-eqb d 1 n, le-ltb price (getD l p 0) (f n))
+
 -- prices before any order
 const-at : (n c i : ℕ) → i < n → getD (replicate n c) i 0 ≡ c
 const-at zero c i h = absurd (omega arith)
@@ -282,29 +312,34 @@ module _ (m : List ℕ) (g : Ranged m) (k : ℕ) (h : k < word m 7) (high low : 
       go d (yes y) = absurd (n y)
       go d (no y) = omega arith
 
-  pub buy-raised : word m (240 + 6 * k + 2) ≡ 1 → word m (240 + 6 * k + 4) < getD low (word m (240 + 6 * k + 3)) 0 → getD high (word m (240 + 6 * k + 3)) 0 ≤ word m (240 + 6 * k + 4)
-      → word m (240 + 6 * k + 3) < length high → Priced m k true (set high (word m (240 + 6 * k + 3)) (word m (240 + 6 * k + 4) + 1)) low
-  buy-raised d l u r =
-      let e = getD-set-same high (word m (240 + 6 * k + 3)) (word m (240 + 6 * k + 4) + 1) 0 r in
+  -- the order's price entered
+  abbrev d : ℕ
+  d = word m (240 + 6 * k + 2)
+
+  abbrev p : ℕ
+  p = word m (240 + 6 * k + 3)
+
+  abbrev price : ℕ
+  price = word m (240 + 6 * k + 4)
+
+  price-entered : p < length high → p < length low → Dec (d ≡ 1) → Dec (price < getD high p 0) → Dec (price < getD low p 0) → Prices m (k + 1) (highWith d p price high) (lowWith d p price low)
+  price-entered rh rl (yes e) (yes u) w = rw (high-not d p price high (λ _. u), low-not d p price low (λ n. absurd (n e))) (buy-entered high e (λ q n. refl) (omega arith) u (λ x a b. a))
+  price-entered rh rl (yes e) (no u) w =
+      let v = getD-set-same high p (price + 1) 0 rh in
+      rw (high-new d p price high e (omega arith), low-not d p price low (λ n. absurd (n e)))
+      (buy-entered (set high p (price + 1)) e (λ q n. getD-set-other high p q (price + 1) 0 n) (omega arith) (omega arith) (λ x a b. omega arith))
+  price-entered rh rl (no n) u (yes w) =
+      let v = getD-set-same low p price 0 rl in
+      rw (high-not d p price high (λ e. absurd (n e)), low-new d p price low n w)
+      (sell-entered (set low p price) (is-sale n) (λ q z. getD-set-other low p q price 0 z) (omega arith) (omega arith) (λ x a b. omega arith))
+  price-entered rh rl (no n) u (no w) = rw (high-not d p price high (λ e. absurd (n e)), low-not d p price low (λ _. omega arith)) (sell-entered low (is-sale n) (λ q z. refl) (omega arith) (omega arith) (λ x a b. a))
+
+  pub priced : (r : Bool) → r ≡ not (all k (Crossless m k)) → r ≡ false → length high ≡ 744 → length low ≡ 744 → Priced m k true (highWith d p price high) (lowWith d p price low)
+  priced r e f lh ll =
       record {
-        answer = buy-apart d l;
-        entered = λ z. buy-entered _ d (λ q n. getD-set-other high (word m (240 + 6 * k + 3)) q (word m (240 + 6 * k + 4) + 1) 0 n) (omega arith) (omega arith) (λ x a b. omega arith);
+        answer = sym (not-fails-back (all k (Crossless m k)) (sym e ∙ f));
+        entered = λ z. let t = term in let y = g .readable .daysTo in price-entered (omega arith) (omega arith) (ℕ-discrete d 1) (decLt price (getD high p 0)) (decLt price (getD low p 0));
       }
-
-  pub buy-kept : word m (240 + 6 * k + 2) ≡ 1 → word m (240 + 6 * k + 4) < getD low (word m (240 + 6 * k + 3)) 0 → word m (240 + 6 * k + 4) < getD high (word m (240 + 6 * k + 3)) 0 → Priced m k true high low
-  buy-kept d l u = record { answer = buy-apart d l; entered = λ z. buy-entered high d (λ q n. refl) (omega arith) u (λ x a b. a) }
-
-  pub sell-lowered : word m (240 + 6 * k + 2) ≡ 0 → getD high (word m (240 + 6 * k + 3)) 0 ≤ word m (240 + 6 * k + 4) → word m (240 + 6 * k + 4) < getD low (word m (240 + 6 * k + 3)) 0
-      → word m (240 + 6 * k + 3) < length low → Priced m k true high (set low (word m (240 + 6 * k + 3)) (word m (240 + 6 * k + 4)))
-  sell-lowered d l u r =
-      let e = getD-set-same low (word m (240 + 6 * k + 3)) (word m (240 + 6 * k + 4)) 0 r in
-      record {
-        answer = sell-apart d l;
-        entered = λ z. sell-entered _ d (λ q n. getD-set-other low (word m (240 + 6 * k + 3)) q (word m (240 + 6 * k + 4)) 0 n) (omega arith) (omega arith) (λ x a b. omega arith);
-      }
-
-  pub sell-kept : word m (240 + 6 * k + 2) ≡ 0 → getD high (word m (240 + 6 * k + 3)) 0 ≤ word m (240 + 6 * k + 4) → getD low (word m (240 + 6 * k + 3)) 0 ≤ word m (240 + 6 * k + 4) → Priced m k true high low
-  sell-kept d l u = record { answer = sell-apart d l; entered = λ z. sell-entered low d (λ q n. refl) (omega arith) u (λ x a b. a) }
 
 pub not-priced : (m : List ℕ) (k : ℕ) (high low : List ℕ) → false ≡ all k (Crossless m k) → Priced m k false high low
 not-priced m k high low e = record { answer = e; entered = λ z. both-ways (sym z) }

@@ -28,27 +28,36 @@ use Rattle.book.proofs.LinkedLaws.{sum-rest, share-apart}
 use Rattle.book.proofs.SoundInLaws.{units-by-places}
 
 -- a cell, by cases
-module _ (m : List ℕ) (p k x y : ℕ) where
-  pub cell-misfit : (r : ℕ) → r ≡ periodMisfit (wayHolds m k p) (hourHolds m k p x y) → 0 < r → false ≡ cellHolds m p k x y
+module _ (m : List ℕ) (p k : ℕ) where
+  pub cell-misfit : (r : ℕ) → r ≡ periodMisfit (wayHolds m k p) (hourHolds m k p 0 0) → 0 < r → false ≡ cellHolds m p k 0 0
   unfolding cellHolds holds
-  cell-misfit r e h = go (wayHolds m k p) (hourHolds m k p x y) (leb (word m (1779 + 328 * p + 5 * k)) 4_800_000_000) e
+  cell-misfit r e h = go (wayHolds m k p) (hourHolds m k p 0 0) (leb (word m (1779 + 328 * p + 5 * k)) 4_800_000_000) e
     where
       go : (a b t : Bool) → r ≡ periodMisfit a b → false ≡ holds (a ∷ b ∷ t ∷ [])
       go true true t f = absurd (omega arith)
       go true false t f = refl
       go false b t f = refl
 
-  pub cell-over : 4_800_000_000 < word m (1779 + 328 * p + 5 * k) → false ≡ cellHolds m p k x y
+  pub cell-over : 4_800_000_000 < word m (1779 + 328 * p + 5 * k) → false ≡ cellHolds m p k 0 0
   unfolding cellHolds
-  cell-over h = sym (false-by _ (λ t. not-both _ (all-true (wayHolds m k p ∷ hourHolds m k p x y ∷ leb (word m (1779 + 328 * p + 5 * k)) 4_800_000_000 ∷ []) t .1 .1 .0) (lt-leb _ _ h)))
+  cell-over h = sym (false-by _ (λ t. not-both _ (all-true (wayHolds m k p ∷ hourHolds m k p 0 0 ∷ leb (word m (1779 + 328 * p + 5 * k)) 4_800_000_000 ∷ []) t .1 .1 .0) (lt-leb _ _ h)))
 
-  pub cell-passed : (r : ℕ) → r ≡ periodMisfit (wayHolds m k p) (hourHolds m k p x y) → r ≤ 0 → word m (1779 + 328 * p + 5 * k) ≤ 4_800_000_000 → true ≡ cellHolds m p k x y
-  unfolding cellHolds
-  cell-passed r e h v = let t = period-passed _ _ r e h in sym (holds-all _ (t .0, (t .1, (le-leb _ _ v, tt))))
-
-  pub cell-refused : (w v w′ v′ : List ℕ) → false ≡ cellHolds m p k x y → CellDone m p k x y w v false w′ v′
+  pub cell-refused : (w v w′ v′ : List ℕ) → false ≡ cellHolds m p k 0 0 → CellDone m p k w v false w′ v′
   cell-refused w v w′ v′ e = record { answer = e; whole = λ z. both-ways (sym z); volume = λ z. both-ways (sym z) }
 
+  pub cell-passed : (r : ℕ) → r ≡ periodMisfit (wayHolds m k p) (hourHolds m k p 0 0) → r ≤ 0 → word m (1779 + 328 * p + 5 * k) ≤ 4_800_000_000 → (w v : List ℕ)
+      → CellDone m p k w v true (set w k (getD w k 0 + (word m (1776 + 328 * p + 5 * k) + word m (1777 + 328 * p + 5 * k)))) (set v k (getD v k 0 + word m (1779 + 328 * p + 5 * k)))
+  unfolding cellHolds termPart volumePart
+  cell-passed r e h b w v =
+      let t = period-passed _ _ r e h in
+      record {
+        answer = sym (holds-all (wayHolds m k p ∷ hourHolds m k p 0 0 ∷ leb (word m (1779 + 328 * p + 5 * k)) 4_800_000_000 ∷ []) (t .0, (t .1, (le-leb _ _ b, tt))));
+        whole = λ z. ap (λ (n : ℕ). set w k n) (omega arith);
+        volume = λ z. ap (λ (n : ℕ). set v k n) (omega arith);
+      }
+
+-- a cell that passes
+module _ (m : List ℕ) (p k x y : ℕ) where
   module _ (c : cellHolds m p k x y ≡ true) where
     pub cell-way : wayHolds m k p ≡ true
     unfolding cellHolds
@@ -72,47 +81,47 @@ module _ (m : List ℕ) (g : Ranged m) (p k x y : ℕ) (h : k < word m 5) (c : c
   unfolding volumePart
   cell-most a b = let v = cell-volume m p k x y c in omega arith
 
-pub cell-little : (m : List ℕ) → Ranged m → (p k x y : ℕ) → k < word m 5 → (r : ℕ) → r ≡ periodMisfit (wayHolds m k p) (hourHolds m k p x y) → r ≤ 0
-    → word m (1776 + 328 * p + 5 * k) + (word m (1777 + 328 * p + 5 * k) + x) ≤ 5_000_000
-cell-little m g p k x y h r e l = hour-small m k g h p x y (period-passed (wayHolds m k p) (hourHolds m k p x y) r e l .1)
+pub cell-little : (m : List ℕ) → Ranged m → (p k : ℕ) → k < word m 5 → (r : ℕ) → r ≡ periodMisfit (wayHolds m k p) (hourHolds m k p 0 0) → r ≤ 0
+    → word m (1776 + 328 * p + 5 * k) + (word m (1777 + 328 * p + 5 * k) + 0) ≤ 5_000_000
+cell-little m g p k h r e l = hour-small m k g h p 0 0 (period-passed (wayHolds m k p) (hourHolds m k p 0 0) r e l .1)
 
 -- the units below k have passed in period p
-pub record CellsPast (m : List ℕ) (p : ℕ) (x y : ℕ → ℕ) (w v w′ v′ : List ℕ) (k : ℕ) : Type 0 where
-  pub passed : all k (λ i. cellHolds m p i (x i) (y i)) ≡ true
-  pub whole : Adding w w′ (λ i. termPart m i p (x i)) k
-  pub volume : Adding v v′ (λ i. volumePart m i p (x i) (y i)) k
+pub record CellsPast (m : List ℕ) (p : ℕ) (w v w′ v′ : List ℕ) (k : ℕ) : Type 0 where
+  pub passed : all k (λ i. cellHolds m p i 0 0) ≡ true
+  pub whole : Adding w w′ (λ i. termPart m i p 0) k
+  pub volume : Adding v v′ (λ i. volumePart m i p 0 0) k
 
-module _ (m : List ℕ) (p : ℕ) (x y : ℕ → ℕ) where
-  pub past-none : (w v : List ℕ) → CellsPast m p x y w v w v 0
+module _ (m : List ℕ) (p : ℕ) where
+  pub past-none : (w v : List ℕ) → CellsPast m p w v w v 0
   past-none w v = record { passed = all-none _; whole = adding-none w _; volume = adding-none v _ }
 
-  module _ (w v w′ v′ : List ℕ) (k : ℕ) (a : CellsPast m p x y w v w′ v′ k) where
-    pub past-more : (w″ v″ : List ℕ) (r : Bool) → k < length w → k < length v → r ≡ true → CellDone m p k (x k) (y k) w′ v′ r w″ v″ → CellsPast m p x y w v w″ v″ (k + 1)
+  module _ (w v w′ v′ : List ℕ) (k : ℕ) (a : CellsPast m p w v w′ v′ k) where
+    pub past-more : (w″ v″ : List ℕ) (r : Bool) → k < length w → k < length v → r ≡ true → CellDone m p k w′ v′ r w″ v″ → CellsPast m p w v w″ v″ (k + 1)
     past-more w″ v″ r hw hv t d =
         let e = d .whole t in
         let f = d .volume t in
         record {
           passed = all-more k _ (a .passed) (sym (d .answer) ∙ t);
-          whole = rw e (adding-more w w′ (λ i. termPart m i p (x i)) k hw (a .whole));
-          volume = rw f (adding-more v v′ (λ i. volumePart m i p (x i) (y i)) k hv (a .volume));
+          whole = rw e (adding-more w w′ (λ i. termPart m i p 0) k hw (a .whole));
+          volume = rw f (adding-more v v′ (λ i. volumePart m i p 0 0) k hv (a .volume));
         }
 
-    pub past-fails : (w″ v″ : List ℕ) (r : Bool) → k < word m 5 → r ≡ false → CellDone m p k (x k) (y k) w′ v′ r w″ v″ → CellsDone m p x y w v false w″ v″
+    pub past-fails : (w″ v″ : List ℕ) (r : Bool) → k < word m 5 → r ≡ false → CellDone m p k w′ v′ r w″ v″ → CellsDone m p (λ i. 0) (λ i. 0) w v false w″ v″
     past-fails w″ v″ r h t d =
         record {
-          answer = sym (all-fails (word m 5) (λ i. cellHolds m p i (x i) (y i)) k h (sym (d .answer) ∙ t));
+          answer = sym (all-fails (word m 5) (λ i. cellHolds m p i 0 0) k h (sym (d .answer) ∙ t));
           whole = λ z. both-ways (sym z);
           volume = λ z. both-ways (sym z);
         }
 
-    module _ (g : Ranged m) (h : k ≤ word m 5) (sx : (i : ℕ) → x i ≤ 2_000_000_000_000) (sy : (i : ℕ) → y i ≤ 2_000_000_000_000) where
-      term-at-most : (i : ℕ) → i < k → termPart m i p (x i) ≤ 5_000_000
-      term-at-most i l = cell-term m g p i (x i) (y i) (omega arith) (all-at k _ i (a .passed) l)
+    module _ (g : Ranged m) (h : k ≤ word m 5) where
+      term-at-most : (i : ℕ) → i < k → termPart m i p 0 ≤ 5_000_000
+      term-at-most i l = cell-term m g p i 0 0 (omega arith) (all-at k _ i (a .passed) l)
 
-      volume-part-most : (i : ℕ) → i < k → volumePart m i p (x i) (y i) ≤ 5_000_000_000_000
-      volume-part-most i l = cell-most m g p i (x i) (y i) (omega arith) (all-at k _ i (a .passed) l) (sx i) (sy i)
+      volume-part-most : (i : ℕ) → i < k → volumePart m i p 0 0 ≤ 5_000_000_000_000
+      volume-part-most i l = cell-most m g p i 0 0 (omega arith) (all-at k _ i (a .passed) l) (omega arith) (omega arith)
 
-      pub past-ends : k ≡ word m 5 → CellsDone m p x y w v true w′ v′
+      pub past-ends : k ≡ word m 5 → CellsDone m p (λ i. 0) (λ i. 0) w v true w′ v′
       past-ends e =
           record {
             answer = sym (rw e at (a .passed));
@@ -141,7 +150,7 @@ cells-same m p x y a b w v w′ v′ r e f d =
       volume = λ z. let t = d .volume z in record { long = t .long; each = λ k h. t .each k h ∙ rw (e k h, f k h); grown = t .grown };
     }
 
-sum-zero : (n : ℕ) (f : ℕ → ℕ) → ((i : ℕ) → i < n → f i ≡ 0) → sum n f ≡ 0
+pub sum-zero : (n : ℕ) (f : ℕ → ℕ) → ((i : ℕ) → i < n → f i ≡ 0) → sum n f ≡ 0
 sum-zero n f h = sum-rest n 0 f (omega arith) (λ i a b. h i b) ∙ sum-none f
 
 pub zeros-below : (n b : ℕ) → Below b (replicate n 0)

@@ -32,12 +32,6 @@ pub record PricedBy (high low : List ℕ) (o : Order) : Type 0 where
   pub bid : o .direction ≡ 1 → o .price < getD high (o .period) 0
   pub ask : o .direction ≡ 0 → getD low (o .period) 0 ≤ o .price
 
--- the order's price is noted, and no other is lost
-pub record Noted (o : Order) (high low high′ low′ : List ℕ) : Type 0 where
-  pub own : PricedBy high′ low′ o
-  pub up : (p : ℕ) → getD high p 0 ≤ getD high′ p 0
-  pub down : (p : ℕ) → getD low′ p 0 ≤ getD low p 0
-
 -- a period of the n orders was cleared, and its rows stand behind the `count` rows; n′ orders are left
 pub record Stepped (m rows : List ℕ) (n period count count′ n′ : ℕ) (m′ rows′ : List ℕ) : Type 0 where
   pub orders : ordersIn m′ n′ ≡ clearPeriod period (ordersIn m n) .orders

@@ -32,7 +32,7 @@ pub(crate) fn enrol_checks(book: &[u64], kind: u64, capacity: u64, asset: u64) -
     if Energy::MOST < asset {
         return 4;
     }
-    if 64 <= book[5] {
+    if Unit::MOST <= book[5] {
         return 5;
     }
     0

@@ -87,7 +87,7 @@ pub(crate) struct Bounds {
 }
 
 // The largest volume limit, six fifths of Energy::MOST.
-const MOST_VOLUME: u64 = 4_800_000_000;
+pub(crate) const MOST_VOLUME: u64 = 4_800_000_000;
 
 // The unit at place k.
 fn unit_at(book: &[u64], k: usize) -> Unit

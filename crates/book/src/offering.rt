@@ -3,6 +3,7 @@ use crate::fits::misfit;
 use crate::ranges::Offer;
 use crate::ranges::sides_fit;
 use measures::Energy;
+use measures::Price;
 ghost use mathlib.Core.Path.{_≡_};
 ghost use mathlib.Core.Bool.{true};
 ghost use mathlib.Core.List.{[], _∷_};
@@ -149,12 +150,13 @@ pub(crate) fn offer_effect(book: &mut [u64], unit: u64, partner: u64, price: u64
 {
     let j = book[6] as usize;
     let number = book[4] + 1;
+    let o = Offer::fresh(number, unit, partner, Price(price));
     put_amounts(book, j, amounts);
-    book[200 + 5 * j] = number;
-    book[201 + 5 * j] = unit;
-    book[202 + 5 * j] = partner;
-    book[203 + 5 * j] = price;
-    book[204 + 5 * j] = 0;
+    book[200 + 5 * j] = o.number;
+    book[201 + 5 * j] = o.unit;
+    book[202 + 5 * j] = o.partner;
+    book[203 + 5 * j] = o.price.0;
+    book[204 + 5 * j] = o.taken;
     book[6] = j as u64 + 1;
     book[4] = number;
 }

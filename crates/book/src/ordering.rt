@@ -1,5 +1,6 @@
 // Order (paper 01): "a unit, a direction (0 sell, 1 buy), a period, a price, a quantity."
 use crate::fits::misfit;
+use crate::ranges::Offer;
 use crate::trades::book_rows;
 use crate::trades::raises_net;
 use matching::orders::Matched;
@@ -150,10 +151,10 @@ fn order_days(book: &[u64], unit: u64, direction: u64, period: u64) -> u64
     if 1 < two {
         return 16;
     }
-    if 256 <= book[7] {
+    if Order::MOST <= book[7] {
         return 17;
     }
-    if 65535 <= book[4] {
+    if Offer::NUMBERS <= book[4] {
         return 18;
     }
     0
@@ -229,14 +230,14 @@ pub(crate) fn order_in_call(
     ensures { λ _. ⌜ (decode (now (book .exit)) ≡ orderedInCall (decode (now (book .entry))) (newOrder (decode (now (book .entry))) unit direction period price quantity) .book) × (drop (bookWords (word (now (book .entry)) 0)) (now (book .exit)) ≡ drop (bookWords (word (now (book .entry)) 0)) (now (book .entry))) ⌝ }
 {
     let number = book[4] + 1;
-    let o = Order {
-        number: number,
-        unit: unit,
-        direction: direction,
-        period: period,
-        price: Price(price),
-        quantity: Energy(quantity),
-    };
+    let o = Order::fresh(
+        number,
+        unit,
+        direction,
+        period,
+        Price(price),
+        Energy(quantity),
+    );
     append(book, o);
     next_number(book);
 }
@@ -274,14 +275,7 @@ fn rest_waits(book: &mut [u64], o: Order, left: u64)
     if left == 0 {
         return;
     }
-    let rest = Order {
-        number: o.number,
-        unit: o.unit,
-        direction: o.direction,
-        period: o.period,
-        price: Price(o.price.0),
-        quantity: Energy(left),
-    };
+    let rest = o.leaving(Energy(left));
     append(book, rest);
 }
 
@@ -299,14 +293,14 @@ pub(crate) fn order_in_rolling(
     ensures { λ r. ⌜ RolledOn (now (book .entry)) (now (rows .entry)) unit direction period price quantity r (now (book .exit)) (now (rows .exit)) ⌝ }
 {
     let number = book[4] + 1;
-    let o = Order {
-        number: number,
-        unit: unit,
-        direction: direction,
-        period: period,
-        price: Price(price),
-        quantity: Energy(quantity),
-    };
+    let o = Order::fresh(
+        number,
+        unit,
+        direction,
+        period,
+        Price(price),
+        Energy(quantity),
+    );
     let rest = meet_orders(book, o, rows);
     rest_waits(book, o, rest.left);
     book_rows(book, rows, rest.count);

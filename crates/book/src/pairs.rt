@@ -1,15 +1,16 @@
 // Whether open orders may stand together: paper 01, "A book is sound if".
 use crate::standing::link_orders;
 ghost use mathlib.Core.Path.{_≡_};
-ghost use mathlib.Core.Bool.{true};
+ghost use mathlib.Core.Bool.{true, not};
+ghost use mathlib.Core.List.{[], _∷_};
 ghost use Prim.Native.Nat.{ℕ, _+_, _*_, _-_, _<_, _≤_};
 ghost use lib.ListN.{length, getD};
-ghost use Rattle.measures.specs.Lists.{all};
+ghost use Rattle.measures.specs.Lists.{holds, all};
 ghost use Rattle.matching.specs.Memory.{orderAt};
-ghost use Rattle.book.specs.Sound.{oneWay};
+ghost use Rattle.book.specs.Sound.{oneWay, apart};
 ghost use Rattle.book.specs.Layout.{word, ordersPart, decode};
 ghost use Rattle.book.specs.Readable.{Ranged, pairsFit};
-ghost use Rattle.book.specs.Whole.{Chained, Alike, Prices, Priced, pairsBefore, OrderStands};
+ghost use Rattle.book.specs.Whole.{Chained, Alike, highWith, lowWith, Prices, Priced, pairsBefore, OrderStands};
 
 // One more than the place of an order before the one at place k with its unit and period, or 0 where there is none: the
 // orders of the unit and those of the period are walked together, so that the shorter way ends it.
@@ -47,29 +48,57 @@ fn one_way(book: &[u64], k: usize, own: &[u64], peers: &[u64]) -> bool
     book[240 + 6 * (t - 1) + 2] == book[240 + 6 * k + 2]
 }
 
-// Whether the order at place k crosses none before it: `high` has one more than the highest buy price of each period so
-// far, `low` the lowest sell price; the order's own price is then entered.
-fn stands_apart(book: &[u64], k: usize, high: &mut [u64], low: &mut [u64]) -> bool
+// Enters the price of an order of period p: `high` has one more than the highest buy price of each period so far, `low` the
+// lowest sell price.
+pub(crate) fn note_price(direction: u64, p: usize, price: u64, high: &mut [u64], low: &mut [u64])
+    requires { ⌜ (p < 744) × (price ≤ 10000000) × (length (now high) ≡ 744) × (length (now low) ≡ 744) ⌝ }
+    ensures { λ _. ⌜ (now (high .exit) ≡ highWith direction p price (now (high .entry))) × (now (low .exit) ≡ lowWith direction p price (now (low .entry))) ⌝ }
+{
+    if direction == 1 {
+        if high[p] <= price {
+            high[p] = price + 1;
+        }
+        return;
+    }
+    if price < low[p] {
+        low[p] = price;
+    }
+}
+
+// Whether the order at place k crosses one before it.
+fn crosses(book: &[u64], k: usize, high: &[u64], low: &[u64]) -> bool
     requires { ⌜ (Ranged (now book)) × (word (now book) 2 ≤ 10000000) × (k < word (now book) 7) × (length (now high) ≡ 744) × (length (now low) ≡ 744) × (Prices (now book) k (now high) (now low)) ⌝ }
-    ensures { λ r. ⌜ Priced (now (book .entry)) k r (now (high .exit)) (now (low .exit)) ⌝ }
+    ensures { λ r. ⌜ r ≡ not (all k (λ j. holds (apart (orderAt (ordersPart (now (book .entry))) k) (orderAt (ordersPart (now (book .entry))) j) ∷ apart (orderAt (ordersPart (now (book .entry))) j) (orderAt (ordersPart (now (book .entry))) k) ∷ []))) ⌝ }
 {
     let p = book[240 + 6 * k + 3] as usize;
     let price = book[240 + 6 * k + 4];
     if book[240 + 6 * k + 2] == 1 {
         if low[p] <= price {
-            return false;
+            return true;
         }
-        if high[p] <= price {
-            high[p] = price + 1;
-        }
-        return true;
-    }
-    if price < high[p] {
         return false;
     }
-    if price < low[p] {
-        low[p] = price;
+    if price < high[p] {
+        return true;
     }
+    false
+}
+
+// Whether the order at place k crosses none before it; its price is then entered.
+fn stands_apart(book: &[u64], k: usize, high: &mut [u64], low: &mut [u64]) -> bool
+    requires { ⌜ (Ranged (now book)) × (word (now book) 2 ≤ 10000000) × (k < word (now book) 7) × (length (now high) ≡ 744) × (length (now low) ≡ 744) × (Prices (now book) k (now high) (now low)) ⌝ }
+    ensures { λ r. ⌜ Priced (now (book .entry)) k r (now (high .exit)) (now (low .exit)) ⌝ }
+{
+    if crosses(book, k, high, low) {
+        return false;
+    }
+    note_price(
+        book[240 + 6 * k + 2],
+        book[240 + 6 * k + 3] as usize,
+        book[240 + 6 * k + 4],
+        high,
+        low,
+    );
     true
 }
 
@@ -112,16 +141,16 @@ fn all_stand(book: &[u64], own: &[u64], peers: &[u64]) -> bool
     true
 }
 
-// Whether all open orders may stand together.
-pub(crate) fn orders_fit(book: &[u64]) -> bool
-    requires { ⌜ (Ranged (now book)) × (word (now book) 2 ≤ 10000000) ⌝ }
+// Whether all open orders, linked by period, may stand together.
+pub(crate) fn orders_fit(book: &[u64], peers: &[u64]) -> bool
+    requires { ⌜ (Ranged (now book)) × (word (now book) 2 ≤ 10000000) × (length (now peers) ≡ 256) × (Chained (now book) 3 (now peers)) ⌝ }
     ensures { λ r. ⌜ r ≡ pairsFit (word (now (book .entry)) 3) (decode (now (book .entry)) .orders) ⌝ }
 {
+    if book[7] == 0 {
+        return true;
+    }
     let mut units = [0u64; 65];
     let mut own = [0u64; 256];
     link_orders(book, 1, &mut units, &mut own);
-    let mut periods = [0u64; 744];
-    let mut peers = [0u64; 256];
-    link_orders(book, 3, &mut periods, &mut peers);
-    all_stand(book, &own, &peers)
+    all_stand(book, &own, peers)
 }

@@ -1,17 +1,18 @@
 // Clear (paper 01): its checks, and the periods one after the other.
+use crate::pairs::note_price;
 use matching::orders::Matched;
 ghost use mathlib.Core.Path.{_≡_};
 ghost use mathlib.Core.Bool.{true};
 ghost use Prim.Native.Nat.{ℕ, _+_, _*_, _<_, _≤_};
 ghost use lib.ListN.{length, getD};
 ghost use Rattle.measures.specs.Lists.{Each};
-ghost use Rattle.matching.specs.Memory.{orderAt, ordersIn};
+ghost use Rattle.matching.specs.Memory.{ordersIn};
 ghost use Rattle.book.specs.Layout.{decode};
 ghost use Rattle.book.specs.Refusals.{firstOf};
 ghost use Rattle.book.specs.Readable.{Readable};
 ghost use Rattle.book.specs.Contract.{soundIn};
 ghost use Rattle.book.specs.Clear.{clearChecks};
-ghost use Rattle.book.specs.Periods.{Clearable, OrdersBelow, PricedBy, Noted, Stepped, ClearsAll, Swept, AllCleared};
+ghost use Rattle.book.specs.Periods.{Clearable, OrdersBelow, PricedBy, Stepped, ClearsAll, Swept, AllCleared};
 
 // How many rows were written, and how many orders stand.
 pub struct Passed {
@@ -33,33 +34,21 @@ pub(crate) fn clear_checks(book: &[u64], lent: usize) -> u64
     0
 }
 
-// Notes the price of the order at place k: `high` has one more than the highest buy price of each period so far, `low` the
-// lowest sell price.
-fn note_price(orders: &[u64], k: usize, high: &mut [u64], low: &mut [u64])
-    requires { ⌜ (6 * k + 6 ≤ length (now orders)) × (k < 256) × (getD (now orders) (6 * k + 3) 0 < 744) × (getD (now orders) (6 * k + 4) 0 ≤ 10000000) × (length (now high) ≡ 744) × (length (now low) ≡ 744) ⌝ }
-    ensures { λ _. ⌜ Noted (orderAt (now (orders .entry)) k) (now (high .entry)) (now (low .entry)) (now (high .exit)) (now (low .exit)) ⌝ }
-{
-    let p = orders[6 * k + 3] as usize;
-    let price = orders[6 * k + 4];
-    if orders[6 * k + 2] == 1 {
-        if high[p] <= price {
-            high[p] = price + 1;
-        }
-        return;
-    }
-    if price < low[p] {
-        low[p] = price;
-    }
-}
-
-// Notes the prices of the first n orders.
+// Enters the prices of the first n orders: `high` has one more than the highest buy price of each period, `low` the lowest
+// sell price.
 fn note_prices(orders: &[u64], n: usize, high: &mut [u64], low: &mut [u64])
     requires { ⌜ (6 * n ≤ length (now orders)) × (n ≤ 256) × (length (now high) ≡ 744) × (length (now low) ≡ 744) × (OrdersBelow (now orders) n) ⌝ }
     ensures { λ _. ⌜ Each (PricedBy (now (high .exit)) (now (low .exit))) (ordersIn (now (orders .entry)) n) ⌝ }
 {
     let mut k: usize = 0;
     while k < n {
-        note_price(orders, k, high, low);
+        note_price(
+            orders[6 * k + 2],
+            orders[6 * k + 3] as usize,
+            orders[6 * k + 4],
+            high,
+            low,
+        );
         k += 1;
     }
 }
@@ -69,7 +58,7 @@ fn clear_one(orders: &mut [u64], n: usize, period: u64, rows: &mut [u64], count:
     requires { ⌜ Clearable (now orders) (now rows) n count ⌝ }
     ensures { λ r. ⌜ Stepped (now (orders .entry)) (now (rows .entry)) n period count (r .count) (r .standing) (now (orders .exit)) (now (rows .exit)) ⌝ }
 {
-    let l = matching::clearing::clear_period(orders, n, period, &mut rows[6 * count..]);
+    let l = matching::clearing::clear_fit(orders, n, period, &mut rows[6 * count..]);
     match l {
         Matched::Unfit => Passed { count, standing: n },
         Matched::Done(_, more, standing) => Passed {

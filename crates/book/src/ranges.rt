@@ -1,6 +1,7 @@
 // Whether the figures of a book's memory lie in their ranges, and declarations name enrolled units: paper 01, "A book is sound if".
 use limits::Term;
 use limits::Unit;
+use matching::orders::Order;
 use measures::Energy;
 use measures::Price;
 ghost use mathlib.Core.Path.{_≡_};
@@ -17,7 +18,7 @@ ghost use Rattle.book.specs.Sound.{headIn, offerIn, orderIn};
 ghost use Rattle.book.specs.Layout.{word, decode, enough, amountAt, offerAt, ordersPart};
 ghost use Rattle.book.specs.Readable.{Readable, unitFieldsIn, unitsFieldsIn, sidesIn};
 
-// The offers that stand open.
+// An open offer; its amounts stand by period.
 pub struct Offer {
     pub number: u64,
     pub unit: u64,
@@ -30,8 +31,21 @@ impl Offer {
     // How many stand open at most.
     pub const MOST: u64 = 8;
 
-    // The numbers of a day.
+    // The numbers of a day, of offers and orders in one series.
     pub const NUMBERS: u64 = 65_535;
+
+    // An offer of which nothing is taken.
+    pub fn fresh(number: u64, unit: u64, partner: u64, price: Price) -> Offer
+        ensures { λ r. ⌜ (r .number ≡ number) × (r .unit ≡ unit) × (r .partner ≡ partner) × (r .price .0 ≡ price .0) × (r .taken ≡ 0) ⌝ }
+    {
+        Offer {
+            number,
+            unit,
+            partner,
+            price,
+            taken: 0,
+        }
+    }
 }
 
 // The book's own figures.
@@ -59,13 +73,13 @@ pub(crate) fn head_in(book: &[u64]) -> bool
     if Offer::NUMBERS < book[4] {
         return false;
     }
-    if 64 < book[5] {
+    if Unit::MOST < book[5] {
         return false;
     }
     if Offer::MOST < book[6] {
         return false;
     }
-    if 256 < book[7] {
+    if Order::MOST < book[7] {
         return false;
     }
     true

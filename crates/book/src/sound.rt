@@ -5,6 +5,7 @@ use crate::ranges::head_in;
 use crate::ranges::offers_in;
 use crate::ranges::orders_in;
 use crate::ranges::units_in;
+use crate::standing::link_orders;
 use crate::whole::units_fit;
 ghost use mathlib.Core.Path.{_≡_};
 ghost use Rattle.book.specs.Contract.{soundIn};
@@ -35,8 +36,11 @@ pub fn sound_book(book: &[u64]) -> bool
     if !numbers_differ(book) {
         return false;
     }
-    if !orders_fit(book) {
+    let mut last = [0u64; 744];
+    let mut before = [0u64; 256];
+    link_orders(book, 3, &mut last, &mut before);
+    if !orders_fit(book, &before) {
         return false;
     }
-    units_fit(book)
+    units_fit(book, &last, &before)
 }

@@ -1,5 +1,6 @@
 // Take: its checks behind that of soundness, and its effect (paper 01, "The eight calls").
 use crate::fits::misfit;
+use crate::ranges::Offer;
 use crate::ranges::is_generator;
 use crate::ranges::offer_total;
 use crate::trades::book_rows;
@@ -39,7 +40,7 @@ pub(crate) fn find_offer(book: &[u64], number: u64) -> usize
         }
         j += 1;
     }
-    8
+    Offer::MOST as usize
 }
 
 // Whether a unit can take a quantity of the offer at place j.
@@ -90,7 +91,7 @@ fn take_party(book: &[u64], unit: u64, number: u64, quantity: u64, lent: usize) 
         return 9;
     }
     let j = find_offer(book, number);
-    if 8 <= j {
+    if Offer::MOST as usize <= j {
         return 11;
     }
     if !can_take(book, j, unit, quantity) {

@@ -15,6 +15,9 @@ pub struct Unit {
 }
 
 impl Unit {
+    // How many a book has at most.
+    pub const MOST: u64 = 64;
+
     // How many kinds there are, from 1.
     pub const KINDS: u64 = 4;
 

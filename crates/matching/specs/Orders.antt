@@ -15,6 +15,10 @@ pub record Order : Type 0 where
   pub price : ℕ
   pub quantity : ℕ
 
+-- an order of which all is open
+abbrev pub orderWith : ℕ → ℕ → ℕ → ℕ → ℕ → ℕ → Order
+orderWith n u d p price q = record { number = n; unit = u; direction = d; period = p; price = price; quantity = q }
+
 abbrev pub sells : ℕ → Bool
 sells direction = eqb direction 0
 

@@ -89,13 +89,12 @@ fn trade(
     Matched::Done(Energy(0), count, standing)
 }
 
-// Clears the orders of a period among the first n: the rows, how many they are, and how many orders then stand.
-pub fn clear_period(orders: &mut [u64], n: usize, period: u64, rows: &mut [u64]) -> Matched
+// Clears the orders of a period among the first n, which are fit for it: the rows, how many they are, and how many orders
+// then stand.
+pub fn clear_fit(orders: &mut [u64], n: usize, period: u64, rows: &mut [u64]) -> Matched
+    requires { ⌜ fit (now orders) n (now rows) ≡ true ⌝ }
     ensures { λ r. ⌜ Clears (now (orders .entry)) (now (rows .entry)) n period r (now (orders .exit)) (now (rows .exit)) ⌝ }
 {
-    if !crate::fitness::fits(orders, n, rows) {
-        return Matched::Unfit;
-    }
     let mut bids = [0u64; 256];
     let mut asks = [0u64; 256];
     let nb = crate::laying::lay(orders, n, 1, period, &mut bids);
@@ -105,4 +104,14 @@ pub fn clear_period(orders: &mut [u64], n: usize, period: u64, rows: &mut [u64])
         return Matched::Done(Energy(0), 0, n);
     }
     trade(orders, n, period, margins, &bids, nb, &asks, na, rows)
+}
+
+// The same of any orders.
+pub fn clear_period(orders: &mut [u64], n: usize, period: u64, rows: &mut [u64]) -> Matched
+    ensures { λ r. ⌜ Clears (now (orders .entry)) (now (rows .entry)) n period r (now (orders .exit)) (now (rows .exit)) ⌝ }
+{
+    if !crate::fitness::fits(orders, n, rows) {
+        return Matched::Unfit;
+    }
+    clear_fit(orders, n, period, rows)
 }

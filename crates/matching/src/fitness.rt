@@ -49,7 +49,7 @@ fn quantities_fit(orders: &[u64], n: usize) -> bool
 pub fn fits(orders: &[u64], n: usize, rows: &[u64]) -> bool
     ensures { λ r. ⌜ r ≡ fit (now (orders .entry)) n (now (rows .entry)) ⌝ }
 {
-    if n > Order::MOST {
+    if n > Order::MOST as usize {
         return false;
     }
     if orders.len() < 6 * n {

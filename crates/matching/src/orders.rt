@@ -5,7 +5,7 @@ ghost use mathlib.Core.Path.{_≡_};
 ghost use mathlib.Core.List.{List, [], _∷_, _++_};
 ghost use Prim.Native.Nat.{ℕ, _+_, _*_, _-_, _<_, _≤_};
 ghost use lib.ListN.{length, getD, set, drop, take};
-ghost use Rattle.matching.specs.Orders.{Row as RowRecord, leaving};
+ghost use Rattle.matching.specs.Orders.{Row as RowRecord, orderWith, leaving};
 ghost use Rattle.matching.specs.Memory.{orderOf, rowOf, orderAt, ordersIn, noOrder, written};
 
 // An open order.
@@ -20,10 +20,42 @@ pub struct Order {
 
 impl Order {
     // How many stand open at most.
-    pub const MOST: usize = 256;
+    pub const MOST: u64 = 256;
 
-    // How many numbers hold an order.
-    pub const WORDS: usize = 6;
+    // An order of which all is open.
+    pub fn fresh(
+        number: u64,
+        unit: u64,
+        direction: u64,
+        period: u64,
+        price: Price,
+        quantity: Energy,
+    ) -> Order
+        ensures { λ r. ⌜ orderOf r ≡ orderWith number unit direction period (price .0) (quantity .0) ⌝ }
+    {
+        Order {
+            number,
+            unit,
+            direction,
+            period,
+            price,
+            quantity,
+        }
+    }
+
+    // The order with q still open.
+    pub fn leaving(self, q: Energy) -> Order
+        ensures { λ r. ⌜ orderOf r ≡ leaving (orderOf self) (q .0) ⌝ }
+    {
+        Order {
+            number: self.number,
+            unit: self.unit,
+            direction: self.direction,
+            period: self.period,
+            price: Price(self.price.0),
+            quantity: q,
+        }
+    }
 }
 
 // A trade: way, period, seller, buyer, quantity, price.

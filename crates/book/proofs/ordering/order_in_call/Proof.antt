@@ -6,6 +6,7 @@ use mathlib.Core.Path.{_∙_}
 use Rattle.book.specs.Readable.{Readable}
 use Rattle.book.proofs.MadeLaws.{sound-readable}
 use Rattle.book.proofs.WaitLaws.{put-past, called}
+use Rattle.book.proofs.RestWaitLaws.{put-same}
 use borrow.Author.Needs.{needs}
 use Rattle.book.proofs.ordering.order_in_call.Statement.{statement}
 use Rattle.book.proofs.ordering.order_in_call.Tie as tie
@@ -19,12 +20,15 @@ slice-read-number c = let r = ok (c .before .before) in omega arith
 add-number : tie.Need-add-number
 add-number c = search needs
 
+fresh-requires : tie.Need-fresh-requires
+fresh-requires c κs = search needs
+
 append-requires : tie.Need-append-requires
-append-requires c κs = let r = ok (c .before .before .before) in (omega arith, omega arith)
+append-requires c κs = let r = ok (c .before .before .before .before) in (omega arith, omega arith)
 
 next-number-requires : tie.Need-next-number-requires
 next-number-requires c κs =
-    let r = ok (c .before .before .before .before .before .before .before) in
+    let r = ok (c .before .before .before .before .before .before .before .before) in
     let h = c .before .before .before .append .ensures in
     let a = h .low 4 (omega arith) (omega arith) in
     let l = h .long in
@@ -35,9 +39,9 @@ same-length c = search needs
 
 returns : tie.Need-returns
 returns c =
-    let s = c .before .before .before .before .before .before .before .before .before .before in
+    let s = c .before .before .before .before .before .before .before .before .before .before .before in
     let r = ok s in
-    let h = c .before .before .before .before .before .before .append .ensures in
+    let h = put-same _ _ (c .before .before .before .before .before .before .before .before .fresh .ensures) _ _ (c .before .before .before .before .before .before .append .ensures) in
     let n = c .before .before .next-number .ensures in
     (called (s .args .book .now) _ _ _ _ _ _ _ (r .unitsTo) (r .offersTo) h (n .0), n .1 (bookWords (word (s .args .book .now) 0)) (omega arith) ∙ put-past _ _ _ h (bookWords (word (s .args .book .now) 0)) (omega arith))
 
@@ -47,6 +51,7 @@ order-in-call-spec =
     (tie.spec
     slice-read-number
     add-number
+    fresh-requires
     append-requires
     next-number-requires
     same-length

@@ -3,6 +3,7 @@ use native.Mathlib.Omega.{arith}
 use Rattle.book.specs.Readable.{Readable}
 use Rattle.book.proofs.MadeLaws.{sound-readable}
 use Rattle.book.proofs.RollCallLaws.{rows-lent, number-left, rest-room, waits-readable, waits-small, waits-rows, rows-room, number-room, rolled-on}
+use Rattle.book.proofs.RestWaitLaws.{waits-same, rolled-same}
 use borrow.Author.Needs.{needs}
 use Rattle.book.proofs.ordering.order_in_rolling.Statement.{statement}
 use Rattle.book.proofs.ordering.order_in_rolling.Tie as tie
@@ -19,21 +20,24 @@ add-number c =
     let n = number-left (s .args .book .now) (s .args .rows .now) (s .args .unit) (s .args .direction) (s .args .period) (s .args .price) (s .args .quantity) (s .pre .0) (s .pre .1) in
     omega arith
 
+fresh-requires : tie.Need-fresh-requires
+fresh-requires c κs = search needs
+
 meet-orders-requires : tie.Need-meet-orders-requires
 meet-orders-requires c κs =
-    let s = c .before .before .before .before .before in
+    let s = c .before .before .before .before .before .before in
     (s .pre .0, rows-lent (s .args .book .now) (s .args .rows .now) (s .args .unit) (s .args .direction) (s .args .period) (s .args .price) (s .args .quantity) (s .pre .0) (s .pre .1))
 
 rest-waits-requires : tie.Need-rest-waits-requires
 rest-waits-requires c κs =
-    let s = c .before .before .before .before .before .before .before .before .before .before .before in
-    rest-room (s .args .book .now) (s .args .rows .now) (s .args .unit) (s .args .direction) (s .args .period) (s .args .price) (s .args .quantity) (s .pre .0) (s .pre .1) _ _ _ _ (c .before .before .before .before .before .meet-orders .ensures)
+    let s = c .before .before .before .before .before .before .before .before .before .before .before .before in
+    rest-room (s .args .book .now) (s .args .rows .now) (s .args .unit) (s .args .direction) (s .args .period) (s .args .price) (s .args .quantity) (s .pre .0) (s .pre .1) _ _ _ _ (rolled-same _ _ (c .before .before .before .before .before .before .before .before .fresh .ensures) _ _ _ _ _ _ (c .before .before .before .before .before .meet-orders .ensures))
 
 book-rows-requires : tie.Need-book-rows-requires
 book-rows-requires c κs =
-    let s = c .before .before .before .before .before .before .before .before .before .before .before .before .before .before .before .before in
-    let h = c .before .before .before .before .before .before .before .before .before .before .meet-orders .ensures in
-    let w = c .before .before .before .before .rest-waits .ensures in
+    let s = c .before .before .before .before .before .before .before .before .before .before .before .before .before .before .before .before .before in
+    let h = rolled-same _ _ (c .before .before .before .before .before .before .before .before .before .before .before .before .before .fresh .ensures) _ _ _ _ _ _ (c .before .before .before .before .before .before .before .before .before .before .meet-orders .ensures) in
+    let w = waits-same _ _ (c .before .before .before .before .before .before .before .before .before .before .before .before .before .fresh .ensures) _ _ (c .before .before .before .before .before .before .before .before .before .before .meet-orders .result .left) (c .before .before .before .before .rest-waits .ensures) in
     let t = rows-room (s .args .book .now) (s .args .rows .now) (s .args .unit) (s .args .direction) (s .args .period) (s .args .price) (s .args .quantity) (s .pre .0) (s .pre .1) _ _ _ _ h _ w in (
       waits-readable (s .args .book .now) (s .args .rows .now) (s .args .unit) (s .args .direction) (s .args .period) (s .args .price) (s .args .quantity) (s .pre .0) (s .pre .1) _ _ _ _ h _ w,
       t .0,
@@ -44,9 +48,9 @@ book-rows-requires c κs =
 
 next-number-requires : tie.Need-next-number-requires
 next-number-requires c κs =
-    let s = c .before .before .before .before .before .before .before .before .before .before .before .before .before .before .before .before .before .before .before .before in
+    let s = c .before .before .before .before .before .before .before .before .before .before .before .before .before .before .before .before .before .before .before .before .before in
     number-room (s .args .book .now) (s .args .rows .now) (s .args .unit) (s .args .direction) (s .args .period) (s .args .price) (s .args .quantity) (s .pre .0) (s .pre .1)
-    _ _ _ _ (c .before .before .before .before .before .before .before .before .before .before .before .before .before .before .meet-orders .ensures) _ (c .before .before .before .before .before .before .before .before .rest-waits .ensures) _ (c .before .before .before .book-rows .ensures)
+    _ _ _ _ (rolled-same _ _ (c .before .before .before .before .before .before .before .before .before .before .before .before .before .before .before .before .before .fresh .ensures) _ _ _ _ _ _ (c .before .before .before .before .before .before .before .before .before .before .before .before .before .before .meet-orders .ensures)) _ (waits-same _ _ (c .before .before .before .before .before .before .before .before .before .before .before .before .before .before .before .before .before .fresh .ensures) _ _ (c .before .before .before .before .before .before .before .before .before .before .before .before .before .before .meet-orders .result .left) (c .before .before .before .before .before .before .before .before .rest-waits .ensures)) _ (c .before .before .before .book-rows .ensures)
 
 same-length : tie.Need-same-length
 same-length c = search needs
@@ -56,9 +60,9 @@ same-length-2 c = search needs
 
 returns : tie.Need-returns
 returns c =
-    let s = c .before .before .before .before .before .before .before .before .before .before .before .before .before .before .before .before .before .before .before .before .before .before .before in
+    let s = c .before .before .before .before .before .before .before .before .before .before .before .before .before .before .before .before .before .before .before .before .before .before .before .before in
     rolled-on (s .args .book .now) (s .args .rows .now) (s .args .unit) (s .args .direction) (s .args .period) (s .args .price) (s .args .quantity) (s .pre .0) (s .pre .1)
-    _ _ _ _ (c .before .before .before .before .before .before .before .before .before .before .before .before .before .before .before .before .before .meet-orders .ensures) _ (c .before .before .before .before .before .before .before .before .before .before .before .rest-waits .ensures) _ (c .before .before .before .before .before .before .book-rows .ensures) _ (c .before .before .next-number .ensures .0) (c .before .before .next-number .ensures .1)
+    _ _ _ _ (rolled-same _ _ (c .before .before .before .before .before .before .before .before .before .before .before .before .before .before .before .before .before .before .before .before .fresh .ensures) _ _ _ _ _ _ (c .before .before .before .before .before .before .before .before .before .before .before .before .before .before .before .before .before .meet-orders .ensures)) _ (waits-same _ _ (c .before .before .before .before .before .before .before .before .before .before .before .before .before .before .before .before .before .before .before .before .fresh .ensures) _ _ (c .before .before .before .before .before .before .before .before .before .before .before .before .before .before .before .before .before .meet-orders .result .left) (c .before .before .before .before .before .before .before .before .before .before .before .rest-waits .ensures)) _ (c .before .before .before .before .before .before .book-rows .ensures) _ (c .before .before .next-number .ensures .0) (c .before .before .next-number .ensures .1)
 
 pub order-in-rolling-spec : {M : Type 1} → statement M
 order-in-rolling-spec =
@@ -66,6 +70,7 @@ order-in-rolling-spec =
     (tie.spec
     slice-read-number
     add-number
+    fresh-requires
     meet-orders-requires
     rest-waits-requires
     book-rows-requires

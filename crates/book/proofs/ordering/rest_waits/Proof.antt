@@ -1,13 +1,16 @@
 -- `rest_waits`: nothing waits where nothing is left.
 use native.Mathlib.Omega.{arith}
 use Rattle.matching.specs.Memory.{orderOf}
-use Rattle.book.proofs.RestWaitLaws.{rest-none, rest-some}
+use Rattle.book.proofs.RestWaitLaws.{rest-none, rest-some, put-same}
 use borrow.Author.Needs.{needs}
 use Rattle.book.proofs.ordering.rest_waits.Statement.{statement}
 use Rattle.book.proofs.ordering.rest_waits.Tie as tie
 
 returns : tie.Need-returns
 returns c = rest-none _ (orderOf (c .before .before .args .o)) (c .before .before .args .left) (omega arith)
+
+leaving-requires : tie.Need-leaving-requires
+leaving-requires c κs = search needs
 
 append-requires : tie.Need-append-requires
 append-requires c κs = search needs
@@ -16,7 +19,7 @@ same-length : tie.Need-same-length
 same-length c = search needs
 
 returns-2 : tie.Need-returns-2
-returns-2 c = rest-some _ _ (orderOf (c .before .before .before .before .before .before .args .o)) (c .before .before .before .before .before .before .args .left) (omega arith) (c .before .before .append .ensures)
+returns-2 c = rest-some _ _ (orderOf (c .before .before .before .before .before .before .before .args .o)) (c .before .before .before .before .before .before .before .args .left) (omega arith) (put-same _ _ (c .before .before .before .before .leaving .ensures) _ _ (c .before .before .append .ensures))
 
 pub rest-waits-spec : {M : Type 1} → statement M
-rest-waits-spec = tie.close (tie.spec returns append-requires same-length returns-2)
+rest-waits-spec = tie.close (tie.spec returns leaving-requires append-requires same-length returns-2)

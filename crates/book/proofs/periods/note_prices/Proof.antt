@@ -17,12 +17,48 @@ abbrev μ-loop : tie.MeasureT-loop
 loop-holds : tie.Need-loop-holds Inv-loop μ-loop
 loop-holds c = (search needs, search needs, search needs, λ i h. absurd (omega arith))
 
+mul-note-price : tie.Need-mul-note-price Inv-loop μ-loop
+mul-note-price c = search needs
+
+add-note-price : tie.Need-add-note-price Inv-loop μ-loop
+add-note-price c = search needs
+
+mul-note-price-2 : tie.Need-mul-note-price-2 Inv-loop μ-loop
+mul-note-price-2 c = search needs
+
+shared-slice-read-note-price : tie.Need-shared-slice-read-note-price Inv-loop μ-loop
+shared-slice-read-note-price c = search needs
+
+mul-note-price-3 : tie.Need-mul-note-price-3 Inv-loop μ-loop
+mul-note-price-3 c = search needs
+
+add-note-price-2 : tie.Need-add-note-price-2 Inv-loop μ-loop
+add-note-price-2 c = search needs
+
+mul-note-price-4 : tie.Need-mul-note-price-4 Inv-loop μ-loop
+mul-note-price-4 c = search needs
+
+shared-slice-read-note-price-2 : tie.Need-shared-slice-read-note-price-2 Inv-loop μ-loop
+shared-slice-read-note-price-2 c = search needs
+
+mul-note-price-5 : tie.Need-mul-note-price-5 Inv-loop μ-loop
+mul-note-price-5 c = search needs
+
+add-note-price-3 : tie.Need-add-note-price-3 Inv-loop μ-loop
+add-note-price-3 c = search needs
+
+mul-note-price-6 : tie.Need-mul-note-price-6 Inv-loop μ-loop
+mul-note-price-6 c = search needs
+
+shared-slice-read-note-price-3 : tie.Need-shared-slice-read-note-price-3 Inv-loop μ-loop
+shared-slice-read-note-price-3 c = search needs
+
 note-price-requires : tie.Need-note-price-requires Inv-loop μ-loop
 note-price-requires c κs =
-    let g = c .before .before .before .before .before .before .before .pre in
-    let l = c .before .before .before .loop in
+    let g = c .before .before .before .before .before .before .before .before .before .before .pre in
+    let l = c .before .before .before .before .before .before .loop in
     let t = g .4 (l .k) (omega arith) in
-    (omega arith, omega arith, t .0, t .1, l .inv .1, l .inv .2)
+    (t .0, t .1, l .inv .1, l .inv .2)
 
 add-k : tie.Need-add-k Inv-loop μ-loop
 add-k c = search needs
@@ -32,9 +68,11 @@ loop-less c = search needs
 
 loop-again : tie.Need-loop-again Inv-loop μ-loop
 loop-again c =
-    let l = c .before .before .before .before .before .before .before .before .loop in
+    let a = c .before .before .before .before .before .before .before .before .before .before .before .before .before .before .before .args in
+    let l = c .before .before .before .before .before .before .before .before .before .before .before .loop in
     let d = c .before .before .before .before .note-price in
-    (search needs, d .kept .1 .1 .0 ∙ l .inv .1, d .kept .1 .1 .1 .0 ∙ l .inv .2, noted-more (c .before .before .before .before .before .before .before .before .before .before .before .before .args .orders .now) (l .high) (l .low) _ _ (l .k) (l .inv .3) (d .ensures))
+    let t = c .before .before .before .before .before .before .before .before .before .before .before .before .before .before .before .pre .4 (l .k) (omega arith) in
+    (search needs, d .kept .1 .1 .1 .0 ∙ l .inv .1, d .kept .1 .1 .1 .1 .0 ∙ l .inv .2, rw (d .ensures .0, d .ensures .1) (noted-more (a .orders .now) (l .high) (l .low) (l .k) (l .inv .3) (omega (arith, l .inv .1, t .0)) (omega (arith, l .inv .2, t .0))))
 
 same-length : tie.Need-same-length Inv-loop μ-loop
 same-length c = search needs
@@ -54,6 +92,18 @@ note-prices-spec =
     Inv-loop
     μ-loop
     loop-holds
+    mul-note-price
+    add-note-price
+    mul-note-price-2
+    shared-slice-read-note-price
+    mul-note-price-3
+    add-note-price-2
+    mul-note-price-4
+    shared-slice-read-note-price-2
+    mul-note-price-5
+    add-note-price-3
+    mul-note-price-6
+    shared-slice-read-note-price-3
     note-price-requires
     add-k
     loop-less

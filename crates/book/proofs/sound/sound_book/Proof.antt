@@ -1,6 +1,6 @@
 -- `sound_book`: a test that fails contradicts soundness; the fit of the units decides the rest.
 use Prim.Native.Nat.{ℕ, _≤_, _+_, _*_}
-use mathlib.Core.Path.{_≡_, sym, _∙_}
+use mathlib.Core.Path.{_≡_, refl, sym, _∙_}
 use mathlib.Core.Bool.{Bool, true, false}
 use mathlib.Core.List.{List}
 use native.Mathlib.Omega.{arith}
@@ -13,6 +13,8 @@ use Rattle.book.specs.Opening.{bookWords}
 use Rattle.book.specs.Layout.{word, decode}
 use Rattle.book.specs.Readable.{Readable, Ranged}
 use Rattle.book.proofs.RangeFacts.{Head, head-facts, readable}
+use Rattle.book.proofs.ShareLaws.{order-words}
+use Rattle.book.proofs.UnitsFitLaws.{zeros-below}
 use Rattle.book.proofs.SoundInLaws.{SoundWords, sound-fails, sound-by-units, never-short, ranged}
 use borrow.Author.Needs.{needs}
 use Rattle.book.proofs.sound.sound_book.Statement.{statement}
@@ -81,21 +83,43 @@ numbers-differ-requires c κs = can-read (c .before .before .before .before .bef
 returns-7 : tie.Need-returns-7
 returns-7 c = sound-fails _ (λ s. not-both _ (s .numbers) (sym (c .before .numbers-differ .ensures) ∙ not-true _ (c .if7 .taken)))
 
+slice-aggregate-link-orders : tie.Need-slice-aggregate-link-orders
+slice-aggregate-link-orders c = search needs
+
+slice-aggregate-link-orders-2 : tie.Need-slice-aggregate-link-orders-2
+slice-aggregate-link-orders-2 c = search needs
+
+link-orders-requires : tie.Need-link-orders-requires
+link-orders-requires c κs =
+    let g = in-range (c .before .before .before .before) in
+    (g, omega arith, refl, zeros-below 744 0, λ k h. let d = g .readable .daysTo in omega (arith, order-words _ k g h .period))
+
+slice-aggregate-orders-fit : tie.Need-slice-aggregate-orders-fit
+slice-aggregate-orders-fit c = search needs
+
 orders-fit-requires : tie.Need-orders-fit-requires
-orders-fit-requires c κs = (in-range (c .before .before), head-facts _ (headed (c .before .before .before .before .before .before .before .before)) .ceiling)
+orders-fit-requires c κs =
+    let t = c .before .before .before .link-orders in
+    (in-range (c .before .before .before .before .before .before .before .before), head-facts _ (headed (c .before .before .before .before .before .before .before .before .before .before .before .before .before .before)) .ceiling, t .kept .1 .1 .1 .0, t .ensures .ofOrder)
 
 returns-8 : tie.Need-returns-8
 returns-8 c = sound-fails _ (λ s. not-both _ (s .pairs) (sym (c .before .orders-fit .ensures) ∙ not-true _ (c .if8 .taken)))
 
+slice-aggregate-units-fit : tie.Need-slice-aggregate-units-fit
+slice-aggregate-units-fit c = search needs
+
+slice-aggregate-units-fit-2 : tie.Need-slice-aggregate-units-fit-2
+slice-aggregate-units-fit-2 c = search needs
+
 units-fit-requires : tie.Need-units-fit-requires
-units-fit-requires c κs = in-range (c .before .before .before .before)
+units-fit-requires c κs = let t = c .before .before .before .before .before .before .before .link-orders in (in-range (c .before .before .before .before .before .before .before .before .before .before .before .before), t .kept .1 .1 .0, t .kept .1 .1 .1 .0, t .ensures)
 
 returns-9 : tie.Need-returns-9
 returns-9 c =
-    let r = in-range (c .before .before .before .before .before) in
+    let r = in-range (c .before .before .before .before .before .before .before .before .before .before .before .before .before) in
     c .units-fit .ensures
-    ∙ sound-by-units (c .before .before .before .before .before .before .before .before .before .before .before .before .before .before .before .before .before .args .book .now) (long-enough (c .before .before .before .before .before .before .before .before .before .before .before)) (headed (c .before .before .before .before .before .before .before .before .before .before .before)) (r .units) (r .offers) (r .orders)
-    (sym (c .before .before .before .before .numbers-differ .ensures) ∙ not-false _ (c .before .before .before .if7 .left)) (sym (c .before .before .orders-fit .ensures) ∙ not-false _ (c .before .if8 .left))
+    ∙ sound-by-units (c .before .before .before .before .before .before .before .before .before .before .before .before .before .before .before .before .before .before .before .before .before .before .before .before .before .args .book .now) (long-enough (c .before .before .before .before .before .before .before .before .before .before .before .before .before .before .before .before .before .before .before)) (headed (c .before .before .before .before .before .before .before .before .before .before .before .before .before .before .before .before .before .before .before)) (r .units) (r .offers) (r .orders)
+    (sym (c .before .before .before .before .before .before .before .before .before .before .before .before .numbers-differ .ensures) ∙ not-false _ (c .before .before .before .before .before .before .before .before .before .before .before .if7 .left)) (sym (c .before .before .before .before .orders-fit .ensures) ∙ not-false _ (c .before .before .before .if8 .left))
 
 pub sound-book-spec : {M : Type 1} → statement M
 sound-book-spec =
@@ -116,7 +140,13 @@ sound-book-spec =
     returns-6
     numbers-differ-requires
     returns-7
+    slice-aggregate-link-orders
+    slice-aggregate-link-orders-2
+    link-orders-requires
+    slice-aggregate-orders-fit
     orders-fit-requires
     returns-8
+    slice-aggregate-units-fit
+    slice-aggregate-units-fit-2
     units-fit-requires
     returns-9)

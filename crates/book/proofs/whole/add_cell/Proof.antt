@@ -1,7 +1,5 @@
 -- `add_cell`: a test that fails, or the sums with what the cell adds.
-use mathlib.Core.Path.{refl}
 use native.Mathlib.Omega.{arith}
-use Rattle.book.specs.Fitting.{termPart, volumePart}
 use Rattle.book.proofs.UnitsFitLaws.{cell-misfit, cell-over, cell-passed, cell-refused, cell-little}
 use borrow.Author.Needs.{needs}
 use Rattle.book.proofs.whole.add_cell.Statement.{statement}
@@ -11,7 +9,7 @@ period-fit-requires : tie.Need-period-fit-requires
 period-fit-requires c κs = search needs
 
 returns : tie.Need-returns
-returns c = cell-refused _ _ _ _ _ _ _ _ _ (cell-misfit _ _ _ _ _ _ (c .before .period-fit .ensures) (c .if1 .taken))
+returns c = cell-refused _ _ _ _ _ _ _ (cell-misfit _ _ _ _ (c .before .period-fit .ensures) (c .if1 .taken))
 
 mul-traded : tie.Need-mul-traded
 mul-traded c = search needs
@@ -32,7 +30,7 @@ shared-slice-read-traded : tie.Need-shared-slice-read-traded
 shared-slice-read-traded c = search needs
 
 returns-2 : tie.Need-returns-2
-returns-2 c = cell-refused _ _ _ _ _ _ _ _ _ (cell-over _ _ _ _ _ (c .if2 .taken))
+returns-2 c = cell-refused _ _ _ _ _ _ _ (cell-over _ _ _ (c .if2 .taken))
 
 mul-whole : tie.Need-mul-whole
 mul-whole c = search needs
@@ -80,19 +78,13 @@ add-whole-5 : tie.Need-add-whole-5
 add-whole-5 c =
     let a = c .before .before .before .before .before .before .before .before .before .before .args in
     let g = c .before .before .before .before .before .before .before .before .before .before .pre in
-    omega (arith, cell-little (a .book .now) (g .0) (a .p) (a .k) (a .x) (a .y) (g .2) _ (c .before .before .before .before .before .before .period-fit .ensures) (c .before .before .before .before .before .if1 .left), g .7 (a .k))
+    omega (arith, cell-little (a .book .now) (g .0) (a .p) (a .k) (g .2) _ (c .before .before .before .before .before .before .period-fit .ensures) (c .before .before .before .before .before .if1 .left), g .5 (a .k))
 
 add-whole-6 : tie.Need-add-whole-6
 add-whole-6 c =
     let a = c .before .before .before .before .before .before .before .before .before .before .args in
     let g = c .before .before .before .before .before .before .before .before .before .before .pre in
-    omega (arith, cell-little (a .book .now) (g .0) (a .p) (a .k) (a .x) (a .y) (g .2) _ (c .before .before .before .before .before .before .period-fit .ensures) (c .before .before .before .before .before .if1 .left), g .7 (a .k))
-
-add-whole-7 : tie.Need-add-whole-7
-add-whole-7 c =
-    let a = c .before .before .before .before .before .before .before .before .before .before .args in
-    let g = c .before .before .before .before .before .before .before .before .before .before .pre in
-    omega (arith, cell-little (a .book .now) (g .0) (a .p) (a .k) (a .x) (a .y) (g .2) _ (c .before .before .before .before .before .before .period-fit .ensures) (c .before .before .before .before .before .if1 .left), g .7 (a .k))
+    omega (arith, cell-little (a .book .now) (g .0) (a .p) (a .k) (g .2) _ (c .before .before .before .before .before .before .period-fit .ensures) (c .before .before .before .before .before .if1 .left), g .5 (a .k))
 
 mul-whole-8 : tie.Need-mul-whole-8
 mul-whole-8 c = search needs
@@ -107,16 +99,7 @@ slice-read-volume : tie.Need-slice-read-volume
 slice-read-volume c = search needs
 
 add-volume : tie.Need-add-volume
-add-volume c = search needs
-
-add-volume-2 : tie.Need-add-volume-2
-add-volume-2 c = search needs
-
-add-volume-3 : tie.Need-add-volume-3
-add-volume-3 c =
-    let a = c .before .before .before .before .before .before .before .before .before .before .before .args in
-    let g = c .before .before .before .before .before .before .before .before .before .before .before .pre in
-    omega (arith, g .8 (a .k))
+add-volume c = let g = c .before .before .before .before .before .before .before .before .before .before .before in omega (arith, g .pre .6 (g .args .k))
 
 mul-volume-2 : tie.Need-mul-volume-2
 mul-volume-2 c = search needs
@@ -131,8 +114,7 @@ same-length-2 : tie.Need-same-length-2
 same-length-2 c = search needs
 
 returns-3 : tie.Need-returns-3
-unfolding termPart volumePart
-returns-3 c = record { answer = cell-passed _ _ _ _ _ _ (c .before .before .before .before .before .before .before .period-fit .ensures) (c .before .before .before .before .before .before .if1 .left) (omega arith); whole = λ z. refl; volume = λ z. refl }
+returns-3 c = cell-passed _ _ _ _ (c .before .before .before .before .before .before .before .period-fit .ensures) (c .before .before .before .before .before .before .if1 .left) (omega arith) _ _
 
 pub add-cell-spec : {M : Type 1} → statement M
 add-cell-spec =
@@ -163,14 +145,11 @@ add-cell-spec =
     shared-slice-read-whole-2
     add-whole-5
     add-whole-6
-    add-whole-7
     mul-whole-8
     slice-write-whole
     mul-volume
     slice-read-volume
     add-volume
-    add-volume-2
-    add-volume-3
     mul-volume-2
     slice-write-volume
     same-length

@@ -11,7 +11,7 @@ use Rattle.book.proofs.whole.add_idle.Statement.{statement}
 use Rattle.book.proofs.whole.add_idle.Tie as tie
 
 abbrev Inv-loop : tie.InvT-loop
-Inv-loop book p whole₀ volume₀ n k₀ whole volume k = (k ≤ word book 5) × (CellsPast book p (λ i. 0) (λ i. 0) whole₀ volume₀ whole volume k)
+Inv-loop book p whole₀ volume₀ n k₀ whole volume k = (k ≤ word book 5) × (CellsPast book p whole₀ volume₀ whole volume k)
 
 abbrev μ-loop : tie.MeasureT-loop
 μ-loop book p whole₀ volume₀ n k₀ whole volume k = word book 5 - k
@@ -20,15 +20,15 @@ shared-slice-read-n : tie.Need-shared-slice-read-n Inv-loop μ-loop
 shared-slice-read-n c = search needs
 
 loop-holds : tie.Need-loop-holds Inv-loop μ-loop
-loop-holds c = (search needs, past-none _ _ _ _ _ _)
+loop-holds c = (search needs, past-none _ _ _ _)
 
 add-cell-requires : tie.Need-add-cell-requires Inv-loop μ-loop
 add-cell-requires c κs =
     let a = c .before .before .before .before .before .before .before .before .args in
     let g = c .before .before .before .before .before .before .before .before .pre in
     let l = c .before .before .before .loop in
-    let b = past-below (a .book .now) (a .p) (λ i. 0) (λ i. 0) (a .whole .now) (a .volume .now) (l .whole) (l .volume) (l .k) (l .inv .1) (g .0) (l .inv .0) (λ i. omega arith) (λ i. omega arith) (g .4) (g .5) in
-    (g .0, g .1, omega arith, omega arith, omega arith, l .inv .1 .whole .long ∙ g .2, l .inv .1 .volume .long ∙ g .3, b .0, b .1)
+    let b = past-below (a .book .now) (a .p) (a .whole .now) (a .volume .now) (l .whole) (l .volume) (l .k) (l .inv .1) (g .0) (l .inv .0) (g .4) (g .5) in
+    (g .0, g .1, omega arith, l .inv .1 .whole .long ∙ g .2, l .inv .1 .volume .long ∙ g .3, b .0, b .1)
 
 same-length : tie.Need-same-length Inv-loop μ-loop
 same-length c = search needs
@@ -41,7 +41,7 @@ returns c =
     let a = c .before .before .before .before .before .before .before .before .before .before .before .before .before .before .args in
     let g = c .before .before .before .before .before .before .before .before .before .before .before .before .before .before .pre in
     let l = c .before .before .before .before .before .before .before .before .before .loop in
-    past-fails (a .book .now) (a .p) (λ i. 0) (λ i. 0) (a .whole .now) (a .volume .now) (l .whole) (l .volume) (l .k) (l .inv .1) _ _ _ (omega arith) (not-true _ (c .if1 .taken)) (c .before .before .before .before .before .add-cell .ensures)
+    past-fails (a .book .now) (a .p) (a .whole .now) (a .volume .now) (l .whole) (l .volume) (l .k) (l .inv .1) _ _ _ (omega arith) (not-true _ (c .if1 .taken)) (c .before .before .before .before .before .add-cell .ensures)
 
 add-k : tie.Need-add-k Inv-loop μ-loop
 add-k c = search needs
@@ -57,7 +57,7 @@ loop-again c =
     let hw = g .2 in
     let hv = g .3 in
     let few = g .0 .readable .unitsTo in
-    (search needs, past-more (a .book .now) (a .p) (λ i. 0) (λ i. 0) (a .whole .now) (a .volume .now) (l .whole) (l .volume) (l .k) (l .inv .1) _ _ _ (omega arith) (omega arith) (not-false _ (c .if1 .left)) (c .before .before .before .before .before .add-cell .ensures))
+    (search needs, past-more (a .book .now) (a .p) (a .whole .now) (a .volume .now) (l .whole) (l .volume) (l .k) (l .inv .1) _ _ _ (omega arith) (omega arith) (not-false _ (c .if1 .left)) (c .before .before .before .before .before .add-cell .ensures))
 
 same-length-3 : tie.Need-same-length-3 Inv-loop μ-loop
 same-length-3 c = search needs
@@ -70,7 +70,7 @@ returns-2 c =
     let a = c .before .before .before .before .before .before .args in
     let g = c .before .before .before .before .before .before .pre in
     let l = c .before .loop in
-    past-ends (a .book .now) (a .p) (λ i. 0) (λ i. 0) (a .whole .now) (a .volume .now) (l .whole) (l .volume) (l .k) (l .inv .1) (g .0) (l .inv .0) (λ i. omega arith) (λ i. omega arith) (omega arith)
+    past-ends (a .book .now) (a .p) (a .whole .now) (a .volume .now) (l .whole) (l .volume) (l .k) (l .inv .1) (g .0) (l .inv .0) (omega arith)
 
 pub add-idle-spec : {M : Type 1} → statement M
 add-idle-spec =

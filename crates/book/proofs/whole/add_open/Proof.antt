@@ -1,108 +1,104 @@
--- `add_open`: each unit passed holds in the period, with what is open.
-use Prim.Native.Nat.{ℕ, _≤_, _-_}
-use mathlib.Core.Path.{_≡_, sym, _∙_}
+-- `add_open`: what is open is gathered, and then settled by the units of the offers and of the orders.
+use mathlib.Core.Path.{_∙_, sym}
 use native.Mathlib.Omega.{arith}
-use lib.ListN.{getD}
 use borrow.Author.Tests.{not-true, not-false}
-use Rattle.book.specs.Layout.{word}
-use Rattle.book.proofs.UnitsFitLaws.{CellsPast, past-none, past-more, past-fails, past-ends, past-below}
+use Rattle.measures.proofs.ListLaws.{both-ways}
+use Rattle.book.proofs.UnitsFitLaws.{open-up, open-down, open-below}
+use Rattle.book.proofs.SettleLaws.{open-waits, open-fails, open-ends, settles-both, settling-still}
 use borrow.Author.Needs.{needs}
 use Rattle.book.proofs.whole.add_open.Statement.{statement}
 use Rattle.book.proofs.whole.add_open.Tie as tie
 
-abbrev Inv-loop : tie.InvT-loop
-Inv-loop book p raising lowering whole₀ volume₀ n k₀ whole volume k = (k ≤ word book 5) × (CellsPast book p (λ i. getD raising i 0) (λ i. getD lowering i 0) whole₀ volume₀ whole volume k)
+add-period-offers-requires : tie.Need-add-period-offers-requires
+add-period-offers-requires c κs = search needs
 
-abbrev μ-loop : tie.MeasureT-loop
-μ-loop book p raising lowering whole₀ volume₀ n k₀ whole volume k = word book 5 - k
+add-period-orders-requires : tie.Need-add-period-orders-requires
+add-period-orders-requires c κs =
+    let g = c .before .before .before .before .before .before .before .before .before .before .before .before .before .pre in
+    let o = c .before .before .before .before .add-period-offers .ensures in
+    (g .0, g .1, g .2, g .3, g .4, o .long ∙ g .5 .raising, g .5 .lowering, (λ i. omega (arith, g .5 .up i, o .grown i)), (λ i. omega (arith, g .5 .down i)))
 
-shared-slice-read-n : tie.Need-shared-slice-read-n Inv-loop μ-loop
-shared-slice-read-n c = search needs
+settle-offers-requires : tie.Need-settle-offers-requires
+settle-offers-requires c κs =
+    let a = c .before .before .before .before .before .before .before .before .before .before .before .before .before .before .before .before .before .before .before .before .before .before .args in
+    let g = c .before .before .before .before .before .before .before .before .before .before .before .before .before .before .before .before .before .before .before .before .before .before .pre in
+    let o = c .before .before .before .before .before .before .before .before .before .before .before .before .before .add-period-offers .ensures in
+    let r = c .before .before .before .before .before .before .before .before .add-period-orders .ensures in
+    let b = open-below (a .book .now) (a .p) (a .raising .now) _ (a .lowering .now) _ _ (g .5 .up) (g .5 .down) o r in
+    let f = open-waits _ _ _ _ (r .raising .long ∙ o .long ∙ g .5 .raising) (r .lowering .long ∙ g .5 .lowering) (g .6) (g .7) (b .0) (b .1) (g .8) (g .9) in
+    (g .0, g .1, f)
 
-loop-holds : tie.Need-loop-holds Inv-loop μ-loop
-loop-holds c = (search needs, past-none _ _ _ _ _ _)
-
-mul-add-cell : tie.Need-mul-add-cell Inv-loop μ-loop
-mul-add-cell c = search needs
-
-shared-slice-read-add-cell : tie.Need-shared-slice-read-add-cell Inv-loop μ-loop
-shared-slice-read-add-cell c = search needs
-
-mul-add-cell-2 : tie.Need-mul-add-cell-2 Inv-loop μ-loop
-mul-add-cell-2 c = search needs
-
-shared-slice-read-add-cell-2 : tie.Need-shared-slice-read-add-cell-2 Inv-loop μ-loop
-shared-slice-read-add-cell-2 c = search needs
-
-add-cell-requires : tie.Need-add-cell-requires Inv-loop μ-loop
-add-cell-requires c κs =
-    let a = c .before .before .before .before .before .before .before .before .before .before .before .before .args in
-    let g = c .before .before .before .before .before .before .before .before .before .before .before .before .pre in
-    let l = c .before .before .before .before .before .loop in
-    let b = past-below (a .book .now) (a .p) (λ i. getD (a .raising .now) i 0) (λ i. getD (a .lowering .now) i 0) (a .whole .now) (a .volume .now) (l .whole) (l .volume) (l .k) (l .inv .1) (g .0) (l .inv .0) (g .4) (g .5) (g .8) (g .9) in
-    (g .0, g .1, omega arith, g .4 _, g .5 _, l .inv .1 .whole .long ∙ g .6, l .inv .1 .volume .long ∙ g .7, b .0, b .1)
-
-same-length : tie.Need-same-length Inv-loop μ-loop
+same-length : tie.Need-same-length
 same-length c = search needs
 
-same-length-2 : tie.Need-same-length-2 Inv-loop μ-loop
+same-length-2 : tie.Need-same-length-2
 same-length-2 c = search needs
 
-returns : tie.Need-returns Inv-loop μ-loop
-returns c =
-    let a = c .before .before .before .before .before .before .before .before .before .before .before .before .before .before .before .before .before .before .args in
-    let g = c .before .before .before .before .before .before .before .before .before .before .before .before .before .before .before .before .before .before .pre in
-    let l = c .before .before .before .before .before .before .before .before .before .before .before .loop in
-    past-fails (a .book .now) (a .p) (λ i. getD (a .raising .now) i 0) (λ i. getD (a .lowering .now) i 0) (a .whole .now) (a .volume .now) (l .whole) (l .volume) (l .k) (l .inv .1) _ _ _ (omega arith) (not-true _ (c .if1 .taken)) (c .before .before .before .before .before .add-cell .ensures)
-
-add-k : tie.Need-add-k Inv-loop μ-loop
-add-k c = search needs
-
-loop-less : tie.Need-loop-less Inv-loop μ-loop
-loop-less c = search needs
-
-loop-again : tie.Need-loop-again Inv-loop μ-loop
-loop-again c =
-    let a = c .before .before .before .before .before .before .before .before .before .before .before .before .before .before .before .before .before .before .args in
-    let g = c .before .before .before .before .before .before .before .before .before .before .before .before .before .before .before .before .before .before .pre in
-    let l = c .before .before .before .before .before .before .before .before .before .before .before .loop in
-    let hw = g .6 in
-    let hv = g .7 in
-    let few = g .0 .readable .unitsTo in
-    (search needs, past-more (a .book .now) (a .p) (λ i. getD (a .raising .now) i 0) (λ i. getD (a .lowering .now) i 0) (a .whole .now) (a .volume .now) (l .whole) (l .volume) (l .k) (l .inv .1) _ _ _ (omega arith) (omega arith) (not-false _ (c .if1 .left)) (c .before .before .before .before .before .add-cell .ensures))
-
-same-length-3 : tie.Need-same-length-3 Inv-loop μ-loop
+same-length-3 : tie.Need-same-length-3
 same-length-3 c = search needs
 
-same-length-4 : tie.Need-same-length-4 Inv-loop μ-loop
+same-length-4 : tie.Need-same-length-4
 same-length-4 c = search needs
 
-returns-2 : tie.Need-returns-2 Inv-loop μ-loop
+returns : tie.Need-returns
+returns c =
+    let a = c .before .before .before .before .before .before .before .before .before .before .before .before .before .before .before .before .before .before .before .before .before .before .before .before .before .before .before .before .before .before .before .before .args in
+    let g = c .before .before .before .before .before .before .before .before .before .before .before .before .before .before .before .before .before .before .before .before .before .before .before .before .before .before .before .before .before .before .before .before .pre in
+    let o = c .before .before .before .before .before .before .before .before .before .before .before .before .before .before .before .before .before .before .before .before .before .before .before .add-period-offers .ensures in
+    let r = c .before .before .before .before .before .before .before .before .before .before .before .before .before .before .before .before .before .before .add-period-orders .ensures in
+    let b = open-below (a .book .now) (a .p) (a .raising .now) _ (a .lowering .now) _ _ (g .5 .up) (g .5 .down) o r in
+    let f = open-waits _ _ _ _ (r .raising .long ∙ o .long ∙ g .5 .raising) (r .lowering .long ∙ g .5 .lowering) (g .6) (g .7) (b .0) (b .1) (g .8) (g .9) in
+    let u = open-up (a .book .now) (a .p) (a .raising .now) _ (a .lowering .now) _ _ (g .5 .up) (g .5 .down) o r in
+    let d = open-down (a .book .now) (a .p) (a .raising .now) _ (a .lowering .now) _ _ (g .5 .up) (g .5 .down) o r in
+    (open-fails (a .book .now) (a .p) _ _ _ _ (g .0 .readable .unitsTo) u d f _ _ _ _ _ _ _ (not-true _ (c .if1 .taken)) (c .before .before .before .before .before .before .before .before .before .settle-offers .ensures .0), (λ z. both-ways (sym z)))
+
+settle-orders-requires : tie.Need-settle-orders-requires
+settle-orders-requires c κs =
+    let g = c .before .before .before .before .before .before .before .before .before .before .before .before .before .before .before .before .before .before .before .before .before .before .before .before .before .before .before .before .before .before .before .before .before .before .before .before .pre in
+    (g .0, g .1, g .2, g .3, g .4, c .before .before .before .before .before .before .before .before .before .before .before .before .before .settle-offers .ensures .0 .settled (not-false _ (c .before .before .before .before .if1 .left)) .waiting)
+
+same-length-5 : tie.Need-same-length-5
+same-length-5 c = c .before .before .before .before .before .before .before .before .settle-orders .kept .1 .1 .1 .1 .0 ∙ c .before .before .before .before .before .before .before .before .before .before .before .before .before .before .before .before .before .before .before .before .before .before .settle-offers .kept .1 .1 .0 ∙ c .before .before .before .before .before .before .before .before .before .before .before .before .before .before .before .before .before .before .before .before .before .before .before .before .before .before .before .before .before .before .before .add-period-orders .kept .1 .1 .1 .1 .0 ∙ c .before .before .before .before .before .before .before .before .before .before .before .before .before .before .before .before .before .before .before .before .before .before .before .before .before .before .before .before .before .before .before .before .before .before .before .before .add-period-offers .kept .1 .1 .0
+
+same-length-6 : tie.Need-same-length-6
+same-length-6 c = search needs
+
+same-length-7 : tie.Need-same-length-7
+same-length-7 c = search needs
+
+same-length-8 : tie.Need-same-length-8
+same-length-8 c = search needs
+
+returns-2 : tie.Need-returns-2
 returns-2 c =
-    let a = c .before .before .before .before .before .before .before .before .args in
-    let g = c .before .before .before .before .before .before .before .before .pre in
-    let l = c .before .loop in
-    past-ends (a .book .now) (a .p) (λ i. getD (a .raising .now) i 0) (λ i. getD (a .lowering .now) i 0) (a .whole .now) (a .volume .now) (l .whole) (l .volume) (l .k) (l .inv .1) (g .0) (l .inv .0) (g .4) (g .5) (omega arith)
+    let a = c .before .before .before .before .before .before .before .before .before .before .before .before .before .before .before .before .before .before .before .before .before .before .before .before .before .before .before .before .before .before .before .before .before .before .before .before .before .before .before .before .before .before .before .before .before .args in
+    let g = c .before .before .before .before .before .before .before .before .before .before .before .before .before .before .before .before .before .before .before .before .before .before .before .before .before .before .before .before .before .before .before .before .before .before .before .before .before .before .before .before .before .before .before .before .before .pre in
+    let o = c .before .before .before .before .before .before .before .before .before .before .before .before .before .before .before .before .before .before .before .before .before .before .before .before .before .before .before .before .before .before .before .before .before .before .before .before .add-period-offers .ensures in
+    let r = c .before .before .before .before .before .before .before .before .before .before .before .before .before .before .before .before .before .before .before .before .before .before .before .before .before .before .before .before .before .before .before .add-period-orders .ensures in
+    let b = open-below (a .book .now) (a .p) (a .raising .now) _ (a .lowering .now) _ _ (g .5 .up) (g .5 .down) o r in
+    let f = open-waits _ _ _ _ (r .raising .long ∙ o .long ∙ g .5 .raising) (r .lowering .long ∙ g .5 .lowering) (g .6) (g .7) (b .0) (b .1) (g .8) (g .9) in
+    let u = open-up (a .book .now) (a .p) (a .raising .now) _ (a .lowering .now) _ _ (g .5 .up) (g .5 .down) o r in
+    let d = open-down (a .book .now) (a .p) (a .raising .now) _ (a .lowering .now) _ _ (g .5 .up) (g .5 .down) o r in
+    let t = not-false _ (c .before .before .before .before .before .before .before .before .before .before .before .before .before .if1 .left) in
+    let p = c .before .before .before .before .before .before .before .before .before .before .before .before .before .before .before .before .before .before .before .before .before .before .settle-offers .ensures in
+    let q = c .before .before .before .before .before .before .before .before .settle-orders .ensures in
+    open-ends (a .book .now) (a .p) _ _ _ _ (g .0 .readable .unitsTo) u d f _ _ _ _ _ (settles-both _ _ _ _ _ _ _ _ _ _ (p .0 .settled t) _ _ _ _ _ (q .0)) (λ z j h. settling-still _ _ _ _ _ _ _ _ _ _ (p .0 .settled t) _ _ _ _ _ (q .0) z _ (p .1 t j h)) (q .1)
 
 pub add-open-spec : {M : Type 1} → statement M
 add-open-spec =
     tie.close
     (tie.spec
-    Inv-loop
-    μ-loop
-    shared-slice-read-n
-    loop-holds
-    mul-add-cell
-    shared-slice-read-add-cell
-    mul-add-cell-2
-    shared-slice-read-add-cell-2
-    add-cell-requires
+    add-period-offers-requires
+    add-period-orders-requires
+    settle-offers-requires
     same-length
     same-length-2
-    returns
-    add-k
-    loop-less
-    loop-again
     same-length-3
     same-length-4
+    returns
+    settle-orders-requires
+    same-length-5
+    same-length-6
+    same-length-7
+    same-length-8
     returns-2)

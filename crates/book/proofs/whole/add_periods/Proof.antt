@@ -1,4 +1,4 @@
--- `add_periods`: each period passed holds, and its sums are added.
+-- `add_periods`: each period passed holds, its sums are added, and nothing of it waits.
 use Prim.Native.Nat.{ℕ, _≤_, _-_, _*_}
 use mathlib.Core.Path.{_≡_, refl, _∙_}
 use mathlib.Core.Bool.{true}
@@ -6,17 +6,18 @@ use native.Mathlib.Omega.{arith}
 use lib.ListN.{length}
 use borrow.Author.Tests.{not-true, not-false}
 use Rattle.book.specs.Layout.{word}
-use Rattle.book.specs.Whole.{PeriodsDone}
+use Rattle.book.specs.Whole.{PeriodsDone, NoneWaits}
 use Rattle.book.proofs.UnitsFitLaws.{periods-none, periods-more, periods-below, periods-fail, periods-end}
+use Rattle.book.proofs.SettleLaws.{none-zeros}
 use borrow.Author.Needs.{needs}
 use Rattle.book.proofs.whole.add_periods.Statement.{statement}
 use Rattle.book.proofs.whole.add_periods.Tie as tie
 
 abbrev Inv-loop : tie.InvT-loop
-Inv-loop book last before whole₀ volume₀ top p₀ whole volume p = (p ≤ 24 * word book 0) × (length whole ≡ length whole₀) × (length volume ≡ length volume₀) × (PeriodsDone book p whole₀ volume₀ true whole volume)
+Inv-loop book last before whole₀ volume₀ top raising₀ lowering₀ p₀ whole volume raising lowering p = (p ≤ 24 * word book 0) × (length whole ≡ length whole₀) × (length volume ≡ length volume₀) × (PeriodsDone book p whole₀ volume₀ true whole volume) × (NoneWaits raising lowering)
 
 abbrev μ-loop : tie.MeasureT-loop
-μ-loop book last before whole₀ volume₀ top p₀ whole volume p = 24 * word book 0 - p
+μ-loop book last before whole₀ volume₀ top raising₀ lowering₀ p₀ whole volume raising lowering p = 24 * word book 0 - p
 
 shared-slice-read-top : tie.Need-shared-slice-read-top Inv-loop μ-loop
 shared-slice-read-top c = search needs
@@ -25,17 +26,22 @@ mul-top : tie.Need-mul-top Inv-loop μ-loop
 mul-top c = search needs
 
 loop-holds : tie.Need-loop-holds Inv-loop μ-loop
-loop-holds c = (search needs, refl, refl, periods-none _ _ _)
+loop-holds c = (search needs, refl, refl, periods-none _ _ _, none-zeros)
+
+slice-aggregate-add-period : tie.Need-slice-aggregate-add-period Inv-loop μ-loop
+slice-aggregate-add-period c = search needs
+
+slice-aggregate-add-period-2 : tie.Need-slice-aggregate-add-period-2 Inv-loop μ-loop
+slice-aggregate-add-period-2 c = search needs
 
 add-period-requires : tie.Need-add-period-requires Inv-loop μ-loop
 add-period-requires c κs =
-    let a = c .before .before .before .before .before .before .before .before .before .before .args in
-    let g = c .before .before .before .before .before .before .before .before .before .before .pre in
-    let l = c .before .before .before .loop in
-    let d = l .inv .3 in
+    let a = c .before .before .before .before .before .before .before .before .before .before .before .before .args in
+    let g = c .before .before .before .before .before .before .before .before .before .before .before .before .pre in
+    let l = c .before .before .before .before .before .loop in
     let r = g .0 .readable .daysTo in
-    let b = periods-below (a .book .now) (a .whole .now) (a .volume .now) (l .whole) (l .volume) (l .p) d (omega arith) (g .6) (g .7) in
-    (g .0, omega arith, g .1, g .2, g .3, l .inv .1 ∙ g .4, l .inv .2 ∙ g .5, b .0, b .1)
+    let b = periods-below (a .book .now) (a .whole .now) (a .volume .now) (l .whole) (l .volume) (l .p) (l .inv .3) (omega arith) (g .6) (g .7) in
+    (g .0, omega arith, g .1, g .2, g .3, l .inv .4, l .inv .1 ∙ g .4, l .inv .2 ∙ g .5, b .0, b .1)
 
 same-length : tie.Need-same-length Inv-loop μ-loop
 same-length c = search needs
@@ -44,9 +50,7 @@ same-length-2 : tie.Need-same-length-2 Inv-loop μ-loop
 same-length-2 c = search needs
 
 returns : tie.Need-returns Inv-loop μ-loop
-returns c =
-    let l = c .before .before .before .before .before .before .before .before .before .loop in
-    periods-fail _ _ _ _ _ _ _ _ (l .p) _ (omega arith) (not-true _ (c .if1 .taken)) (c .before .before .before .before .before .add-period .ensures)
+returns c = let l = c .before .before .before .before .before .before .before .before .before .before .before .before .before .loop in periods-fail _ _ _ _ _ _ _ _ (l .p) _ (omega arith) (not-true _ (c .if1 .taken)) (c .before .before .before .before .before .before .before .add-period .ensures .0)
 
 add-p : tie.Need-add-p Inv-loop μ-loop
 add-p c = search needs
@@ -56,10 +60,10 @@ loop-less c = search needs
 
 loop-again : tie.Need-loop-again Inv-loop μ-loop
 loop-again c =
-    let l = c .before .before .before .before .before .before .before .before .before .loop in
-    let d = c .before .before .before .before .before .add-period .ensures in
-    let t = not-false _ (c .if1 .left) in
-    (search needs, d .whole t .long ∙ l .inv .1, d .volume t .long ∙ l .inv .2, periods-more _ _ _ _ _ (l .p) (l .inv .3) _ _ _ t d)
+    let l = c .before .before .before .before .before .before .before .before .before .before .before .before .before .loop in
+    let d = c .before .before .before .before .before .before .before .add-period .ensures in
+    let t = not-false (c .before .before .before .before .before .before .before .add-period .result) (c .if1 .left) in
+    (search needs, d .0 .whole t .long ∙ l .inv .1, d .0 .volume t .long ∙ l .inv .2, periods-more _ _ _ _ _ (l .p) (l .inv .3) _ _ _ t (d .0), d .1 t)
 
 same-length-3 : tie.Need-same-length-3 Inv-loop μ-loop
 same-length-3 c = search needs
@@ -68,9 +72,7 @@ same-length-4 : tie.Need-same-length-4 Inv-loop μ-loop
 same-length-4 c = search needs
 
 returns-2 : tie.Need-returns-2 Inv-loop μ-loop
-returns-2 c =
-    let l = c .before .loop in
-    periods-end _ _ _ _ _ (l .p) _ (omega arith) (l .inv .3)
+returns-2 c = let l = c .before .loop in periods-end _ _ _ _ _ (l .p) _ (omega arith) (l .inv .3)
 
 pub add-periods-spec : {M : Type 1} → statement M
 add-periods-spec =
@@ -81,6 +83,8 @@ add-periods-spec =
     shared-slice-read-top
     mul-top
     loop-holds
+    slice-aggregate-add-period
+    slice-aggregate-add-period-2
     add-period-requires
     same-length
     same-length-2

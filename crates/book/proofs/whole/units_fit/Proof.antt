@@ -1,24 +1,11 @@
--- `units_fit`: the orders linked, the periods passed, and then the sums.
+-- `units_fit`: the periods passed, and then the sums.
 use mathlib.Core.Path.{refl, sym, _∙_}
-use native.Mathlib.Omega.{arith}
 use lib.ListN.{replicate}
 use borrow.Author.Tests.{not-true, not-false}
-use Rattle.book.proofs.ShareLaws.{order-words}
 use Rattle.book.proofs.UnitsFitLaws.{zeros-below, units-fail, units-by-sums}
 use borrow.Author.Needs.{needs}
 use Rattle.book.proofs.whole.units_fit.Statement.{statement}
 use Rattle.book.proofs.whole.units_fit.Tie as tie
-
-slice-aggregate-link-orders : tie.Need-slice-aggregate-link-orders
-slice-aggregate-link-orders c = search needs
-
-slice-aggregate-link-orders-2 : tie.Need-slice-aggregate-link-orders-2
-slice-aggregate-link-orders-2 c = search needs
-
-link-orders-requires : tie.Need-link-orders-requires
-link-orders-requires c κs =
-    let g = c .before .before .before .pre in
-    (g, omega arith, refl, zeros-below 744 0, λ k h. let d = g .readable .daysTo in omega (arith, order-words _ k g h .period))
 
 slice-aggregate-add-periods : tie.Need-slice-aggregate-add-periods
 slice-aggregate-add-periods c = search needs
@@ -26,19 +13,11 @@ slice-aggregate-add-periods c = search needs
 slice-aggregate-add-periods-2 : tie.Need-slice-aggregate-add-periods-2
 slice-aggregate-add-periods-2 c = search needs
 
-slice-aggregate-add-periods-3 : tie.Need-slice-aggregate-add-periods-3
-slice-aggregate-add-periods-3 c = search needs
-
-slice-aggregate-add-periods-4 : tie.Need-slice-aggregate-add-periods-4
-slice-aggregate-add-periods-4 c = search needs
-
 add-periods-requires : tie.Need-add-periods-requires
-add-periods-requires c κs =
-    let t = c .before .before .before .before .before .before .link-orders in
-    (c .before .before .before .before .before .before .before .before .before .before .pre, t .kept .1 .1 .0, t .kept .1 .1 .1 .0, t .ensures, refl, refl, zeros-below 64 0, zeros-below 64 0)
+add-periods-requires c κs = let g = c .before .before .before .before .before .pre in (g .0, g .1, g .2, g .3, refl, refl, zeros-below 64 0, zeros-below 64 0)
 
 returns : tie.Need-returns
-returns c = units-fail _ (c .before .before .before .before .before .before .before .before .before .before .before .before .before .before .pre) (replicate 64 0) (replicate 64 0) _ _ (zeros-below 64 0) (zeros-below 64 0) _ (not-true _ (c .if1 .taken)) (c .before .before .before .add-periods .ensures)
+returns c = units-fail _ (c .before .before .before .before .before .before .before .before .before .pre .0) (replicate 64 0) (replicate 64 0) _ _ (zeros-below 64 0) (zeros-below 64 0) _ (not-true _ (c .if1 .taken)) (c .before .before .before .add-periods .ensures)
 
 slice-aggregate-all-sums-fit : tie.Need-slice-aggregate-all-sums-fit
 slice-aggregate-all-sums-fit c = search needs
@@ -50,19 +29,14 @@ all-sums-fit-requires : tie.Need-all-sums-fit-requires
 all-sums-fit-requires c κs = search needs
 
 returns-2 : tie.Need-returns-2
-returns-2 c = c .all-sums-fit .ensures ∙ units-by-sums _ (c .before .before .before .before .before .before .before .before .before .before .before .before .before .before .before .before .before .pre) (replicate 64 0) (replicate 64 0) _ _ (zeros-below 64 0) (zeros-below 64 0) _ (not-false _ (c .before .before .before .if1 .left)) (c .before .before .before .before .before .before .add-periods .ensures)
+returns-2 c = c .all-sums-fit .ensures ∙ units-by-sums _ (c .before .before .before .before .before .before .before .before .before .before .before .before .pre .0) (replicate 64 0) (replicate 64 0) _ _ (zeros-below 64 0) (zeros-below 64 0) _ (not-false _ (c .before .before .before .if1 .left)) (c .before .before .before .before .before .before .add-periods .ensures)
 
 pub units-fit-spec : {M : Type 1} → statement M
 units-fit-spec =
     tie.close
     (tie.spec
-    slice-aggregate-link-orders
-    slice-aggregate-link-orders-2
-    link-orders-requires
     slice-aggregate-add-periods
     slice-aggregate-add-periods-2
-    slice-aggregate-add-periods-3
-    slice-aggregate-add-periods-4
     add-periods-requires
     returns
     slice-aggregate-all-sums-fit

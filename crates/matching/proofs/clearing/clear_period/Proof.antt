@@ -1,9 +1,7 @@
--- `clear_period`: orders that do not fit stay; a volume of 0 changes nothing; any other is traded.
-use mathlib.Core.Path.{refl, sym, _∙_}
-use native.Mathlib.Omega.{arith}
+-- `clear_period`: orders that do not fit stay; others are cleared.
+use mathlib.Core.Path.{sym, _∙_}
 use borrow.Author.Tests.{not-true, not-false}
-use Rattle.matching.proofs.FitLaws.{fit-gives}
-use Rattle.matching.proofs.StepLaws.{clears-unfit, clears-none}
+use Rattle.matching.proofs.StepLaws.{clears-unfit}
 use borrow.Author.Needs.{needs}
 use Rattle.matching.proofs.clearing.clear_period.Statement.{statement}
 use Rattle.matching.proofs.clearing.clear_period.Tie as tie
@@ -20,32 +18,8 @@ same-length-2 c = search needs
 returns : tie.Need-returns
 returns c = clears-unfit _ _ _ _ (sym (c .before .fits2 .ensures) ∙ not-true _ (c .if1 .taken))
 
-slice-aggregate-lay : tie.Need-slice-aggregate-lay
-slice-aggregate-lay c = search needs
-
-lay-requires : tie.Need-lay-requires
-lay-requires c κs =
-    let f = fit-gives _ _ _ (sym (c .before .before .before .fits2 .ensures) ∙ not-false _ (c .before .before .if1 .left)) in
-    (f .inside, f .few, f .few, f .rises)
-
-slice-aggregate-lay-2 : tie.Need-slice-aggregate-lay-2
-slice-aggregate-lay-2 c = search needs
-
-lay-requires-2 : tie.Need-lay-requires-2
-lay-requires-2 c κs =
-    let f = fit-gives _ _ _ (sym (c .before .before .before .before .before .before .before .fits2 .ensures) ∙ not-false _ (c .before .before .before .before .before .before .if1 .left)) in
-    (f .inside, f .few, f .few, f .rises)
-
-slice-aggregate-find-margins : tie.Need-slice-aggregate-find-margins
-slice-aggregate-find-margins c = search needs
-
-slice-aggregate-find-margins-2 : tie.Need-slice-aggregate-find-margins-2
-slice-aggregate-find-margins-2 c = search needs
-
-find-margins-requires : tie.Need-find-margins-requires
-find-margins-requires c κs =
-    let f = fit-gives _ _ _ (sym (c .before .before .before .before .before .before .before .before .before .before .before .before .fits2 .ensures) ∙ not-false _ (c .before .before .before .before .before .before .before .before .before .before .before .if1 .left)) in
-    (f .inside, f .few, record { period = c .before .before .before .before .before .before .before .before .before .before .before .before .before .before .before .before .before .args .period; bidsStand = c .before .before .before .before .before .before .before .before .lay .ensures; asksStand = c .before .before .before .before .lay2 .ensures; small = f .small })
+clear-fit-requires : tie.Need-clear-fit-requires
+clear-fit-requires c κs = sym (c .before .before .before .fits2 .ensures) ∙ not-false _ (c .before .before .if1 .left)
 
 same-length-3 : tie.Need-same-length-3
 same-length-3 c = search needs
@@ -54,28 +28,7 @@ same-length-4 : tie.Need-same-length-4
 same-length-4 c = search needs
 
 returns-2 : tie.Need-returns-2
-returns-2 c =
-    clears-none _ _ _ _ _ _ _ _ _ _ _ _ (sym (c .before .before .before .before .before .before .before .before .before .before .before .before .before .before .before .fits2 .ensures) ∙ not-false _ (c .before .before .before .before .before .before .before .before .before .before .before .before .before .before .if1 .left)) refl (c .before .before .before .before .before .before .before .before .before .before .before .lay .ensures) (c .before .before .before .before .before .before .before .lay2 .ensures) (c .before .before .find-margins .ensures) (c .if2 .taken)
-
-slice-aggregate-trade : tie.Need-slice-aggregate-trade
-slice-aggregate-trade c = search needs
-
-slice-aggregate-trade-2 : tie.Need-slice-aggregate-trade-2
-slice-aggregate-trade-2 c = search needs
-
-trade-requires : tie.Need-trade-requires
-trade-requires c κs =
-    let z = c .before .before .before .before .if2 .left in
-    (sym (c .before .before .before .before .before .before .before .before .before .before .before .before .before .before .before .before .before .before .before .fits2 .ensures) ∙ not-false _ (c .before .before .before .before .before .before .before .before .before .before .before .before .before .before .before .before .before .before .if1 .left), omega arith, c .before .before .before .before .before .before .before .before .before .before .before .before .before .before .before .lay .ensures, c .before .before .before .before .before .before .before .before .before .before .before .lay2 .ensures, c .before .before .before .before .before .before .find-margins .ensures)
-
-same-length-5 : tie.Need-same-length-5
-same-length-5 c = search needs
-
-same-length-6 : tie.Need-same-length-6
-same-length-6 c = search needs
-
-returns-3 : tie.Need-returns-3
-returns-3 c = c .before .before .before .before .trade .ensures
+returns-2 c = search needs
 
 pub clear-period-spec : {M : Type 1} → statement M
 clear-period-spec =
@@ -85,19 +38,7 @@ clear-period-spec =
     same-length
     same-length-2
     returns
-    slice-aggregate-lay
-    lay-requires
-    slice-aggregate-lay-2
-    lay-requires-2
-    slice-aggregate-find-margins
-    slice-aggregate-find-margins-2
-    find-margins-requires
+    clear-fit-requires
     same-length-3
     same-length-4
-    returns-2
-    slice-aggregate-trade
-    slice-aggregate-trade-2
-    trade-requires
-    same-length-5
-    same-length-6
-    returns-3)
+    returns-2)

@@ -1,0 +1,130 @@
+-- `crosses`: a buy against the lowest sell price, a sale against the highest buy price.
+use mathlib.Core.Path.{ap}
+use mathlib.Core.Bool.{not}
+use native.Mathlib.Omega.{arith}
+use Rattle.book.proofs.ShareLaws.{order-words}
+use Rattle.book.proofs.TogetherLaws.{buy-crosses, buy-apart, sell-crosses, sell-apart, is-sale}
+use borrow.Author.Needs.{needs}
+use Rattle.book.proofs.pairs.crosses.Statement.{statement}
+use Rattle.book.proofs.pairs.crosses.Tie as tie
+
+mul-p : tie.Need-mul-p
+mul-p c = search needs
+
+add-p : tie.Need-add-p
+add-p c = search needs
+
+add-p-2 : tie.Need-add-p-2
+add-p-2 c = search needs
+
+mul-p-2 : tie.Need-mul-p-2
+mul-p-2 c = search needs
+
+shared-slice-read-p : tie.Need-shared-slice-read-p
+shared-slice-read-p c = search needs
+
+mul-price : tie.Need-mul-price
+mul-price c = search needs
+
+add-price : tie.Need-add-price
+add-price c = search needs
+
+add-price-2 : tie.Need-add-price-2
+add-price-2 c = search needs
+
+mul-price-2 : tie.Need-mul-price-2
+mul-price-2 c = search needs
+
+shared-slice-read-price : tie.Need-shared-slice-read-price
+shared-slice-read-price c = search needs
+
+mul-if1 : tie.Need-mul-if1
+mul-if1 c = search needs
+
+add-if1 : tie.Need-add-if1
+add-if1 c = search needs
+
+add-if1-2 : tie.Need-add-if1-2
+add-if1-2 c = search needs
+
+mul-if1-2 : tie.Need-mul-if1-2
+mul-if1-2 c = search needs
+
+shared-slice-read-if1 : tie.Need-shared-slice-read-if1
+shared-slice-read-if1 c = search needs
+
+mul-if2 : tie.Need-mul-if2
+mul-if2 c =
+    let a = c .before .before .before .before .args in
+    let g = c .before .before .before .before .pre in
+    omega (arith, order-words (a .book .now) (a .k) (g .0) (g .2) .period, g .0 .readable .daysTo)
+
+shared-slice-read-if2 : tie.Need-shared-slice-read-if2
+shared-slice-read-if2 c =
+    let a = c .before .before .before .before .before .args in
+    let g = c .before .before .before .before .before .pre in
+    omega (arith, order-words (a .book .now) (a .k) (g .0) (g .2) .period, g .0 .readable .daysTo)
+
+returns : tie.Need-returns
+returns c =
+    let a = c .before .before .before .before .before .before .args in
+    let g = c .before .before .before .before .before .before .pre in
+    ap not (buy-crosses (a .book .now) (g .0) (a .k) (g .2) (a .high .now) (a .low .now) (g .5) (g .1) (c .before .before .if1 .taken) (c .if2 .taken))
+
+returns-2 : tie.Need-returns-2
+returns-2 c =
+    let a = c .before .before .before .before .before .before .args in
+    let g = c .before .before .before .before .before .before .pre in
+    ap not (buy-apart (a .book .now) (g .0) (a .k) (g .2) (a .high .now) (a .low .now) (g .5) (c .before .before .if1 .taken) (c .if2 .left))
+
+mul-if3 : tie.Need-mul-if3
+mul-if3 c =
+    let a = c .before .before .before .before .args in
+    let g = c .before .before .before .before .pre in
+    omega (arith, order-words (a .book .now) (a .k) (g .0) (g .2) .period, g .0 .readable .daysTo)
+
+shared-slice-read-if3 : tie.Need-shared-slice-read-if3
+shared-slice-read-if3 c =
+    let a = c .before .before .before .before .before .args in
+    let g = c .before .before .before .before .before .pre in
+    omega (arith, order-words (a .book .now) (a .k) (g .0) (g .2) .period, g .0 .readable .daysTo)
+
+returns-3 : tie.Need-returns-3
+returns-3 c =
+    let a = c .before .before .before .before .before .before .args in
+    let g = c .before .before .before .before .before .before .pre in
+    ap not (sell-crosses (a .book .now) (g .0) (a .k) (g .2) (a .high .now) (a .low .now) (g .5) (is-sale (a .book .now) (g .0) (a .k) (g .2) (a .high .now) (a .low .now) (g .5) (c .before .before .if1 .left)) (c .if3 .taken))
+
+returns-4 : tie.Need-returns-4
+returns-4 c =
+    let a = c .before .before .before .before .before .before .args in
+    let g = c .before .before .before .before .before .before .pre in
+    ap not (sell-apart (a .book .now) (g .0) (a .k) (g .2) (a .high .now) (a .low .now) (g .5) (is-sale (a .book .now) (g .0) (a .k) (g .2) (a .high .now) (a .low .now) (g .5) (c .before .before .if1 .left)) (c .if3 .left))
+
+pub crosses-spec : {M : Type 1} → statement M
+crosses-spec =
+    tie.close
+    (tie.spec
+    mul-p
+    add-p
+    add-p-2
+    mul-p-2
+    shared-slice-read-p
+    mul-price
+    add-price
+    add-price-2
+    mul-price-2
+    shared-slice-read-price
+    mul-if1
+    add-if1
+    add-if1-2
+    mul-if1-2
+    shared-slice-read-if1
+    mul-if2
+    shared-slice-read-if2
+    returns
+    returns-2
+    mul-if3
+    shared-slice-read-if3
+    returns-3
+    returns-4)

@@ -1,0 +1,74 @@
+-- `clear_fit`: a volume of 0 changes nothing; any other is traded.
+use mathlib.Core.Path.{refl}
+use Rattle.matching.proofs.FitLaws.{fit-gives}
+use Rattle.matching.proofs.StepLaws.{clears-none}
+use borrow.Author.Needs.{needs}
+use Rattle.matching.proofs.clearing.clear_fit.Statement.{statement}
+use Rattle.matching.proofs.clearing.clear_fit.Tie as tie
+
+slice-aggregate-lay : tie.Need-slice-aggregate-lay
+slice-aggregate-lay c = search needs
+
+lay-requires : tie.Need-lay-requires
+lay-requires c κs = let f = fit-gives _ _ _ (c .before .before .before .before .pre) in (f .inside, f .few, f .few, f .rises)
+
+slice-aggregate-lay-2 : tie.Need-slice-aggregate-lay-2
+slice-aggregate-lay-2 c = search needs
+
+lay-requires-2 : tie.Need-lay-requires-2
+lay-requires-2 c κs = let f = fit-gives _ _ _ (c .before .before .before .before .before .before .before .before .pre) in (f .inside, f .few, f .few, f .rises)
+
+slice-aggregate-find-margins : tie.Need-slice-aggregate-find-margins
+slice-aggregate-find-margins c = search needs
+
+slice-aggregate-find-margins-2 : tie.Need-slice-aggregate-find-margins-2
+slice-aggregate-find-margins-2 c = search needs
+
+find-margins-requires : tie.Need-find-margins-requires
+find-margins-requires c κs =
+    let f = fit-gives _ _ _ (c .before .before .before .before .before .before .before .before .before .before .before .before .before .pre) in
+    (f .inside, f .few, record { period = c .before .before .before .before .before .before .before .before .before .before .before .before .before .args .period; bidsStand = c .before .before .before .before .before .before .before .before .lay .ensures; asksStand = c .before .before .before .before .lay2 .ensures; small = f .small })
+
+same-length : tie.Need-same-length
+same-length c = search needs
+
+returns : tie.Need-returns
+returns c = clears-none _ _ _ _ _ _ _ _ _ _ _ _ (c .before .before .before .before .before .before .before .before .before .before .before .before .before .before .before .before .pre) refl (c .before .before .before .before .before .before .before .before .before .before .before .lay .ensures) (c .before .before .before .before .before .before .before .lay2 .ensures) (c .before .before .find-margins .ensures) (c .if1 .taken)
+
+slice-aggregate-trade : tie.Need-slice-aggregate-trade
+slice-aggregate-trade c = search needs
+
+slice-aggregate-trade-2 : tie.Need-slice-aggregate-trade-2
+slice-aggregate-trade-2 c = search needs
+
+trade-requires : tie.Need-trade-requires
+trade-requires c κs = search needs
+
+same-length-2 : tie.Need-same-length-2
+same-length-2 c = search needs
+
+same-length-3 : tie.Need-same-length-3
+same-length-3 c = search needs
+
+returns-2 : tie.Need-returns-2
+returns-2 c = search needs
+
+pub clear-fit-spec : {M : Type 1} → statement M
+clear-fit-spec =
+    tie.close
+    (tie.spec
+    slice-aggregate-lay
+    lay-requires
+    slice-aggregate-lay-2
+    lay-requires-2
+    slice-aggregate-find-margins
+    slice-aggregate-find-margins-2
+    find-margins-requires
+    same-length
+    returns
+    slice-aggregate-trade
+    slice-aggregate-trade-2
+    trade-requires
+    same-length-2
+    same-length-3
+    returns-2)
