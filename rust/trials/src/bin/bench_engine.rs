@@ -62,8 +62,9 @@ fn main() {
 /// Which calls miss which aim.
 fn aims(sizes: &[Size], matched: &[Matched], text: &mut String) {
     let names: Vec<&str> = sizes[0].calls.iter().map(|&(name, _)| name).collect();
-    let above = |aim: f64, ratio: fn(&Times) -> f64| {
-        let missed = |place: usize| sizes.iter().any(|size| ratio(&size.calls[place].1) > aim);
+    let above = |units: u64, aim: f64, ratio: fn(&Times) -> f64| {
+        let of_units = || sizes.iter().filter(move |size| size.units == units);
+        let missed = |place: usize| of_units().any(|size| ratio(&size.calls[place].1) > aim);
         (0..names.len()).filter(|&place| missed(place)).map(|place| names[place]).collect()
     };
     let mut aim = |name: &str, missed: Vec<&str>| {
@@ -74,10 +75,17 @@ fn aims(sizes: &[Size], matched: &[Matched], text: &mut String) {
         };
         writeln!(text, "- {name}: {end}.").unwrap();
     };
-    aim("No call above the second engine", above(1.0, beside_second));
-    let mut no_rows: Vec<&str> = above(3.0, beside_floor);
-    no_rows.retain(|&name| name != "take");
-    aim("None above three times the floor where it moves no rows", no_rows);
+    for units in UNITS {
+        let name = format!("No call above the second engine, units {units}");
+        aim(&name, above(units, 1.0, beside_second));
+    }
+    for units in UNITS {
+        let mut no_rows: Vec<&str> = above(units, 3.0, beside_floor);
+        no_rows.retain(|&name| name != "take");
+        let name =
+            format!("None above three times the floor where it moves no rows, units {units}");
+        aim(&name, no_rows);
+    }
     let large = matched.iter().filter(|call| call.whole.rows > 200);
     let slow = large.clone().filter(|call| beside_second(&call.whole) > 1.5);
     aim(
@@ -143,24 +151,25 @@ fn micros(time: f64) -> String {
     }
 }
 
-/// The largest ratio of each call to the second engine and to the floor, where, and how often an aim is missed.
+/// The largest ratio of each call to the second engine and to the floor by the number of units, and where.
 fn worst(sizes: &[Size], text: &mut String) {
-    let columns =
-        ["call", "× second, at most", "sizes above 1 ×", "× floor, at most", "sizes above 3 ×"];
-    let title =
-        format!("Largest ratios over {} sizes; in brackets days, units and orders.", sizes.len());
-    head(&title, &columns, text);
+    let mut columns = vec!["call".to_string()];
+    for beside in ["second", "floor"] {
+        columns.extend(UNITS.map(|units| format!("× {beside}, units {units}")));
+    }
+    let columns: Vec<&str> = columns.iter().map(|name| &**name).collect();
+    head("Largest ratios; in brackets days and orders.", &columns, text);
     for (place, &(name, _)) in sizes[0].calls.iter().enumerate() {
-        let ratio = |of: fn(&Times) -> f64, aim: f64| {
+        write!(text, "| {name} |").unwrap();
+        for of in [beside_second, beside_floor] {
             let ratio = |size: &Size| of(&size.calls[place].1);
-            let largest = |one: &&Size, other: &&Size| ratio(one).total_cmp(&ratio(other));
-            let at = sizes.iter().max_by(largest).unwrap();
-            let missed = sizes.iter().filter(|size| ratio(size) > aim).count();
-            format!("{:.2} ({}, {}, {}) | {missed}", ratio(at), at.days, at.units, at.orders)
-        };
-        let second = ratio(beside_second, 1.0);
-        let floor = ratio(beside_floor, 3.0);
-        writeln!(text, "| {name} | {second} | {floor} |").unwrap();
+            for units in UNITS {
+                let of_units = sizes.iter().filter(|size| size.units == units);
+                let at = of_units.max_by(|one, other| ratio(one).total_cmp(&ratio(other))).unwrap();
+                write!(text, " {:.2} ({}, {}) |", ratio(at), at.days, at.orders).unwrap();
+            }
+        }
+        writeln!(text).unwrap();
     }
 }
 
