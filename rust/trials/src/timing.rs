@@ -80,8 +80,18 @@ fn spent<T>(what: impl FnOnce() -> T) -> Duration {
 
 /// The sum of all words.
 #[inline(never)]
+#[inline(never)]
 fn read(memory: &[u64]) -> u64 {
-    memory.iter().fold(0, |sum, &word| sum.wrapping_add(word))
+    // In lanes, and never inlined: else what the loop costs hangs on where it stands.
+    let mut lanes = [0u64; 16];
+    let chunks = memory.chunks_exact(lanes.len());
+    let rest = chunks.remainder();
+    for chunk in chunks {
+        for (lane, word) in lanes.iter_mut().zip(chunk) {
+            *lane = lane.wrapping_add(*word);
+        }
+    }
+    lanes.iter().chain(rest).fold(0, |sum, &word| sum.wrapping_add(word))
 }
 
 /// Both engines answer the same and leave the same book; gives the count of rows.

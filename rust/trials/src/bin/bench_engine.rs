@@ -12,8 +12,9 @@ const DAYS: [u64; 3] = [1, 7, 31];
 const UNITS: [u64; 3] = [1, 16, 64];
 const ORDERS: [u64; 3] = [0, 64, 255];
 
-/// How often all is timed.
-const PASSES: usize = 3;
+/// How often each case is timed: of the many sizes, and of the others.
+const PASSES: usize = 6;
+const MORE_PASSES: usize = 12;
 
 /// What stands around the tables in the page.
 const MARKS: [&str; 2] = ["<!-- tables of bench_engine -->\n", "<!-- end of tables -->\n"];
@@ -34,10 +35,6 @@ struct Matched {
 }
 
 impl Matched {
-    fn new(name: String, book: &Book, call: &Call) -> Matched {
-        Matched { name, whole: passes(book, call), check: passes(book, &check_alone()) }
-    }
-
     /// The engine's and the second engine's time without the check.
     fn less_check(&self) -> [f64; 2] {
         let Matched { whole, check, .. } = self;
@@ -104,36 +101,41 @@ fn beside_floor(times: &Times) -> f64 {
     times.engine / times.floor
 }
 
-/// All sizes, in several passes, so that one disturbance spoils no cell.
-fn sizes() -> Vec<Size> {
-    let mut sizes = one_pass();
-    for _ in 1..PASSES {
-        for (size, again) in sizes.iter_mut().zip(one_pass()) {
-            for ((_, times), (_, more)) in size.calls.iter_mut().zip(again.calls) {
-                *times = times.least(more);
-            }
+/// The times of each case. All are timed in turn, several times over, so that one disturbance spoils none.
+fn in_turn(cases: &[(Book, Call)], passes: usize) -> Vec<Times> {
+    let pass = || cases.iter().map(|(book, call)| times(book, call));
+    let mut least: Vec<Times> = pass().collect();
+    for _ in 1..passes {
+        for (times, again) in least.iter_mut().zip(pass()) {
+            *times = times.least(again);
         }
     }
-    sizes
+    least
 }
 
-fn one_pass() -> Vec<Size> {
-    let mut sizes = Vec::new();
+/// Each call at each size.
+fn sizes() -> Vec<Size> {
+    let (mut sizes, mut cases) = (Vec::new(), Vec::new());
     for days in DAYS {
         for units in UNITS {
             for orders in ORDERS {
-                let calls = each_call(days, units, orders).into_iter();
-                let calls = calls.map(|(name, book, call)| (name, times(&book, &call))).collect();
-                sizes.push(Size { days, units, orders, calls });
+                let (mut names, first) = (Vec::new(), cases.len());
+                for (name, book, call) in each_call(days, units, orders) {
+                    names.push(name);
+                    cases.push((book, call));
+                }
+                sizes.push((days, units, orders, names, first));
             }
         }
     }
-    sizes
-}
-
-/// The times of one call, in several passes.
-fn passes(book: &Book, call: &Call) -> Times {
-    (1..PASSES).fold(times(book, call), |least, _| least.least(times(book, call)))
+    let times = in_turn(&cases, PASSES);
+    let with_times = |(days, units, orders, names, first): (u64, u64, u64, Vec<_>, usize)| Size {
+        days,
+        units,
+        orders,
+        calls: names.into_iter().zip(times[first..].iter().copied()).collect(),
+    };
+    sizes.into_iter().map(with_times).collect()
 }
 
 /// A table's head.
@@ -190,10 +192,9 @@ fn calls(sizes: &[Size], text: &mut String) {
 
 /// Orders that meet many counterparts, and clears of many orders.
 fn matched() -> Vec<Matched> {
-    let mut matched = Vec::new();
+    let mut cases = Vec::new();
     for sells in [16, 64, 255] {
-        let name = format!("order that meets {sells}");
-        matched.push(Matched::new(name, &waiting(sells), &sweep(sells)));
+        cases.push((format!("order that meets {sells}"), waiting(sells), sweep(sells)));
     }
     let manners = [
         ("in one period", 1, false),
@@ -204,10 +205,19 @@ fn matched() -> Vec<Matched> {
         for orders in [16, 64, 256] {
             let name = format!("clear of {orders} {manner}");
             let book = crossing(orders, periods, one_price);
-            matched.push(Matched::new(name, &book, &Call::Clear { lent: ROWS_LENT }));
+            cases.push((name, book, Call::Clear { lent: ROWS_LENT }));
         }
     }
-    matched
+    let (mut names, mut pairs) = (Vec::new(), Vec::new());
+    for (name, book, call) in cases {
+        names.push(name);
+        pairs.push((book.clone(), call));
+        pairs.push((book, check_alone()));
+    }
+    let times = in_turn(&pairs, MORE_PASSES);
+    let with_times =
+        |(name, pair): (String, &[Times])| Matched { name, whole: pair[0], check: pair[1] };
+    names.into_iter().zip(times.chunks(2)).map(with_times).collect()
 }
 
 /// A line for each of them, with and without the check of its book.
@@ -239,12 +249,14 @@ fn matching(matched: &[Matched], text: &mut String) {
 fn growth(text: &mut String) {
     let title = "How the check of the book grows, in nanoseconds.";
     head(title, &["for each", "engine", "second"], text);
-    let check = |book: &Book| passes(book, &check_alone());
-    let (one, many) = (check(&listed(31, 1, 0)), check(&listed(31, 64, 0)));
+    let mut books = vec![listed(1, 1, 0), listed(31, 1, 0), listed(31, 64, 0), listed(31, 64, 8)];
+    books.extend(ORDERS.map(|orders| spread(1, 64, orders)));
+    let cases: Vec<_> = books.into_iter().map(|book| (book, check_alone())).collect();
+    let times = in_turn(&cases, MORE_PASSES);
+    let [day, one, many, offers, none, some, most] = times[..] else { unreachable!() };
     line("unit and period", one, many, 63 * 744, text);
-    line("period, whatever the units", check(&listed(1, 1, 0)), one, 30 * 24, text);
-    line("offer and period", many, check(&listed(31, 64, 8)), 8 * 744, text);
-    let [none, some, most] = ORDERS.map(|orders| check(&spread(1, 64, orders)));
+    line("period, whatever the units", day, one, 30 * 24, text);
+    line("offer and period", many, offers, 8 * 744, text);
     line("order to 64", none, some, 64, text);
     line("order past 64", some, most, 255 - 64, text);
 }
