@@ -7,11 +7,11 @@ use native.Mathlib.Omega.{arith}
 use native.Mathlib.Decide.{ℕ-discrete}
 use lib.ListN.{length}
 use lib.Dec.{eqb}
-use borrow.Author.Tests.{leb-false, eqb-true, eq-eqb, ne-eqb, not-false}
+use borrow.Author.Tests.{leb-false, eqb-true, eq-eqb, ne-eqb, not-false, not-true}
 use Rattle.measures.specs.Ranges.{mostEnergy}
 use Rattle.measures.specs.Sharing.{total}
 use Rattle.measures.proofs.RangeLaws.{In, within}
-use Rattle.measures.proofs.ListLaws.{and-left, and-right, not-holds}
+use Rattle.measures.proofs.ListLaws.{and-left, and-right}
 use Rattle.limits.specs.Units.{periods, generator}
 use Rattle.book.specs.Book.{OpenOffer, Book, mostOffers, mostNumbers, known, unitOf, nextNumber}
 use Rattle.book.specs.Fit.{Declaration, nothing}
@@ -76,7 +76,7 @@ module _ (b : Book) (unit partner price : ℕ) (amounts : List ℕ) where
           record {
             partner = within 1 (length (b .units)) partner (second-passed (eqb partner 0) (known b partner) (t .1 .1 .0) (ne-eqb _ _ n));
             sells = and-left g l both;
-            buys = not-holds _ (and-right g l both);
+            buys = not-true _ (and-right g l both);
           }
 
   pub offering-sound : sound b ≡ true → sound (offering b unit partner price amounts .book) ≡ true

@@ -9,7 +9,7 @@ use borrow.Author.Tests.{eq-eqb, ne-eqb, eqb-true, ltb-true, lt-ltb}
 use lib.ListN.{length, getD}
 use lib.Dec.{eqb, ltb}
 use Rattle.measures.specs.Lists.{every, all}
-use Rattle.measures.proofs.ListLaws.{and-true, and-left, and-right, or-left, or-right, or-other, not-both, not-holds, not-fails, false-by, all-at, all-by, every-at, every-by}
+use Rattle.measures.proofs.ListLaws.{and-true, and-left, and-right, or-left, or-right, or-other, not-both, not-fails, false-by, all-at, all-by, every-at, every-by}
 use Rattle.matching.specs.Orders.{Order as OpenOrder, buys, sells}
 use Rattle.matching.specs.Memory.{orderAt, ordersIn, noOrder}
 use Rattle.matching.proofs.OrderLaws.{orders-length, orders-at}

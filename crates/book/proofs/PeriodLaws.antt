@@ -8,7 +8,7 @@ use lib.ListN.{getD}
 use lib.Dec.{leb}
 use borrow.Author.Tests.{le-leb, lt-leb, leb-true}
 use Rattle.measures.specs.Lists.{sum, all}
-use Rattle.measures.proofs.ListLaws.{false-by, not-both, and-left, and-right, all-none, all-more, all-at, all-fails, sum-none, sum-more}
+use Rattle.measures.proofs.ListLaws.{both-ways, false-by, not-both, and-left, and-right, all-none, all-more, all-at, all-fails, sum-none, sum-more}
 use Rattle.limits.specs.Limits.{Answer, given, refused, hourOf, hourLimit, limitsAt}
 use Rattle.limits.specs.declared.Limits.{Limits}
 use Rattle.limits.specs.Answers.{answerOf}
@@ -55,6 +55,12 @@ pub period-passed : (a b : Bool) (r : ℕ) → r ≡ periodMisfit a b → r ≤ 
 period-passed true true r e h = (refl, refl)
 period-passed true false r e h = absurd (omega arith)
 period-passed false b r e h = absurd (omega arith)
+
+-- and one that did not
+pub period-failed : (a b : Bool) (r : ℕ) → r ≡ periodMisfit a b → 0 < r → a ≡ true → b ≡ true → ⊥
+period-failed true true r e h f g = omega arith
+period-failed true false r e h f g = both-ways (sym g)
+period-failed false b r e h f g = both-ways (sym f)
 
 -- the limits over the term
 module _ (m : List ℕ) (k : ℕ) (r : Ranged m) (h : k < word m 5) where

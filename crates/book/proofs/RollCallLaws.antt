@@ -9,7 +9,7 @@ use lib.ListN.{length, getD, drop, length-map, length-append}
 use lib.Dec.{eqb}
 use Rattle.measures.specs.Lists.{keep}
 use Rattle.measures.proofs.ListLaws.{cond-case}
-use Rattle.matching.specs.Orders.{Order as OpenOrder, Row, leaving}
+use Rattle.matching.specs.Orders.{Order as OpenOrder, Row, leaving, orderWith}
 use Rattle.matching.specs.Memory.{ordersIn, written}
 use Rattle.matching.specs.Rolling.{Match, Met, meet, matches, counterparts, candidate, aheadFor, matchRow}
 use Rattle.matching.proofs.EachLaws.{Each, Has, each-at, each-has, has-each}
@@ -122,8 +122,8 @@ module _ (m rows : List ℕ) (u d p price q : ℕ) (e : soundIn m ≡ true) (z :
           let v = days-held in
           record { period = omega arith; sellerFrom = t .0 .0; sellerTo = omega arith; buyerFrom = t .1 .0; buyerTo = omega arith; quantity = omega arith }
 
-  module _ (x rows′ : List ℕ) (left count : ℕ) (h : Rolled m x rows rows′ (record { number = word m 4 + 1; unit = u; direction = d; period = p; price = price; quantity = q }) left count) where
-    met-is : meet (record { number = word m 4 + 1; unit = u; direction = d; period = p; price = price; quantity = q }) (ordersIn (ordersPart m) (word m 7)) ≡ met
+  module _ (x rows′ : List ℕ) (left count : ℕ) (h : Rolled m x rows rows′ (orderWith (word m 4 + 1) u d p price q) left count) where
+    met-is : meet (orderWith (word m 4 + 1) u d p price q) (ordersIn (ordersPart m) (word m 7)) ≡ met
     met-is =
         ap (λ (o : OpenOrder). meet o (ordersIn (ordersPart m) (word m 7))) (sym (new-order m u d p price q))
         ∙ ap (meet arrived) (sym (orders-from m))
@@ -147,7 +147,7 @@ module _ (m rows : List ℕ) (u d p price q : ℕ) (e : soundIn m ≡ true) (z :
         let k = passed .room in
         (omega arith, omega arith)
 
-    module _ (y : List ℕ) (w : OrdersPut x y (ordersIn (ordersPart x) (word x 7) ++ waiting (leaving (record { number = word m 4 + 1; unit = u; direction = d; period = p; price = price; quantity = q }) left))) where
+    module _ (y : List ℕ) (w : OrdersPut x y (ordersIn (ordersPart x) (word x 7) ++ waiting (leaving (orderWith (word m 4 + 1) u d p price q) left))) where
       pub both-put : OrdersPut m y (met .orders ++ waiting (leaving arrived (met .left)))
       both-put =
           record {
@@ -156,8 +156,8 @@ module _ (m rows : List ℕ) (u d p price q : ℕ) (e : soundIn m ≡ true) (z :
             high = λ i l. w .high i l ∙ h .orders .high i l;
             orders =
                 w .orders
-                ∙ ap (λ (t : List OpenOrder). t ++ waiting (leaving (record { number = word m 4 + 1; unit = u; direction = d; period = p; price = price; quantity = q }) left)) orders-is
-                ∙ ap (λ (t : ℕ). met .orders ++ waiting (leaving (record { number = word m 4 + 1; unit = u; direction = d; period = p; price = price; quantity = q }) t)) (h .left ∙ ap (λ (t : Met). t .left) met-is)
+                ∙ ap (λ (t : List OpenOrder). t ++ waiting (leaving (orderWith (word m 4 + 1) u d p price q) left)) orders-is
+                ∙ ap (λ (t : ℕ). met .orders ++ waiting (leaving (orderWith (word m 4 + 1) u d p price q) t)) (h .left ∙ ap (λ (t : Met). t .left) met-is)
                 ∙ ap (λ (o : OpenOrder). met .orders ++ waiting (leaving o (met .left))) (sym (new-order m u d p price q));
           }
 

@@ -17,7 +17,7 @@ use Rattle.book.specs.Readable.{Ranged}
 use Rattle.book.specs.Fitting.{Below, Added, orderShare, offerShare, wayHolds, hourHolds, termPart, volumePart, periodMisfit}
 use Rattle.book.specs.Whole.{Latest, raisingWay, orderRaises, orderLowers, offersRaise, ordersRaise, ordersLower, cellHolds, CellsDone, openUp, openDown, Waiting, NoneWaits, Settled, Settling, Settles, OffersSettled, OrdersSettled, OpenAdded}
 use Rattle.book.proofs.ShareLaws.{getD-past, share-other, offer-other}
-use Rattle.book.proofs.PeriodLaws.{hour-facts, period-passed}
+use Rattle.book.proofs.PeriodLaws.{hour-facts, period-passed, period-failed}
 use Rattle.book.proofs.LinkedLaws.{share-apart}
 use Rattle.book.proofs.UnitsFitLaws.{cell-way, cell-hour, cell-volume, cell-term, cell-most, sum-zero, zeros-below}
 
@@ -39,23 +39,27 @@ module _ (m : List ℕ) (p k x y : ℕ) where
   unfolding cellHolds
   cell-open c h = holds-all _ (cell-way m p k 0 0 c, (h, (le-leb _ _ (cell-volume m p k 0 0 c), tt)))
 
+-- a list with one place set
+set-here : (l l′ : List ℕ) (k v : ℕ) → l′ ≡ set l k v → k < length l → getD l′ k 0 ≡ v
+set-here l l′ k v e h = rw e (getD-set-same l k v 0 h)
+
+set-there : (l l′ : List ℕ) (k v i : ℕ) → l′ ≡ set l k v → (i ≡ k → ⊥) → getD l′ i 0 ≡ getD l i 0
+set-there l l′ k v i e n = rw e (getD-set-other l k i v 0 n)
+
+set-long : (l l′ : List ℕ) (k v : ℕ) → l′ ≡ set l k v → length l ≡ 64 → length l′ ≡ 64
+set-long l l′ k v e h = rw e (length-set l k v ∙ h)
+
 -- a unit is settled, by cases
 module _ (m : List ℕ) (p k : ℕ) (x y w v : List ℕ) (r : ℕ) (e : r ≡ periodMisfit (wayHolds m k p) (hourHolds m k p (getD x k 0) (getD y k 0))) where
   pub settle-fails : 0 < r → (x′ y′ w′ v′ : List ℕ) → Settled m p k x y w v false x′ y′ w′ v′
-  unfolding holds
   settle-fails h x′ y′ w′ v′ =
       record {
-        answer = go (wayHolds m k p) (hourHolds m k p (getD x k 0) (getD y k 0)) e;
+        answer = sym (false-by _ (λ t. let u = all-true (wayHolds m k p ∷ hourHolds m k p (getD x k 0) (getD y k 0) ∷ []) t in period-failed _ _ r e h (u .0) (u .1 .0)));
         up = λ z. both-ways (sym z);
         down = λ z. both-ways (sym z);
         whole = λ z. both-ways (sym z);
         volume = λ z. both-ways (sym z);
       }
-    where
-      go : (a b : Bool) → r ≡ periodMisfit a b → false ≡ holds (a ∷ b ∷ [])
-      go true true f = absurd (omega arith)
-      go true false f = refl
-      go false b f = refl
 
   pub settle-passes : r ≤ 0 → true ≡ holds (wayHolds m k p ∷ hourHolds m k p (getD x k 0) (getD y k 0) ∷ [])
   settle-passes h = let t = period-passed _ _ r e h in sym (holds-all (wayHolds m k p ∷ hourHolds m k p (getD x k 0) (getD y k 0) ∷ []) (t .0, (t .1, tt)))
@@ -93,19 +97,19 @@ module _ (m : List ℕ) (p : ℕ) (x y w v x′ y′ w′ v′ : List ℕ) (s : 
 
     module _ (t : r ≡ true) where
       up-here : getD x″ k 0 ≡ 0
-      up-here = rw (d .up t) (getD-set-same x′ k 0 0 (omega (arith, s .waiting .raising)))
+      up-here = set-here x′ x″ k 0 (d .up t) (omega (arith, s .waiting .raising))
 
       down-here : getD y″ k 0 ≡ 0
-      down-here = rw (d .down t) (getD-set-same y′ k 0 0 (omega (arith, s .waiting .lowering)))
+      down-here = set-here y′ y″ k 0 (d .down t) (omega (arith, s .waiting .lowering))
 
       pub none-here : getD x″ k 0 + getD y″ k 0 ≡ 0
       none-here = omega (arith, up-here, down-here)
 
       up-there : (i : ℕ) → (i ≡ k → ⊥) → getD x″ i 0 ≡ getD x′ i 0
-      up-there i n = rw (d .up t) (getD-set-other x′ k i 0 0 n)
+      up-there i n = set-there x′ x″ k 0 i (d .up t) n
 
       down-there : (i : ℕ) → (i ≡ k → ⊥) → getD y″ i 0 ≡ getD y′ i 0
-      down-there i n = rw (d .down t) (getD-set-other y′ k i 0 0 n)
+      down-there i n = set-there y′ y″ k 0 i (d .down t) n
 
       pub none-there : (i : ℕ) → getD x′ i 0 + getD y′ i 0 ≡ 0 → getD x″ i 0 + getD y″ i 0 ≡ 0
       none-there i e = go (ℕ-discrete i k)
@@ -116,27 +120,27 @@ module _ (m : List ℕ) (p : ℕ) (x y w v x′ y′ w′ v′ : List ℕ) (s : 
 
       whole-now : (i : ℕ) → Dec (i ≡ k) → getD w″ i 0 + getD x″ i 0 ≡ getD w′ i 0 + getD x′ i 0
       whole-now i (yes q) =
-          let a : getD w″ k 0 ≡ getD w′ k 0 + getD x′ k 0 = rw (d .whole t) (getD-set-same w′ k _ 0 (omega (arith, s .waiting .whole))) in
+          let a : getD w″ k 0 ≡ getD w′ k 0 + getD x′ k 0 = set-here w′ w″ k _ (d .whole t) (omega (arith, s .waiting .whole)) in
           rw q (omega (arith, up-here))
       whole-now i (no n) =
-          let a : getD w″ i 0 ≡ getD w′ i 0 = rw (d .whole t) (getD-set-other w′ k i _ 0 n) in
+          let a : getD w″ i 0 ≡ getD w′ i 0 = set-there w′ w″ k _ i (d .whole t) n in
           omega (arith, up-there i n)
 
       volume-now : (i : ℕ) → Dec (i ≡ k) → getD v″ i 0 + (getD x″ i 0 + getD y″ i 0) ≡ getD v′ i 0 + (getD x′ i 0 + getD y′ i 0)
       volume-now i (yes q) =
-          let a : getD v″ k 0 ≡ getD v′ k 0 + (getD x′ k 0 + getD y′ k 0) = rw (d .volume t) (getD-set-same v′ k _ 0 (omega (arith, s .waiting .volume))) in
+          let a : getD v″ k 0 ≡ getD v′ k 0 + (getD x′ k 0 + getD y′ k 0) = set-here v′ v″ k _ (d .volume t) (omega (arith, s .waiting .volume)) in
           rw q (omega (arith, up-here, down-here))
       volume-now i (no n) =
-          let a : getD v″ i 0 ≡ getD v′ i 0 = rw (d .volume t) (getD-set-other v′ k i _ 0 n) in
+          let a : getD v″ i 0 ≡ getD v′ i 0 = set-there v′ v″ k _ i (d .volume t) n in
           omega (arith, up-there i n, down-there i n)
 
       waiting-now : Waiting x″ y″ w″ v″
       waiting-now =
           record {
-            raising = rw (d .up t) (length-set x′ _ _ ∙ s .waiting .raising);
-            lowering = rw (d .down t) (length-set y′ _ _ ∙ s .waiting .lowering);
-            whole = rw (d .whole t) (length-set w′ _ _ ∙ s .waiting .whole);
-            volume = rw (d .volume t) (length-set v′ _ _ ∙ s .waiting .volume);
+            raising = set-long x′ x″ k _ (d .up t) (s .waiting .raising);
+            lowering = set-long y′ y″ k _ (d .down t) (s .waiting .lowering);
+            whole = set-long w′ w″ k _ (d .whole t) (s .waiting .whole);
+            volume = set-long v′ v″ k _ (d .volume t) (s .waiting .volume);
             up = λ i. up i (ℕ-discrete i k);
             down = λ i. down i (ℕ-discrete i k);
             term = λ i. omega (arith, whole-now i (ℕ-discrete i k), s .waiting .term i);

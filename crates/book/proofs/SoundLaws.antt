@@ -7,12 +7,12 @@ use native.Mathlib.Omega.{arith}
 use native.Mathlib.Decide.{ℕ-discrete}
 use lib.ListN.{length}
 use lib.Dec.{eqb, leb}
-use borrow.Author.Tests.{leb-true, le-leb, eqb-true, eq-eqb, ne-eqb, ltb-true, lt-ltb}
+use borrow.Author.Tests.{leb-true, le-leb, eqb-true, eq-eqb, ne-eqb, ltb-true, lt-ltb, not-true}
 use Rattle.measures.specs.Ranges.{mostEnergy, mostPrice}
 use Rattle.measures.specs.Lists.{every, Each, all}
 use Rattle.measures.specs.Sharing.{total}
 use Rattle.measures.proofs.RangeLaws.{In, inside, within}
-use Rattle.measures.proofs.ListLaws.{and-true, and-left, and-right, or-left, or-right, or-other, not-holds, not-fails, all-true, holds-all, all-at, all-by}
+use Rattle.measures.proofs.ListLaws.{and-true, and-left, and-right, or-left, or-right, or-other, not-fails, all-true, holds-all, all-at, all-by}
 use Rattle.limits.specs.Units.{mostDays, mostCapacity, periods, generator}
 use Rattle.matching.specs.Orders.{Order as OpenOrder, rising, numbers}
 use Rattle.book.specs.Book.{Figures, Unit, OpenOffer, Book, rollingPhase, mostUnits, mostOffers, mostOrders, mostNumbers, known, unitOf}
@@ -121,7 +121,7 @@ module _ (b : Book) (o : OpenOffer) where
       let h = not (generator (unitOf b (o .partner) .kind)) in
       let t = or-other (eqb (o .partner) 0) (k && (g && h)) e (ne-eqb _ _ n) in
       let s = and-right k (g && h) t in
-      record { partner = within _ _ _ (and-left k (g && h) t); sells = and-left g h s; buys = not-holds _ (and-right g h s) }
+      record { partner = within _ _ _ (and-left k (g && h) t); sells = and-left g h s; buys = not-true _ (and-right g h s) }
 
   sides-in : ((o .partner ≡ 0 → ⊥) → Sides b o) → offerSides b o ≡ true
   sides-in h = go (ℕ-discrete (o .partner) 0)

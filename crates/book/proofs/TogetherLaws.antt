@@ -5,7 +5,7 @@ use mathlib.Core.Bool.{Bool, true, false, cond, not, _&&_, _||_}
 use mathlib.Core.List.{List, [], _∷_}
 use native.Mathlib.Omega.{arith}
 use native.Mathlib.Decide.{ℕ-discrete, decLt}
-use borrow.Author.Tests.{eq-eqb, ne-eqb, eqb-true, eqb-false, le-leb, lt-leb, lt-ltb, le-ltb}
+use borrow.Author.Tests.{eq-eqb, ne-eqb, eqb-true, eqb-false, le-leb, lt-leb, lt-ltb, le-ltb, not-false}
 use lib.ListN.{length, getD, set, replicate}
 use lib.Seq.{getD-set-same, getD-set-other}
 use lib.Dec.{eqb, leb, ltb}
@@ -17,7 +17,7 @@ use Rattle.matching.specs.Memory.{orderAt, ordersIn}
 use Rattle.book.specs.Sound.{oneWay, apart}
 use Rattle.book.specs.Layout.{word, ordersPart, decode}
 use Rattle.book.specs.Readable.{Ranged, pairFits, pairsFit}
-use Rattle.book.specs.Whole.{Latest, Alike, highWith, lowWith, Prices, Priced, pairsBefore, OrderStands}
+use Rattle.book.specs.Whole.{Latest, Alike, highWith, lowWith, Prices, crossless, Priced, pairsBefore, OrderStands}
 use Rattle.book.proofs.RangeFacts.{order-word}
 use Rattle.book.proofs.ShareLaws.{order-words}
 use Rattle.book.proofs.MisfitLaws.{zeros-at}
@@ -164,10 +164,6 @@ module _ (m : List ℕ) (k : ℕ) (hk : k < 256) where
         go true e = way-same pb (eqb-true _ _ e)
         go false e = way-other (eqb-false _ _ e)
 
-not-fails-back : (b : Bool) → not b ≡ false → b ≡ true
-not-fails-back true e = refl
-not-fails-back false e = both-ways e
-
 -- an order's price entered, by cases
 module _ (d p price : ℕ) (l : List ℕ) where
   pub high-new : d ≡ 1 → getD l p 0 ≤ price → highWith d p price l ≡ set l p (price + 1)
@@ -210,9 +206,6 @@ prices-none m few =
     }
 
 -- the order at place k against those before it
-abbrev Crossless : List ℕ → ℕ → ℕ → Bool
-Crossless m k j = holds (apart (orderIn m k) (orderIn m j) ∷ apart (orderIn m j) (orderIn m k) ∷ [])
-
 module _ (m : List ℕ) (g : Ranged m) (k : ℕ) (h : k < word m 7) (high low : List ℕ) (s : Prices m k high low) where
   few : k < 256
   few = let t = g .readable .ordersTo in omega arith
@@ -220,24 +213,24 @@ module _ (m : List ℕ) (g : Ranged m) (k : ℕ) (h : k < word m 7) (high low : 
   term : word m (240 + 6 * k + 3) < periods (word m 0)
   term = order-words m k g h .period
 
-  pub buy-crosses : word m 2 ≤ 10_000_000 → word m (240 + 6 * k + 2) ≡ 1 → getD low (word m (240 + 6 * k + 3)) 0 ≤ word m (240 + 6 * k + 4) → false ≡ all k (Crossless m k)
+  pub buy-crosses : word m 2 ≤ 10_000_000 → word m (240 + 6 * k + 2) ≡ 1 → getD low (word m (240 + 6 * k + 3)) 0 ≤ word m (240 + 6 * k + 4) → false ≡ all k (crossless m k)
   buy-crosses c d l =
       sym (false-by _ (λ t. absurd (let z = s .most (word m (240 + 6 * k + 3)) (word m (240 + 6 * k + 4)) term (let y = order-words m k g h .price .1 in omega arith)
-      (λ j a e q. apart-word m k j few (let f = few in omega arith) (all-true (apart (orderIn m k) (orderIn m j) ∷ apart (orderIn m j) (orderIn m k) ∷ []) (all-at k (Crossless m k) j t a) .0) d e (sym q)) in omega arith)))
+      (λ j a e q. apart-word m k j few (let f = few in omega arith) (all-true (apart (orderIn m k) (orderIn m j) ∷ apart (orderIn m j) (orderIn m k) ∷ []) (all-at k (crossless m k) j t a) .0) d e (sym q)) in omega arith)))
 
-  pub sell-crosses : word m (240 + 6 * k + 2) ≡ 0 → word m (240 + 6 * k + 4) < getD high (word m (240 + 6 * k + 3)) 0 → false ≡ all k (Crossless m k)
+  pub sell-crosses : word m (240 + 6 * k + 2) ≡ 0 → word m (240 + 6 * k + 4) < getD high (word m (240 + 6 * k + 3)) 0 → false ≡ all k (crossless m k)
   sell-crosses d l =
       sym (false-by _ (λ t. absurd (let z = s .least (word m (240 + 6 * k + 3)) (word m (240 + 6 * k + 4)) term
-      (λ j a e q. apart-word m j k (let f = few in omega arith) few (all-true (apart (orderIn m k) (orderIn m j) ∷ apart (orderIn m j) (orderIn m k) ∷ []) (all-at k (Crossless m k) j t a) .1 .0) e d q) in omega arith)))
+      (λ j a e q. apart-word m j k (let f = few in omega arith) few (all-true (apart (orderIn m k) (orderIn m j) ∷ apart (orderIn m j) (orderIn m k) ∷ []) (all-at k (crossless m k) j t a) .1 .0) e d q) in omega arith)))
 
-  pub buy-apart : word m (240 + 6 * k + 2) ≡ 1 → word m (240 + 6 * k + 4) < getD low (word m (240 + 6 * k + 3)) 0 → true ≡ all k (Crossless m k)
+  pub buy-apart : word m (240 + 6 * k + 2) ≡ 1 → word m (240 + 6 * k + 4) < getD low (word m (240 + 6 * k + 3)) 0 → true ≡ all k (crossless m k)
   buy-apart d l =
       sym (all-by k _ (λ j a. holds-all (apart (orderIn m k) (orderIn m j) ∷ apart (orderIn m j) (orderIn m k) ∷ []) (
         apart-by m k j few (let f = few in omega arith) (λ e i q. let z = s .below (word m (240 + 6 * k + 3)) j term a i (sym q) in omega arith),
         (apart-by m j k (let f = few in omega arith) few (λ e i q. absurd (omega arith)), tt),
       )))
 
-  pub sell-apart : word m (240 + 6 * k + 2) ≡ 0 → getD high (word m (240 + 6 * k + 3)) 0 ≤ word m (240 + 6 * k + 4) → true ≡ all k (Crossless m k)
+  pub sell-apart : word m (240 + 6 * k + 2) ≡ 0 → getD high (word m (240 + 6 * k + 3)) 0 ≤ word m (240 + 6 * k + 4) → true ≡ all k (crossless m k)
   sell-apart d l =
       sym (all-by k _ (λ j a. holds-all (apart (orderIn m k) (orderIn m j) ∷ apart (orderIn m j) (orderIn m k) ∷ []) (
         apart-by m k j few (let f = few in omega arith) (λ e i q. absurd (omega arith)),
@@ -334,14 +327,14 @@ module _ (m : List ℕ) (g : Ranged m) (k : ℕ) (h : k < word m 7) (high low : 
       (sell-entered (set low p price) (is-sale n) (λ q z. getD-set-other low p q price 0 z) (omega arith) (omega arith) (λ x a b. omega arith))
   price-entered rh rl (no n) u (no w) = rw (high-not d p price high (λ e. absurd (n e)), low-not d p price low (λ _. omega arith)) (sell-entered low (is-sale n) (λ q z. refl) (omega arith) (omega arith) (λ x a b. a))
 
-  pub priced : (r : Bool) → r ≡ not (all k (Crossless m k)) → r ≡ false → length high ≡ 744 → length low ≡ 744 → Priced m k true (highWith d p price high) (lowWith d p price low)
+  pub priced : (r : Bool) → r ≡ not (all k (crossless m k)) → r ≡ false → length high ≡ 744 → length low ≡ 744 → Priced m k true (highWith d p price high) (lowWith d p price low)
   priced r e f lh ll =
       record {
-        answer = sym (not-fails-back (all k (Crossless m k)) (sym e ∙ f));
+        answer = sym (not-false (all k (crossless m k)) (sym e ∙ f));
         entered = λ z. let t = term in let y = g .readable .daysTo in price-entered (omega arith) (omega arith) (ℕ-discrete d 1) (decLt price (getD high p 0)) (decLt price (getD low p 0));
       }
 
-pub not-priced : (m : List ℕ) (k : ℕ) (high low : List ℕ) → false ≡ all k (Crossless m k) → Priced m k false high low
+pub not-priced : (m : List ℕ) (k : ℕ) (high low : List ℕ) → false ≡ all k (crossless m k) → Priced m k false high low
 not-priced m k high low e = record { answer = e; entered = λ z. both-ways (sym z) }
 
 -- an order that stands, or does not

@@ -22,7 +22,7 @@ use Rattle.book.specs.Whole.{Latest, raisingWay, orderRaises, orderLower
 use Rattle.book.proofs.RangeFacts.{kind-at}
 use Rattle.book.proofs.ShareLaws.{added-none, added-more, Adding, adding-none, adding-more, adding-ends}
 use Rattle.book.proofs.MisfitLaws.{zeros-at}
-use Rattle.book.proofs.PeriodLaws.{period-passed, hour-small, volume-at-most}
+use Rattle.book.proofs.PeriodLaws.{period-passed, period-failed, hour-small, volume-at-most}
 use Rattle.book.proofs.JoinLaws.{raises-by, lowers-by, way-other, orders-open, offers-open, whole-is}
 use Rattle.book.proofs.LinkedLaws.{sum-rest, share-apart}
 use Rattle.book.proofs.SoundInLaws.{units-by-places}
@@ -30,13 +30,11 @@ use Rattle.book.proofs.SoundInLaws.{units-by-places}
 -- a cell, by cases
 module _ (m : List ℕ) (p k : ℕ) where
   pub cell-misfit : (r : ℕ) → r ≡ periodMisfit (wayHolds m k p) (hourHolds m k p 0 0) → 0 < r → false ≡ cellHolds m p k 0 0
-  unfolding cellHolds holds
-  cell-misfit r e h = go (wayHolds m k p) (hourHolds m k p 0 0) (leb (word m (1779 + 328 * p + 5 * k)) 4_800_000_000) e
-    where
-      go : (a b t : Bool) → r ≡ periodMisfit a b → false ≡ holds (a ∷ b ∷ t ∷ [])
-      go true true t f = absurd (omega arith)
-      go true false t f = refl
-      go false b t f = refl
+  unfolding cellHolds
+  cell-misfit r e h =
+      sym (false-by _ (λ t.
+      let u = all-true (wayHolds m k p ∷ hourHolds m k p 0 0 ∷ leb (word m (1779 + 328 * p + 5 * k)) 4_800_000_000 ∷ []) t in
+      period-failed _ _ r e h (u .0) (u .1 .0)))
 
   pub cell-over : 4_800_000_000 < word m (1779 + 328 * p + 5 * k) → false ≡ cellHolds m p k 0 0
   unfolding cellHolds

@@ -8,7 +8,7 @@ use lib.ListN.{length, getD, take, drop, set, length-set, length-drop}
 use lib.Seq.{getD-drop, getD-set-same, getD-set-other, drop-set-lt, ext-getD, set-at}
 use Rattle.measures.specs.Lists.{table}
 use Rattle.measures.proofs.ListLaws.{table-more, table-length}
-use Rattle.matching.specs.Orders.{Order as OpenOrder}
+use Rattle.matching.specs.Orders.{Order as OpenOrder, orderWith}
 use Rattle.matching.specs.Memory.{orderAt, ordersIn}
 use Rattle.book.specs.Book.{withOrders, numbered}
 use Rattle.book.specs.Layout.{word, unitAt, offerAt, ordersPart, decode}
@@ -81,15 +81,15 @@ number-past m v n l = drop-set-lt n m 4 v (omega arith)
 
 -- an order in the call phase
 module _ (m : List ℕ) (u d p price q : ℕ) where
-  pub new-order : newOrder (decode m) u d p price q ≡ record { number = word m 4 + 1; unit = u; direction = d; period = p; price = price; quantity = q }
+  pub new-order : newOrder (decode m) u d p price q ≡ orderWith (word m 4 + 1) u d p price q
   unfolding decode
   new-order = refl
 
   pub called : (x y : List ℕ) → word m 5 ≤ 64 → word m 6 ≤ 8
-      → OrdersPut m x (ordersIn (ordersPart m) (word m 7) ++ (record { number = word m 4 + 1; unit = u; direction = d; period = p; price = price; quantity = q } ∷ []))
+      → OrdersPut m x (ordersIn (ordersPart m) (word m 7) ++ (orderWith (word m 4 + 1) u d p price q ∷ []))
       → decode y ≡ numbered (decode x) → decode y ≡ orderedInCall (decode m) (newOrder (decode m) u d p price q) .book
   called x y a b h e =
-      let o : OpenOrder = record { number = word m 4 + 1; unit = u; direction = d; period = p; price = price; quantity = q } in
+      let o : OpenOrder = orderWith (word m 4 + 1) u d p price q in
       e
       ∙ ap numbered (put-decoded m x (ordersIn (ordersPart m) (word m 7) ++ (o ∷ [])) h a b)
       ∙ ap (λ (os : List OpenOrder). numbered (withOrders (decode m) (os ++ (o ∷ [])))) (sym (orders-from m))

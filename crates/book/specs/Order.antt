@@ -3,7 +3,7 @@ use Prim.Native.Nat.{ℕ}
 use mathlib.Core.Bool.{cond}
 use mathlib.Core.List.{List, [], _∷_, _++_}
 use lib.Dec.{eqb}
-use Rattle.matching.specs.Orders.{Order as OpenOrder, Row, leaving}
+use Rattle.matching.specs.Orders.{Order as OpenOrder, Row, leaving, orderWith}
 use Rattle.matching.specs.Rolling.{Met, meet}
 use Rattle.book.specs.Book.{Book, callPhase, unitOf, withOrders, nextNumber, numbered}
 use Rattle.book.specs.Trades.{raises, lowers, rowsBooked}
@@ -28,8 +28,7 @@ unfoldable pub orderRefusal : Book → ℕ → ℕ → ℕ → ℕ → ℕ → �
 orderRefusal b u d p price q lent = firstOf (unsound b ∷ orderChecks b u d p price q lent)
 
 abbrev pub newOrder : Book → ℕ → ℕ → ℕ → ℕ → ℕ → OpenOrder
-newOrder b u d p price q =
-    record { number = nextNumber b; unit = u; direction = d; period = p; price = price; quantity = q }
+newOrder b u d p price q = orderWith (nextNumber b) u d p price q
 
 -- "the rest waits"
 unfoldable pub waiting : OpenOrder → List OpenOrder

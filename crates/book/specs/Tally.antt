@@ -6,7 +6,7 @@ use lib.ListN.{length, getD, set}
 use lib.Dec.{eqb, leb}
 use Rattle.measures.specs.Lists.{keep, sumOf}
 use Rattle.limits.specs.Units.{periods}
-use Rattle.matching.specs.Orders.{Order as OpenOrder, Row, buys, less}
+use Rattle.matching.specs.Orders.{Order as OpenOrder, Row, buys, less, orderWith}
 use Rattle.matching.specs.Clearing.{Cleared}
 use Rattle.book.specs.Clear.{clearFrom}
 use Rattle.book.specs.Calls.{Call, enrol, offer, take, withdraw, order, cancel, clear, close, Answer}
@@ -71,7 +71,7 @@ orderTallied d (r ∷ rs) os = orderTallied d rs (orderLessened (otherUnit d r) 
 abbrev pub orderLeft : ℕ → ℕ → ℕ → ℕ → ℕ → ℕ → List Row → List OpenOrder
 orderLeft n u d p price q rs =
     let left = q - sumOf (λ r. r .quantity) rs in
-    cond (eqb left 0) [] (record { number = n; unit = u; direction = d; period = p; price = price; quantity = left } ∷ [])
+    cond (eqb left 0) [] (orderWith n u d p price left ∷ [])
 
 -- one accepted call
 unfoldable pub accounted : Tally → Call → Answer → Tally

@@ -1,4 +1,5 @@
--- What the functions that check all units, period by period, promise one another.
+-- What the functions that check all units, period by period, and those that check that orders may stand together promise
+-- one another. No sentence of the paper is rendered here: what they come to is `unitsWhole` and `pairsFit` (Readable.antt).
 use Prim.Native.Nat.{ℕ, _+_, _-_, _*_, _≤_, _<_}
 use mathlib.Core.Path.{_≡_}
 use mathlib.Core.Bool.{Bool, true, false, cond, not, _&&_}
@@ -35,7 +36,7 @@ pub record Alike (m : List ℕ) (k t : ℕ) : Type 0 where
   pub period : 0 < t → word m (240 + 6 * (t - 1) + 3) ≡ word m (240 + 6 * k + 3)
   pub none : t ≡ 0 → (j : ℕ) → j < k → word m (240 + 6 * j + 1) ≡ word m (240 + 6 * k + 1) → word m (240 + 6 * j + 3) ≡ word m (240 + 6 * k + 3) → ⊥
 
--- one more than the highest buy price, and the lowest sell price, by period, with those of an order entered
+-- by period, one more than the highest buy price, and the lowest sell price, once an order's price is entered
 unfoldable pub highWith : ℕ → ℕ → ℕ → List ℕ → List ℕ
 highWith direction p price high = cond (eqb direction 1 && leb (getD high p 0) price) (set high p (price + 1)) high
 
@@ -50,9 +51,13 @@ pub record Prices (m : List ℕ) (k : ℕ) (high low : List ℕ) : Type 0 where
   pub below : (p j : ℕ) → p < periods (word m 0) → j < k → word m (240 + 6 * j + 2) ≡ 0 → word m (240 + 6 * j + 3) ≡ p → getD low p 0 ≤ word m (240 + 6 * j + 4)
   pub most : (p x : ℕ) → p < periods (word m 0) → x ≤ 10_000_000 → ((j : ℕ) → j < k → word m (240 + 6 * j + 2) ≡ 0 → word m (240 + 6 * j + 3) ≡ p → x < word m (240 + 6 * j + 4)) → x < getD low p 0
 
+-- whether the orders at places k and j do not cross
+abbrev pub crossless : List ℕ → ℕ → ℕ → Bool
+crossless m k j = holds (apart (orderAt (ordersPart m) k) (orderAt (ordersPart m) j) ∷ apart (orderAt (ordersPart m) j) (orderAt (ordersPart m) k) ∷ [])
+
 -- r says whether the order at place k crosses none before it; if so, its price is entered
 pub record Priced (m : List ℕ) (k : ℕ) (r : Bool) (high low : List ℕ) : Type 0 where
-  pub answer : r ≡ all k (λ j. holds (apart (orderAt (ordersPart m) k) (orderAt (ordersPart m) j) ∷ apart (orderAt (ordersPart m) j) (orderAt (ordersPart m) k) ∷ []))
+  pub answer : r ≡ all k (crossless m k)
   pub entered : r ≡ true → Prices m (k + 1) high low
 
 -- whether each of the first k orders may stand with those before it
@@ -113,7 +118,8 @@ openUp m p k = offersRaise m p k + ordersRaise m p k
 unfoldable pub openDown : List ℕ → ℕ → ℕ → ℕ
 openDown m p k = ordersLower m p k
 
--- the sums take what waits
+-- by unit, x raises and y lowers in a period and waits to be tested; w and v are the sums for the term and the volume, and
+-- have room for it
 pub record Waiting (x y w v : List ℕ) : Type 0 where
   pub raising : length x ≡ 64
   pub lowering : length y ≡ 64
@@ -124,7 +130,7 @@ pub record Waiting (x y w v : List ℕ) : Type 0 where
   pub term : (k : ℕ) → getD w k 0 + getD x k 0 ≤ 3_000_000_000_000
   pub most : (k : ℕ) → getD v k 0 + (getD x k 0 + getD y k 0) ≤ 5_000_000_000_000_000
 
--- nothing waits
+-- no unit has anything that waits
 pub record NoneWaits (x y : List ℕ) : Type 0 where
   pub raising : length x ≡ 64
   pub lowering : length y ≡ 64
@@ -147,7 +153,7 @@ pub record Settling (m : List ℕ) (p : ℕ) (x y w v x′ y′ w′ v′ : List
   pub waits : (k : ℕ) → 0 < getD x′ k 0 + getD y′ k 0 → (getD x′ k 0 ≡ getD x k 0) × (getD y′ k 0 ≡ getD y k 0)
   pub passed : (k : ℕ) → getD x′ k 0 + getD y′ k 0 ≡ 0 → 0 < getD x k 0 + getD y k 0 → (k < word m 5) × (hourHolds m k p (getD x k 0) (getD y k 0) ≡ true)
 
--- r says whether some units pass; if not, not all do
+-- r says whether those units pass that were tested with what waits for them; if one does not, not all units do
 pub record Settles (m : List ℕ) (p : ℕ) (x y w v : List ℕ) (r : Bool) (x′ y′ w′ v′ : List ℕ) : Type 0 where
   pub settled : r ≡ true → Settling m p x y w v x′ y′ w′ v′
   pub failed : r ≡ false → all (word m 5) (λ k. cellHolds m p k (getD x k 0) (getD y k 0)) ≡ false
@@ -161,7 +167,7 @@ abbrev pub OrdersSettled : List ℕ → ℕ → ℕ → List ℕ → List ℕ �
 OrdersSettled m p t x y =
     (i : ℕ) → t ≤ i → i < word m 7 → word m (240 + 6 * i + 3) ≡ p → getD x (word m (240 + 6 * i + 1) - 1) 0 + getD y (word m (240 + 6 * i + 1) - 1) 0 ≡ 0
 
--- r says whether all units that pass with nothing open pass with what is; if so, that is in the sums
+-- where all units pass with nothing open, r says whether they pass with what is open; if so, that is in the sums
 pub record OpenAdded (m : List ℕ) (p : ℕ) (w v : List ℕ) (r : Bool) (w′ v′ : List ℕ) : Type 0 where
   pub answer : all (word m 5) (λ k. cellHolds m p k 0 0) ≡ true → r ≡ all (word m 5) (λ k. cellHolds m p k (openUp m p k) (openDown m p k))
   pub long : r ≡ true → (length w′ ≡ length w) × (length v′ ≡ length v)

@@ -2,15 +2,14 @@
 use crate::standing::link_orders;
 ghost use mathlib.Core.Path.{_≡_};
 ghost use mathlib.Core.Bool.{true, not};
-ghost use mathlib.Core.List.{[], _∷_};
 ghost use Prim.Native.Nat.{ℕ, _+_, _*_, _-_, _<_, _≤_};
 ghost use lib.ListN.{length, getD};
-ghost use Rattle.measures.specs.Lists.{holds, all};
+ghost use Rattle.measures.specs.Lists.{all};
 ghost use Rattle.matching.specs.Memory.{orderAt};
-ghost use Rattle.book.specs.Sound.{oneWay, apart};
+ghost use Rattle.book.specs.Sound.{oneWay};
 ghost use Rattle.book.specs.Layout.{word, ordersPart, decode};
 ghost use Rattle.book.specs.Readable.{Ranged, pairsFit};
-ghost use Rattle.book.specs.Whole.{Chained, Alike, highWith, lowWith, Prices, Priced, pairsBefore, OrderStands};
+ghost use Rattle.book.specs.Whole.{Chained, Alike, highWith, lowWith, Prices, crossless, Priced, pairsBefore, OrderStands};
 
 // One more than the place of an order before the one at place k with its unit and period, or 0 where there is none: the
 // orders of the unit and those of the period are walked together, so that the shorter way ends it.
@@ -68,11 +67,12 @@ pub(crate) fn note_price(direction: u64, p: usize, price: u64, high: &mut [u64],
 // Whether the order at place k crosses one before it.
 fn crosses(book: &[u64], k: usize, high: &[u64], low: &[u64]) -> bool
     requires { ⌜ (Ranged (now book)) × (word (now book) 2 ≤ 10000000) × (k < word (now book) 7) × (length (now high) ≡ 744) × (length (now low) ≡ 744) × (Prices (now book) k (now high) (now low)) ⌝ }
-    ensures { λ r. ⌜ r ≡ not (all k (λ j. holds (apart (orderAt (ordersPart (now (book .entry))) k) (orderAt (ordersPart (now (book .entry))) j) ∷ apart (orderAt (ordersPart (now (book .entry))) j) (orderAt (ordersPart (now (book .entry))) k) ∷ []))) ⌝ }
+    ensures { λ r. ⌜ r ≡ not (all k (crossless (now (book .entry)) k)) ⌝ }
 {
-    let p = book[240 + 6 * k + 3] as usize;
-    let price = book[240 + 6 * k + 4];
-    if book[240 + 6 * k + 2] == 1 {
+    let at = 240 + 6 * k;
+    let p = book[at + 3] as usize;
+    let price = book[at + 4];
+    if book[at + 2] == 1 {
         if low[p] <= price {
             return true;
         }
@@ -92,13 +92,9 @@ fn stands_apart(book: &[u64], k: usize, high: &mut [u64], low: &mut [u64]) -> bo
     if crosses(book, k, high, low) {
         return false;
     }
-    note_price(
-        book[240 + 6 * k + 2],
-        book[240 + 6 * k + 3] as usize,
-        book[240 + 6 * k + 4],
-        high,
-        low,
-    );
+    let at = 240 + 6 * k;
+    let p = book[at + 3] as usize;
+    note_price(book[at + 2], p, book[at + 4], high, low);
     true
 }
 

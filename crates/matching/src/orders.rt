@@ -76,7 +76,7 @@ pub enum Matched {
 }
 
 // The order at place k.
-pub fn read(orders: &[u64], k: usize) -> Order
+pub(crate) fn read(orders: &[u64], k: usize) -> Order
     requires { ⌜ (6 * k + 6 ≤ length (now orders)) × (k < 256) ⌝ }
     ensures { λ r. ⌜ orderOf r ≡ orderAt (now (orders .entry)) k ⌝ }
 {

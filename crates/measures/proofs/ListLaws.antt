@@ -39,10 +39,6 @@ true-by false h = absurd (h refl)
 pub not-both : (b : Bool) → b ≡ true → b ≡ false → ⊥
 not-both b e f = both-ways (sym e ∙ f)
 
-pub not-holds : (b : Bool) → not b ≡ true → b ≡ false
-not-holds true e = both-ways (sym e)
-not-holds false e = refl
-
 pub not-fails : (b : Bool) → b ≡ false → not b ≡ true
 not-fails b e = rw e
 

@@ -8,47 +8,35 @@ use borrow.Author.Needs.{needs}
 use Rattle.book.proofs.pairs.crosses.Statement.{statement}
 use Rattle.book.proofs.pairs.crosses.Tie as tie
 
-mul-p : tie.Need-mul-p
-mul-p c = search needs
+mul-at : tie.Need-mul-at
+mul-at c = search needs
+
+add-at : tie.Need-add-at
+add-at c = search needs
 
 add-p : tie.Need-add-p
 add-p c = search needs
 
-add-p-2 : tie.Need-add-p-2
-add-p-2 c = search needs
-
-mul-p-2 : tie.Need-mul-p-2
-mul-p-2 c = search needs
+mul-p : tie.Need-mul-p
+mul-p c = search needs
 
 shared-slice-read-p : tie.Need-shared-slice-read-p
 shared-slice-read-p c = search needs
 
-mul-price : tie.Need-mul-price
-mul-price c = search needs
-
 add-price : tie.Need-add-price
 add-price c = search needs
 
-add-price-2 : tie.Need-add-price-2
-add-price-2 c = search needs
-
-mul-price-2 : tie.Need-mul-price-2
-mul-price-2 c = search needs
+mul-price : tie.Need-mul-price
+mul-price c = search needs
 
 shared-slice-read-price : tie.Need-shared-slice-read-price
 shared-slice-read-price c = search needs
 
-mul-if1 : tie.Need-mul-if1
-mul-if1 c = search needs
-
 add-if1 : tie.Need-add-if1
 add-if1 c = search needs
 
-add-if1-2 : tie.Need-add-if1-2
-add-if1-2 c = search needs
-
-mul-if1-2 : tie.Need-mul-if1-2
-mul-if1-2 c = search needs
+mul-if1 : tie.Need-mul-if1
+mul-if1 c = search needs
 
 shared-slice-read-if1 : tie.Need-shared-slice-read-if1
 shared-slice-read-if1 c = search needs
@@ -105,20 +93,16 @@ pub crosses-spec : {M : Type 1} → statement M
 crosses-spec =
     tie.close
     (tie.spec
-    mul-p
+    mul-at
+    add-at
     add-p
-    add-p-2
-    mul-p-2
+    mul-p
     shared-slice-read-p
-    mul-price
     add-price
-    add-price-2
-    mul-price-2
+    mul-price
     shared-slice-read-price
-    mul-if1
     add-if1
-    add-if1-2
-    mul-if1-2
+    mul-if1
     shared-slice-read-if1
     mul-if2
     shared-slice-read-if2

@@ -1,7 +1,7 @@
 -- `stands_apart`: no order before it is crossed, and its price is entered.
 use mathlib.Core.Path.{sym, _∙_}
+use borrow.Author.Tests.{not-true}
 use native.Mathlib.Omega.{arith}
-use Rattle.measures.proofs.ListLaws.{not-holds}
 use Rattle.book.proofs.ShareLaws.{order-words}
 use Rattle.book.proofs.TogetherLaws.{not-priced, priced}
 use borrow.Author.Needs.{needs}
@@ -18,13 +18,31 @@ same-length-2 : tie.Need-same-length-2
 same-length-2 c = search needs
 
 returns : tie.Need-returns
-returns c = not-priced _ _ _ _ (sym (not-holds _ (sym (c .before .crosses .ensures) ∙ c .if1 .taken)))
+returns c = not-priced _ _ _ _ (sym (not-true _ (sym (c .before .crosses .ensures) ∙ c .if1 .taken)))
+
+mul-at : tie.Need-mul-at
+mul-at c = search needs
+
+add-at : tie.Need-add-at
+add-at c = search needs
+
+add-p : tie.Need-add-p
+add-p c = search needs
+
+mul-p : tie.Need-mul-p
+mul-p c = search needs
+
+shared-slice-read-p : tie.Need-shared-slice-read-p
+shared-slice-read-p c = search needs
+
+add-note-price : tie.Need-add-note-price
+add-note-price c = search needs
 
 mul-note-price : tie.Need-mul-note-price
 mul-note-price c = search needs
 
-add-note-price : tie.Need-add-note-price
-add-note-price c = search needs
+shared-slice-read-note-price : tie.Need-shared-slice-read-note-price
+shared-slice-read-note-price c = search needs
 
 add-note-price-2 : tie.Need-add-note-price-2
 add-note-price-2 c = search needs
@@ -32,38 +50,8 @@ add-note-price-2 c = search needs
 mul-note-price-2 : tie.Need-mul-note-price-2
 mul-note-price-2 c = search needs
 
-shared-slice-read-note-price : tie.Need-shared-slice-read-note-price
-shared-slice-read-note-price c = search needs
-
-mul-note-price-3 : tie.Need-mul-note-price-3
-mul-note-price-3 c = search needs
-
-add-note-price-3 : tie.Need-add-note-price-3
-add-note-price-3 c = search needs
-
-add-note-price-4 : tie.Need-add-note-price-4
-add-note-price-4 c = search needs
-
-mul-note-price-4 : tie.Need-mul-note-price-4
-mul-note-price-4 c = search needs
-
 shared-slice-read-note-price-2 : tie.Need-shared-slice-read-note-price-2
 shared-slice-read-note-price-2 c = search needs
-
-mul-note-price-5 : tie.Need-mul-note-price-5
-mul-note-price-5 c = search needs
-
-add-note-price-5 : tie.Need-add-note-price-5
-add-note-price-5 c = search needs
-
-add-note-price-6 : tie.Need-add-note-price-6
-add-note-price-6 c = search needs
-
-mul-note-price-6 : tie.Need-mul-note-price-6
-mul-note-price-6 c = search needs
-
-shared-slice-read-note-price-3 : tie.Need-shared-slice-read-note-price-3
-shared-slice-read-note-price-3 c = search needs
 
 note-price-requires : tie.Need-note-price-requires
 note-price-requires c κs =
@@ -93,21 +81,17 @@ stands-apart-spec =
     same-length
     same-length-2
     returns
-    mul-note-price
+    mul-at
+    add-at
+    add-p
+    mul-p
+    shared-slice-read-p
     add-note-price
+    mul-note-price
+    shared-slice-read-note-price
     add-note-price-2
     mul-note-price-2
-    shared-slice-read-note-price
-    mul-note-price-3
-    add-note-price-3
-    add-note-price-4
-    mul-note-price-4
     shared-slice-read-note-price-2
-    mul-note-price-5
-    add-note-price-5
-    add-note-price-6
-    mul-note-price-6
-    shared-slice-read-note-price-3
     note-price-requires
     same-length-3
     same-length-4
