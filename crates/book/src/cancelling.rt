@@ -9,7 +9,7 @@ ghost use Rattle.book.specs.Book.{withOrders, orderOpen};
 ghost use Rattle.book.specs.Opening.{bookWords};
 ghost use Rattle.book.specs.Layout.{word, decode};
 ghost use Rattle.book.specs.Refusals.{firstOf};
-ghost use Rattle.book.specs.Readable.{Readable};
+ghost use Rattle.book.specs.inner.Readable.{Readable};
 ghost use Rattle.book.specs.Contract.{soundIn};
 ghost use Rattle.book.specs.Cancel.{cancelChecks};
 

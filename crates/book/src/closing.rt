@@ -6,8 +6,8 @@ ghost use lib.ListN.{length, drop, set};
 ghost use Rattle.book.specs.Opening.{bookWords};
 ghost use Rattle.book.specs.Close.{dayClosed};
 ghost use Rattle.book.specs.Layout.{word, decode};
-ghost use Rattle.book.specs.Readable.{Readable, Netted};
-ghost use Rattle.book.specs.Closing.{cellClosed, DayOver, AllNetted, Netting, DaysOver};
+ghost use Rattle.book.specs.inner.Readable.{Readable, Netted};
+ghost use Rattle.book.specs.inner.Closing.{cellClosed, DayOver, AllNetted, Netting, DaysOver};
 
 // The figures of the unit at place k in period p: held becomes net, and nothing is traded today.
 fn close_cell(book: &mut [u64], k: usize, p: usize)

@@ -6,7 +6,7 @@ ghost use lib.ListN.{length, drop};
 ghost use Rattle.book.specs.Refusals.{firstOf};
 ghost use Rattle.book.specs.Curve.{curveChecks, points as pointsOf};
 ghost use Rattle.book.specs.Layout.{word, decode, netIn};
-ghost use Rattle.book.specs.Readable.{Readable, Netted};
+ghost use Rattle.book.specs.inner.Readable.{Readable, Netted};
 
 // The checks of a curve on a sound book.
 pub(crate) fn curve_checks(book: &[u64], unit: u64, day: u64, lent: usize) -> u64

@@ -8,7 +8,7 @@ ghost use lib.ListN.{length, drop, set};
 ghost use Rattle.book.specs.Opening.{bookWords};
 ghost use Rattle.book.specs.Layout.{word, decode};
 ghost use Rattle.book.specs.Refusals.{firstOf};
-ghost use Rattle.book.specs.Readable.{Readable};
+ghost use Rattle.book.specs.inner.Readable.{Readable};
 ghost use Rattle.book.specs.Contract.{soundIn};
 ghost use Rattle.book.specs.Enrol.{enrolChecks, enrolled};
 

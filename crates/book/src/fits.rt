@@ -15,8 +15,8 @@ ghost use Rattle.limits.specs.Units.{periods, generator};
 ghost use Rattle.limits.specs.Limits.{hourOf, hourLimit};
 ghost use Rattle.book.specs.Book.{unitOf};
 ghost use Rattle.book.specs.Layout.{word, decode};
-ghost use Rattle.book.specs.Readable.{Ranged, Fitted, declared, small};
-ghost use Rattle.book.specs.Fitting.{Below, Added, orderShare, offerShare, wayHolds, hourHolds, termAt, volumeAt, periodMisfit, UnitCame};
+ghost use Rattle.book.specs.inner.Readable.{Ranged, Fitted, declared, small};
+ghost use Rattle.book.specs.inner.Fitting.{Below, Added, orderShare, offerShare, wayHolds, hourHolds, termAt, volumeAt, periodMisfit, UnitCame};
 
 // What the order at place k has open of a unit in one direction goes to its period.
 fn add_order(book: &[u64], unit: u64, way: u64, k: usize, totals: &mut [u64])

@@ -9,7 +9,7 @@ ghost use Rattle.measures.specs.Lists.{every};
 ghost use Rattle.matching.specs.Orders.{Order as OpenOrder, rising};
 ghost use Rattle.book.specs.Sound.{numbersDiffer};
 ghost use Rattle.book.specs.Layout.{word, decode};
-ghost use Rattle.book.specs.Readable.{Readable, offerNumbers, numberFree, numbersFree};
+ghost use Rattle.book.specs.inner.Readable.{Readable, offerNumbers, numberFree, numbersFree};
 
 // Whether the numbers of the open offers rise: each is above the one before it.
 fn offers_rise(book: &[u64]) -> bool

@@ -14,7 +14,7 @@ ghost use Rattle.measures.specs.Sharing.{total};
 ghost use Rattle.book.specs.Opening.{bookWords};
 ghost use Rattle.book.specs.Layout.{word, decode};
 ghost use Rattle.book.specs.Refusals.{firstOf, unknownUnit, unknownPartner, badPrice, badAmounts, wrongPartner, offersFull, numbersUsed, hourMisfit, termMisfit, volumeMisfit};
-ghost use Rattle.book.specs.Readable.{Readable};
+ghost use Rattle.book.specs.inner.Readable.{Readable};
 ghost use Rattle.book.specs.Contract.{soundIn};
 ghost use Rattle.book.specs.Offer.{offered, offerChecks, raisingAmounts};
 

@@ -21,10 +21,10 @@ ghost use Rattle.book.specs.Book.{numbered};
 ghost use Rattle.book.specs.Opening.{bookWords};
 ghost use Rattle.book.specs.Layout.{word, decode, ordersPart};
 ghost use Rattle.book.specs.Refusals.{firstOf};
-ghost use Rattle.book.specs.Readable.{Readable};
+ghost use Rattle.book.specs.inner.Readable.{Readable};
 ghost use Rattle.book.specs.Contract.{soundIn};
 ghost use Rattle.book.specs.Order.{orderChecks, newOrder, orderedInCall, waiting};
-ghost use Rattle.book.specs.Ordering.{dayChecks, fitChecks, NameChecked, Named, ofUnitAt, againstAt, OrdersPut, Rolled, RolledOn};
+ghost use Rattle.book.specs.inner.Ordering.{dayChecks, fitChecks, NameChecked, Named, ofUnitAt, againstAt, OrdersPut, Rolled, RolledOn};
 
 // The checks of names, rows, price, energy, period and direction.
 fn order_names(

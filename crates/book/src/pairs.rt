@@ -8,8 +8,8 @@ ghost use Rattle.measures.specs.Lists.{all};
 ghost use Rattle.matching.specs.Memory.{orderAt};
 ghost use Rattle.book.specs.Sound.{oneWay};
 ghost use Rattle.book.specs.Layout.{word, ordersPart, decode};
-ghost use Rattle.book.specs.Readable.{Ranged, pairsFit};
-ghost use Rattle.book.specs.Whole.{Chained, Alike, highWith, lowWith, Prices, crossless, Priced, pairsBefore, OrderStands};
+ghost use Rattle.book.specs.inner.Readable.{Ranged, pairsFit};
+ghost use Rattle.book.specs.inner.Whole.{Chained, Alike, highWith, lowWith, Prices, crossless, Priced, pairsBefore, OrderStands};
 
 // One more than the place of an order before the one at place k with its unit and period, or 0 where there is none: the
 // orders of the unit and those of the period are walked together, so that the shorter way ends it.

@@ -9,10 +9,10 @@ ghost use Rattle.measures.specs.Lists.{Each};
 ghost use Rattle.matching.specs.Memory.{ordersIn};
 ghost use Rattle.book.specs.Layout.{decode};
 ghost use Rattle.book.specs.Refusals.{firstOf};
-ghost use Rattle.book.specs.Readable.{Readable};
+ghost use Rattle.book.specs.inner.Readable.{Readable};
 ghost use Rattle.book.specs.Contract.{soundIn};
 ghost use Rattle.book.specs.Clear.{clearChecks};
-ghost use Rattle.book.specs.Periods.{Clearable, OrdersBelow, PricedBy, Stepped, ClearsAll, Swept, AllCleared};
+ghost use Rattle.book.specs.inner.Periods.{Clearable, OrdersBelow, PricedBy, Stepped, ClearsAll, Swept, AllCleared};
 
 // How many rows were written, and how many orders stand.
 pub struct Passed {

@@ -16,7 +16,7 @@ ghost use Rattle.matching.specs.Memory.{orderAt};
 ghost use Rattle.book.specs.Book.{Book, unitOf};
 ghost use Rattle.book.specs.Sound.{headIn, offerIn, orderIn};
 ghost use Rattle.book.specs.Layout.{word, decode, enough, amountAt, offerAt, ordersPart};
-ghost use Rattle.book.specs.Readable.{Readable, unitFieldsIn, unitsFieldsIn, sidesIn};
+ghost use Rattle.book.specs.inner.Readable.{Readable, unitFieldsIn, unitsFieldsIn, sidesIn};
 
 // An open offer; its amounts stand by period.
 pub struct Offer {

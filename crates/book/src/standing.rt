@@ -6,9 +6,9 @@ ghost use lib.ListN.{length, getD};
 ghost use Rattle.measures.specs.Ranges.{mostEnergy};
 ghost use Rattle.limits.specs.Units.{periods};
 ghost use Rattle.book.specs.Layout.{word};
-ghost use Rattle.book.specs.Readable.{Ranged};
-ghost use Rattle.book.specs.Fitting.{Below, Added};
-ghost use Rattle.book.specs.Whole.{Linked, orderRaises, orderLowers, offersRaise, ordersRaise, ordersLower, BothAdded};
+ghost use Rattle.book.specs.inner.Readable.{Ranged};
+ghost use Rattle.book.specs.inner.Fitting.{Below, Added};
+ghost use Rattle.book.specs.inner.Whole.{Linked, orderRaises, orderLowers, offersRaise, ordersRaise, ordersLower, BothAdded};
 
 // Links the orders by a field of theirs: `last` gets one more than the place of the last order of each value, `before`
 // one more than the place of the order before each with its value; 0 is none.

@@ -23,9 +23,9 @@ ghost use Rattle.book.specs.Book.{offerOpen};
 ghost use Rattle.book.specs.Take.{takeChecks, takeRowsFrom, takeRows};
 ghost use Rattle.book.specs.Refusals.{firstOf};
 ghost use Rattle.book.specs.Layout.{word, amountAt, offerAt, decode};
-ghost use Rattle.book.specs.Readable.{Readable};
+ghost use Rattle.book.specs.inner.Readable.{Readable};
 ghost use Rattle.book.specs.Contract.{soundIn};
-ghost use Rattle.book.specs.RowsIn.{Found, takes, partyChecks, TakeFit, TakeChecked, RowsPut, AmountsLess, PartsThere, OfferLessened, PartTaken, WholeTaken, PartsLent, TakeMade};
+ghost use Rattle.book.specs.inner.RowsIn.{Found, takes, partyChecks, TakeFit, TakeChecked, RowsPut, AmountsLess, PartsThere, OfferLessened, PartTaken, WholeTaken, PartsLent, TakeMade};
 
 // The place of the open offer of a number, or 8.
 pub(crate) fn find_offer(book: &[u64], number: u64) -> usize

@@ -11,9 +11,9 @@ ghost use lib.ListN.{length, getD};
 ghost use Rattle.measures.specs.Lists.{all};
 ghost use Rattle.limits.specs.Units.{periods};
 ghost use Rattle.book.specs.Layout.{word, decode};
-ghost use Rattle.book.specs.Readable.{Ranged, unitsWhole};
-ghost use Rattle.book.specs.Fitting.{Below};
-ghost use Rattle.book.specs.Whole.{Linked, openUp, openDown, CellDone, CellsDone, Waiting, NoneWaits, Settled, Settles, OffersSettled, OrdersSettled, OpenAdded, PeriodsDone, sumsHold};
+ghost use Rattle.book.specs.inner.Readable.{Ranged, unitsWhole};
+ghost use Rattle.book.specs.inner.Fitting.{Below};
+ghost use Rattle.book.specs.inner.Whole.{Linked, openUp, openDown, CellDone, CellsDone, Waiting, NoneWaits, Settled, Settles, OffersSettled, OrdersSettled, OpenAdded, PeriodsDone, sumsHold};
 
 // The figures of the unit at place k in period p: whether they pass with nothing open, and if so, they go to the sums.
 fn add_cell(book: &[u64], p: usize, k: usize, whole: &mut [u64], volume: &mut [u64]) -> bool

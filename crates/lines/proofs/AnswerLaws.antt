@@ -11,7 +11,7 @@ use lib.Seq.{take-all, getD-take}
 use Rattle.measures.proofs.ListLaws.{both-ways, table-length}
 use Rattle.matching.specs.Orders.{Row}
 use Rattle.matching.specs.Memory.{flatRow, flat, written}
-use Rattle.matching.proofs.RowLaws.{flat-length, written-none}
+use Rattle.matching.proofs.laws.orders.RowLaws.{flat-length, written-none}
 use Rattle.book.specs.Book.{Book}
 use Rattle.book.specs.Refusals.{Outcome}
 use Rattle.book.specs.declared.Answer.{Answer}

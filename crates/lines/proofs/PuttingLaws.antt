@@ -9,7 +9,7 @@ use lib.ListN.{length, getD, take, drop, set, length-set, length-append, length-
 use lib.Seq.{take-suc, take-suc-set, drop-cons, drop-set-lt, getD-set-same, take-all, take-append-le, drop-drop, take-at, drop-at, drop-append-add}
 use Rattle.matching.specs.Orders.{Row}
 use Rattle.matching.specs.Memory.{flatRow, flat, written}
-use Rattle.matching.proofs.RowLaws.{flat-length}
+use Rattle.matching.proofs.laws.orders.RowLaws.{flat-length}
 use Rattle.lines.specs.Printed.{digits, decimal, spaced, printedRow, printedRows, printedOk, printedNo}
 use Rattle.lines.specs.Puts.{Put, rowsText, okText}
 

@@ -3,6 +3,5 @@ pub mod Memory
 pub mod Rolling
 pub mod Clearing
 pub mod Answers
-pub mod Places
-pub mod Runs
 pub mod Figures
+pub mod inner

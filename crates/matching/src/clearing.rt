@@ -12,7 +12,7 @@ ghost use Rattle.matching.specs.Orders.{laid};
 ghost use Rattle.matching.specs.Memory.{ordersIn};
 ghost use Rattle.matching.specs.Clearing.{clearingPrice};
 ghost use Rattle.matching.specs.Answers.{fit, Clears};
-ghost use Rattle.matching.specs.Places.{ordersAt, aheadOn, belongs, Stand, AreMargins};
+ghost use Rattle.matching.specs.inner.Places.{ordersAt, aheadOn, belongs, Stand, AreMargins};
 
 // The price between a bid and an ask, rounded up.
 fn clearing_price(bid: u64, ask: u64) -> Price

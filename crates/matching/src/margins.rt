@@ -3,7 +3,7 @@ ghost use mathlib.Core.Path.{_≡_};
 ghost use Prim.Native.Nat.{ℕ, _+_, _*_, _-_, _<_, _≤_, min};
 ghost use lib.ListN.{length, take, getD};
 ghost use Rattle.matching.specs.Memory.{orderAt, noOrder};
-ghost use Rattle.matching.specs.Places.{ordersAt, Stand, Sides, AreMargins};
+ghost use Rattle.matching.specs.inner.Places.{ordersAt, Stand, Sides, AreMargins};
 
 // A volume, and the prices of the bid and the ask that hold its last kWh.
 pub struct Margins {

@@ -11,7 +11,7 @@ ghost use lib.ListN.{length};
 ghost use Rattle.matching.specs.Orders.{Row as RowRecord};
 ghost use Rattle.matching.specs.Memory.{rowOf, written};
 ghost use Rattle.matching.specs.Clearing.{endToEnd, overlapRows};
-ghost use Rattle.matching.specs.Places.{fillsAt, Filling};
+ghost use Rattle.matching.specs.inner.Places.{fillsAt, Filling};
 
 // The larger of two numbers.
 fn later(a: u64, b: u64) -> u64

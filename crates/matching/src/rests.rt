@@ -8,7 +8,7 @@ ghost use lib.ListN.{length, take, drop};
 ghost use Rattle.matching.specs.Orders.{rising, numbers, lessen};
 ghost use Rattle.matching.specs.Memory.{orderAt, ordersIn};
 ghost use Rattle.matching.specs.Clearing.{afterFills};
-ghost use Rattle.matching.specs.Places.{standing, fillsAt, Filling, Taken};
+ghost use Rattle.matching.specs.inner.Places.{standing, fillsAt, Filling, Taken};
 
 // Takes x off the order at p; the mark of an emptied order becomes 0.
 fn take_fill(orders: &mut [u64], n: usize, stands: &mut [u64], p: usize, x: u64)

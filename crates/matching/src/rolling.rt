@@ -16,7 +16,7 @@ ghost use lib.ListN.{length};
 ghost use Rattle.matching.specs.Orders.{Row as RowRecord, rising, numbers};
 ghost use Rattle.matching.specs.Memory.{orderOf, rowOf, orderAt, ordersIn, written};
 ghost use Rattle.matching.specs.Rolling.{matchRow};
-ghost use Rattle.matching.specs.Runs.{keyOf, MetInTurn};
+ghost use Rattle.matching.specs.inner.Runs.{keyOf, MetInTurn};
 ghost use Rattle.matching.specs.Answers.{Meets};
 
 // What is left of an incoming order, and how many orders it met.

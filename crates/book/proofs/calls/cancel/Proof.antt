@@ -6,12 +6,12 @@ use mathlib.Core.List.{List, []}
 use native.Mathlib.Omega.{arith}
 use borrow.Author.Tests.{not-true, not-false}
 use lib.ListN.{length, getD}
-use Rattle.matching.proofs.RowLaws.{written-none}
+use Rattle.matching.proofs.laws.orders.RowLaws.{written-none}
 use Rattle.book.specs.Layout.{word, decode}
 use Rattle.book.specs.Contract.{soundIn}
 use Rattle.book.specs.Calls.{cancel as callCancel}
-use Rattle.book.proofs.MadeLaws.{made-unsound, made-checked, made-done}
-use Rattle.book.proofs.CancelLaws.{cancel-open}
+use Rattle.book.proofs.laws.answer.MadeLaws.{made-unsound, made-checked, made-done}
+use Rattle.book.proofs.laws.cancel.CancelLaws.{cancel-open}
 use borrow.Author.Needs.{needs}
 use Rattle.book.proofs.calls.cancel.Statement.{statement}
 use Rattle.book.proofs.calls.cancel.Tie as tie

@@ -6,12 +6,12 @@ use mathlib.Core.List.{List, []}
 use native.Mathlib.Omega.{arith}
 use borrow.Author.Tests.{not-true, not-false}
 use lib.ListN.{length, getD}
-use Rattle.matching.proofs.RowLaws.{written-none}
+use Rattle.matching.proofs.laws.orders.RowLaws.{written-none}
 use Rattle.book.specs.Layout.{word, decode}
 use Rattle.book.specs.Contract.{soundIn}
 use Rattle.book.specs.Calls.{close as callClose}
-use Rattle.book.proofs.MadeLaws.{made-unsound, made-done, no-checks, sound-readable}
-use Rattle.book.proofs.ClosedLaws.{sound-netting}
+use Rattle.book.proofs.laws.answer.MadeLaws.{made-unsound, made-done, no-checks, sound-readable}
+use Rattle.book.proofs.laws.close.ClosedLaws.{sound-netting}
 use borrow.Author.Needs.{needs}
 use Rattle.book.proofs.calls.close.Statement.{statement}
 use Rattle.book.proofs.calls.close.Tie as tie

@@ -10,8 +10,8 @@ use Rattle.measures.proofs.RangeLaws.{In}
 use Rattle.book.specs.Curve.{points}
 use Rattle.book.specs.Layout.{word, decode}
 use Rattle.book.specs.Contract.{soundIn}
-use Rattle.book.proofs.MadeLaws.{sound-readable}
-use Rattle.book.proofs.CurveLaws.{curved-unsound, curved-checked, curved-drawn, curve-passed, sound-netted}
+use Rattle.book.proofs.laws.answer.MadeLaws.{sound-readable}
+use Rattle.book.proofs.laws.curve.CurveLaws.{curved-unsound, curved-checked, curved-drawn, curve-passed, sound-netted}
 use borrow.Author.Needs.{needs}
 use Rattle.book.proofs.calls.curve.Statement.{statement}
 use Rattle.book.proofs.calls.curve.Tie as tie

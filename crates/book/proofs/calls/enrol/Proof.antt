@@ -6,12 +6,12 @@ use mathlib.Core.List.{List, []}
 use native.Mathlib.Omega.{arith}
 use borrow.Author.Tests.{not-true, not-false}
 use lib.ListN.{length, getD}
-use Rattle.matching.proofs.RowLaws.{written-none}
+use Rattle.matching.proofs.laws.orders.RowLaws.{written-none}
 use Rattle.book.specs.Layout.{word, decode}
 use Rattle.book.specs.Contract.{soundIn}
 use Rattle.book.specs.Calls.{enrol as callEnrol}
-use Rattle.book.proofs.MadeLaws.{made-unsound, made-checked, made-done, enrol-number, sound-readable, sound-head}
-use Rattle.book.proofs.EnrolLaws.{enrol-room}
+use Rattle.book.proofs.laws.answer.MadeLaws.{made-unsound, made-checked, made-done, enrol-number, sound-readable, sound-head}
+use Rattle.book.proofs.laws.enrol.EnrolLaws.{enrol-room}
 use borrow.Author.Needs.{needs}
 use Rattle.book.proofs.calls.enrol.Statement.{statement}
 use Rattle.book.proofs.calls.enrol.Tie as tie

@@ -6,12 +6,12 @@ use mathlib.Core.List.{List, []}
 use native.Mathlib.Omega.{arith}
 use borrow.Author.Tests.{not-true, not-false}
 use lib.ListN.{length, getD}
-use Rattle.matching.proofs.RowLaws.{written-none}
+use Rattle.matching.proofs.laws.orders.RowLaws.{written-none}
 use Rattle.book.specs.Layout.{word, decode}
 use Rattle.book.specs.Contract.{soundIn}
 use Rattle.book.specs.Calls.{order as callOrder}
-use Rattle.book.proofs.MadeLaws.{made-unsound, made-checked, made-done, order-called, order-rolled, sound-readable, sound-head}
-use Rattle.book.proofs.RollCallLaws.{orders-left, number-left}
+use Rattle.book.proofs.laws.answer.MadeLaws.{made-unsound, made-checked, made-done, order-called, order-rolled, sound-readable, sound-head}
+use Rattle.book.proofs.laws.order.RollCallLaws.{orders-left, number-left}
 use borrow.Author.Needs.{needs}
 use Rattle.book.proofs.calls.order.Statement.{statement}
 use Rattle.book.proofs.calls.order.Tie as tie

@@ -4,7 +4,7 @@ use native.Mathlib.Omega.{arith}
 use borrow.Author.Tests.{not-true, not-false}
 use lib.ListN.{length}
 use Rattle.book.specs.Calls.{take as callTake}
-use Rattle.book.proofs.MadeLaws.{made-unsound, made-checked, made-done}
+use Rattle.book.proofs.laws.answer.MadeLaws.{made-unsound, made-checked, made-done}
 use borrow.Author.Needs.{needs}
 use Rattle.book.proofs.calls.take.Statement.{statement}
 use Rattle.book.proofs.calls.take.Tie as tie

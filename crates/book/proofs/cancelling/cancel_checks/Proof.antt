@@ -1,8 +1,8 @@
 -- `cancel_checks`: each test is a check of the chain, and the place found is the number's.
 use native.Mathlib.Omega.{arith}
-use Rattle.book.specs.Readable.{Readable}
-use Rattle.book.proofs.MadeLaws.{sound-readable}
-use Rattle.book.proofs.CancelLaws.{cancel-unknown, cancel-absent, cancel-other, cancel-passes}
+use Rattle.book.specs.inner.Readable.{Readable}
+use Rattle.book.proofs.laws.answer.MadeLaws.{sound-readable}
+use Rattle.book.proofs.laws.cancel.CancelLaws.{cancel-unknown, cancel-absent, cancel-other, cancel-passes}
 use Rattle.book.proofs.cancelling.cancel_checks.Statement.{statement}
 use Rattle.book.proofs.cancelling.cancel_checks.Tie as tie
 

@@ -5,9 +5,9 @@ use mathlib.Core.Path.{_≡_, _∙_}
 use borrow.Rule.Slice.PartMut.{mid-len}
 use lib.ListN.{length, length-take, length-drop}
 use Rattle.book.specs.Layout.{word}
-use Rattle.book.specs.Readable.{Readable}
-use Rattle.book.proofs.MadeLaws.{sound-readable}
-use Rattle.book.proofs.CancelLaws.{order-placed, cancelled, cancelled-past}
+use Rattle.book.specs.inner.Readable.{Readable}
+use Rattle.book.proofs.laws.answer.MadeLaws.{sound-readable}
+use Rattle.book.proofs.laws.cancel.CancelLaws.{order-placed, cancelled, cancelled-past}
 use borrow.Author.Needs.{needs}
 use Rattle.book.proofs.cancelling.cancel_effect.Statement.{statement}
 use Rattle.book.proofs.cancelling.cancel_effect.Tie as tie

@@ -2,7 +2,7 @@
 use mathlib.Core.Path.{refl}
 use native.Mathlib.Omega.{arith}
 use lib.ListN.{length-set}
-use Rattle.book.specs.Closing.{cellClosed}
+use Rattle.book.specs.inner.Closing.{cellClosed}
 use borrow.Author.Needs.{needs}
 use Rattle.book.proofs.closing.close_cell.Statement.{statement}
 use Rattle.book.proofs.closing.close_cell.Tie as tie

@@ -2,7 +2,7 @@
 use Prim.Native.Nat.{ℕ, _≤_}
 use native.Mathlib.Omega.{arith}
 use lib.ListN.{length-set}
-use Rattle.book.proofs.ClosedLaws.{closed-book, closed-past}
+use Rattle.book.proofs.laws.close.ClosedLaws.{closed-book, closed-past}
 use borrow.Author.Needs.{needs}
 use Rattle.book.proofs.closing.close_day.Statement.{statement}
 use Rattle.book.proofs.closing.close_day.Tie as tie

@@ -3,8 +3,8 @@ use Prim.Native.Nat.{ℕ, _≤_, _<_, _+_, _*_, _-_}
 use mathlib.Core.Path.{_≡_, sym, ap, _∙_}
 use native.Mathlib.Omega.{arith}
 use Rattle.book.specs.Layout.{word}
-use Rattle.book.specs.Closing.{DaysOver}
-use Rattle.book.proofs.ClosedLaws.{days-start, days-more, days-read, days-length, days-netted}
+use Rattle.book.specs.inner.Closing.{DaysOver}
+use Rattle.book.proofs.laws.close.ClosedLaws.{days-start, days-more, days-read, days-length, days-netted}
 use borrow.Author.Needs.{needs}
 use Rattle.book.proofs.closing.close_figures.Statement.{statement}
 use Rattle.book.proofs.closing.close_figures.Tie as tie

@@ -3,8 +3,8 @@ use Prim.Native.Nat.{ℕ, _≤_, _<_, _+_, _*_, _-_}
 use mathlib.Core.Path.{_≡_, sym, ap, _∙_}
 use native.Mathlib.Omega.{arith}
 use Rattle.book.specs.Layout.{word}
-use Rattle.book.specs.Closing.{AllNetted, DayOver}
-use Rattle.book.proofs.ClosingLaws.{over-start, over-more, over-read, over-days, over-net}
+use Rattle.book.specs.inner.Closing.{AllNetted, DayOver}
+use Rattle.book.proofs.laws.close.ClosingLaws.{over-start, over-more, over-read, over-days, over-net}
 use borrow.Author.Needs.{needs}
 use Rattle.book.proofs.closing.close_period.Statement.{statement}
 use Rattle.book.proofs.closing.close_period.Tie as tie

@@ -1,6 +1,6 @@
 -- `curve_checks`: a law for each way out.
 use native.Mathlib.Omega.{arith}
-use Rattle.book.proofs.CurveLaws.{no-such-unit, few-points, no-such-day, drawn}
+use Rattle.book.proofs.laws.curve.CurveLaws.{no-such-unit, few-points, no-such-day, drawn}
 use borrow.Author.Needs.{needs}
 use Rattle.book.proofs.curve.curve_checks.Statement.{statement}
 use Rattle.book.proofs.curve.curve_checks.Tie as tie

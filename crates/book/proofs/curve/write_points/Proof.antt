@@ -4,7 +4,7 @@ use mathlib.Core.Path.{_≡_, _∙_}
 use native.Mathlib.Omega.{arith}
 use lib.ListN.{length-set}
 use Rattle.book.specs.Layout.{word, decode}
-use Rattle.book.proofs.CurveLaws.{Drawing, drawing-start, drawing-more, drawing-ends, net-figures}
+use Rattle.book.proofs.laws.curve.CurveLaws.{Drawing, drawing-start, drawing-more, drawing-ends, net-figures}
 use borrow.Author.Needs.{needs}
 use Rattle.book.proofs.curve.write_points.Statement.{statement}
 use Rattle.book.proofs.curve.write_points.Tie as tie

@@ -1,7 +1,7 @@
 -- `clear_unit`: the periods passed have zeros, all other words are as before.
 use Prim.Native.Nat.{_-_}
 use native.Mathlib.Omega.{arith}
-use Rattle.book.proofs.CellLaws.{Clearing, clearing-start, clearing-more}
+use Rattle.book.proofs.laws.enrol.CellLaws.{Clearing, clearing-start, clearing-more}
 use borrow.Author.Needs.{needs}
 use Rattle.book.proofs.enrolling.clear_unit.Statement.{statement}
 use Rattle.book.proofs.enrolling.clear_unit.Tie as tie

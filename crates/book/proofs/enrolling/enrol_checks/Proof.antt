@@ -1,7 +1,7 @@
 -- `enrol_checks`: each test is a check of the chain.
 use native.Mathlib.Omega.{arith}
-use Rattle.book.proofs.MadeLaws.{sound-readable}
-use Rattle.book.proofs.EnrolLaws.{enrol-kind, enrol-capacity, enrol-asset, enrol-full, enrol-passes}
+use Rattle.book.proofs.laws.answer.MadeLaws.{sound-readable}
+use Rattle.book.proofs.laws.enrol.EnrolLaws.{enrol-kind, enrol-capacity, enrol-asset, enrol-full, enrol-passes}
 use Rattle.book.proofs.enrolling.enrol_checks.Statement.{statement}
 use Rattle.book.proofs.enrolling.enrol_checks.Tie as tie
 

@@ -1,9 +1,9 @@
 -- `enrol_effect`: the cleared figures, the three words and the count are one unit more.
 use native.Mathlib.Omega.{arith}
 use lib.ListN.{length-set}
-use Rattle.book.specs.Readable.{Readable}
-use Rattle.book.proofs.MadeLaws.{sound-readable}
-use Rattle.book.proofs.EnrolLaws.{enrolled-in, enrolled-past}
+use Rattle.book.specs.inner.Readable.{Readable}
+use Rattle.book.proofs.laws.answer.MadeLaws.{sound-readable}
+use Rattle.book.proofs.laws.enrol.EnrolLaws.{enrolled-in, enrolled-past}
 use borrow.Author.Needs.{needs}
 use Rattle.book.proofs.enrolling.enrol_effect.Statement.{statement}
 use Rattle.book.proofs.enrolling.enrol_effect.Tie as tie

@@ -2,7 +2,7 @@
 use Prim.Native.Nat.{_≤_, _-_, _*_}
 use native.Mathlib.Omega.{arith}
 use Rattle.book.specs.Layout.{word, amountAt}
-use Rattle.book.proofs.ShareLaws.{amount-small, added-none, Adding, adding-none, adding-more, adding-ends, offer-other, offer-own}
+use Rattle.book.proofs.laws.check.ShareLaws.{amount-small, added-none, Adding, adding-none, adding-more, adding-ends, offer-other, offer-own}
 use borrow.Author.Needs.{needs}
 use Rattle.book.proofs.fits.add_offer.Statement.{statement}
 use Rattle.book.proofs.fits.add_offer.Tie as tie

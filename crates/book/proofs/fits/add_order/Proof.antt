@@ -2,8 +2,8 @@
 use Prim.Native.Nat.{_+_, _*_}
 use Rattle.book.specs.Layout.{word}
 use native.Mathlib.Omega.{arith}
-use Rattle.book.proofs.RangeFacts.{OrderWords}
-use Rattle.book.proofs.ShareLaws.{order-words, added-none, share-other, share-against, order-added}
+use Rattle.book.proofs.laws.memory.RangeFacts.{OrderWords}
+use Rattle.book.proofs.laws.check.ShareLaws.{order-words, added-none, share-other, share-against, order-added}
 use borrow.Author.Needs.{needs}
 use Rattle.book.proofs.fits.add_order.Statement.{statement}
 use Rattle.book.proofs.fits.add_order.Tie as tie

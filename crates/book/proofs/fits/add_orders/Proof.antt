@@ -5,8 +5,8 @@ use Rattle.measures.specs.Ranges.{mostEnergy}
 use Rattle.measures.specs.Lists.{sum}
 use Rattle.limits.specs.Units.{periods}
 use Rattle.book.specs.Layout.{word}
-use Rattle.book.specs.Fitting.{Added, orderShare}
-use Rattle.book.proofs.ShareLaws.{shares-none, shares-more, shares-end}
+use Rattle.book.specs.inner.Fitting.{Added, orderShare}
+use Rattle.book.proofs.laws.check.ShareLaws.{shares-none, shares-more, shares-end}
 use borrow.Author.Needs.{needs}
 use Rattle.book.proofs.fits.add_orders.Statement.{statement}
 use Rattle.book.proofs.fits.add_orders.Tie as tie

@@ -4,8 +4,8 @@ use Prim.Native.Nat.{_+_, _*_}
 use Rattle.limits.specs.Limits.{given, hourLimit}
 use Rattle.limits.specs.Answers.{answerOf}
 use Rattle.book.specs.Layout.{word}
-use Rattle.book.specs.Fitting.{termAt, volumeAt}
-use Rattle.book.proofs.PeriodLaws.{bounds-given, bounds-refused, bounds-same}
+use Rattle.book.specs.inner.Fitting.{termAt, volumeAt}
+use Rattle.book.proofs.laws.check.PeriodLaws.{bounds-given, bounds-refused, bounds-same}
 use borrow.Author.Needs.{needs}
 use Rattle.book.proofs.fits.bounds_of.Statement.{statement}
 use Rattle.book.proofs.fits.bounds_of.Tie as tie

@@ -5,8 +5,8 @@ use mathlib.Core.Bool.{true}
 use native.Mathlib.Omega.{arith}
 use lib.ListN.{getD}
 use Rattle.book.specs.Layout.{word}
-use Rattle.book.specs.Fitting.{wayHolds, hourHolds, termPart, volumePart}
-use Rattle.book.proofs.PeriodLaws.{Passing, passing-none, passing-more, period-passed, hour-small, volume-at-most, came-early, came-term, came-volume, came-fits}
+use Rattle.book.specs.inner.Fitting.{wayHolds, hourHolds, termPart, volumePart}
+use Rattle.book.proofs.laws.check.PeriodLaws.{Passing, passing-none, passing-more, period-passed, hour-small, volume-at-most, came-early, came-term, came-volume, came-fits}
 use borrow.Author.Needs.{needs}
 use Rattle.book.proofs.fits.fit_of.Statement.{statement}
 use Rattle.book.proofs.fits.fit_of.Tie as tie

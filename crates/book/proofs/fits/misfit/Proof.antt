@@ -1,6 +1,6 @@
 -- `misfit`: the amounts come to the declaration's and what is open, so the pass over them is the fit of the decoded book.
 use native.Mathlib.Omega.{arith}
-use Rattle.book.proofs.JoinLaws.{fitted-all}
+use Rattle.book.proofs.laws.check.JoinLaws.{fitted-all}
 use borrow.Author.Needs.{needs}
 use Rattle.book.proofs.fits.misfit.Statement.{statement}
 use Rattle.book.proofs.fits.misfit.Tie as tie

@@ -1,6 +1,6 @@
 -- `period_fit`: a test that fails contradicts one of the two facts of the hour.
 use native.Mathlib.Omega.{arith}
-use Rattle.book.proofs.PeriodLaws.{period-way, period-not, period-fits}
+use Rattle.book.proofs.laws.check.PeriodLaws.{period-way, period-not, period-fits}
 use borrow.Author.Needs.{needs}
 use Rattle.book.proofs.fits.period_fit.Statement.{statement}
 use Rattle.book.proofs.fits.period_fit.Tie as tie

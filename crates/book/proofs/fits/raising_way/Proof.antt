@@ -1,6 +1,6 @@
 -- `raising_way`: the kind decides.
 use mathlib.Core.Path.{refl, sym, _∙_}
-use Rattle.book.proofs.JoinLaws.{way-generator, way-load}
+use Rattle.book.proofs.laws.check.JoinLaws.{way-generator, way-load}
 use borrow.Author.Needs.{needs}
 use Rattle.book.proofs.fits.raising_way.Statement.{statement}
 use Rattle.book.proofs.fits.raising_way.Tie as tie

@@ -8,7 +8,7 @@ use lib.Dec.{eqb}
 use Rattle.measures.specs.Lists.{all}
 use Rattle.measures.proofs.ListLaws.{all-none, all-more, all-fails}
 use Rattle.book.specs.Layout.{word}
-use Rattle.book.proofs.NumberLaws.{number-by-places}
+use Rattle.book.proofs.laws.check.NumberLaws.{number-by-places}
 use borrow.Author.Needs.{needs}
 use Rattle.book.proofs.numbers.number_free.Statement.{statement}
 use Rattle.book.proofs.numbers.number_free.Tie as tie

@@ -4,7 +4,7 @@ use mathlib.Core.Bool.{true, false}
 use borrow.Author.Tests.{not-true, not-false}
 use Rattle.matching.specs.Orders.{Order as OpenOrder, rising, numbers}
 use Rattle.book.specs.Layout.{decode}
-use Rattle.book.proofs.NumberLaws.{differ-offers, differ-orders, differ-free, orders-from}
+use Rattle.book.proofs.laws.check.NumberLaws.{differ-offers, differ-orders, differ-free, orders-from}
 use borrow.Author.Needs.{needs}
 use Rattle.book.proofs.numbers.numbers_differ.Statement.{statement}
 use Rattle.book.proofs.numbers.numbers_differ.Tie as tie

@@ -7,8 +7,8 @@ use borrow.Author.Tests.{not-true, not-false}
 use Rattle.measures.specs.Lists.{all}
 use Rattle.measures.proofs.ListLaws.{all-none, all-more, all-fails}
 use Rattle.book.specs.Layout.{word, decode}
-use Rattle.book.specs.Readable.{numberFree}
-use Rattle.book.proofs.NumberLaws.{numbers-by-places}
+use Rattle.book.specs.inner.Readable.{numberFree}
+use Rattle.book.proofs.laws.check.NumberLaws.{numbers-by-places}
 use borrow.Author.Needs.{needs}
 use Rattle.book.proofs.numbers.numbers_free.Statement.{statement}
 use Rattle.book.proofs.numbers.numbers_free.Tie as tie

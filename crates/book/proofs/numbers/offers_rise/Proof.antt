@@ -3,7 +3,7 @@ use Prim.Native.Nat.{ℕ, _≤_, _-_}
 use mathlib.Core.Path.{_≡_, sym, _∙_}
 use native.Mathlib.Omega.{arith}
 use Rattle.book.specs.Layout.{word}
-use Rattle.book.proofs.NumberLaws.{Climbing, climbing-more, climbing-rises, climbing-fails}
+use Rattle.book.proofs.laws.check.NumberLaws.{Climbing, climbing-more, climbing-rises, climbing-fails}
 use borrow.Author.Needs.{needs}
 use Rattle.book.proofs.numbers.offers_rise.Statement.{statement}
 use Rattle.book.proofs.numbers.offers_rise.Tie as tie

@@ -2,7 +2,7 @@
 use Prim.Native.Nat.{_-_}
 use native.Mathlib.Omega.{arith}
 use lib.ListN.{length}
-use Rattle.book.proofs.OfferFitLaws.{Copying, copying-start, copying-more}
+use Rattle.book.proofs.laws.offer.OfferFitLaws.{Copying, copying-start, copying-more}
 use borrow.Author.Needs.{needs}
 use Rattle.book.proofs.offering.copy_amounts.Statement.{statement}
 use Rattle.book.proofs.offering.copy_amounts.Tie as tie

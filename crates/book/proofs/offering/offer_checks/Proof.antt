@@ -1,7 +1,7 @@
 -- `offer_checks`: the three parts of the chain, one behind the other.
 use Rattle.book.specs.Layout.{decode}
-use Rattle.book.proofs.MadeLaws.{sound-readable}
-use Rattle.book.proofs.OfferChainLaws.{Terms, terms-left, offer-terms, offer-room, offer-fit}
+use Rattle.book.proofs.laws.answer.MadeLaws.{sound-readable}
+use Rattle.book.proofs.laws.offer.OfferChainLaws.{Terms, terms-left, offer-terms, offer-room, offer-fit}
 use Rattle.book.proofs.offering.offer_checks.Statement.{statement}
 use Rattle.book.proofs.offering.offer_checks.Tie as tie
 

@@ -1,9 +1,9 @@
 -- `offer_effect`: the amounts, the five words of the head and the two counts are one offer more.
 use native.Mathlib.Omega.{arith}
 use lib.ListN.{length-set}
-use Rattle.book.specs.Readable.{Readable}
-use Rattle.book.proofs.MadeLaws.{sound-head, sound-readable}
-use Rattle.book.proofs.OfferedLaws.{offered-in, offered-past}
+use Rattle.book.specs.inner.Readable.{Readable}
+use Rattle.book.proofs.laws.answer.MadeLaws.{sound-head, sound-readable}
+use Rattle.book.proofs.laws.offer.OfferedLaws.{offered-in, offered-past}
 use borrow.Author.Needs.{needs}
 use Rattle.book.proofs.offering.offer_effect.Statement.{statement}
 use Rattle.book.proofs.offering.offer_effect.Tie as tie

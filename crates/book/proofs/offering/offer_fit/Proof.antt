@@ -3,9 +3,9 @@ use Prim.Native.Nat.{ℕ, _≤_}
 use mathlib.Core.Path.{_≡_, refl}
 use native.Mathlib.Omega.{arith}
 use lib.ListN.{length, getD, replicate}
-use Rattle.book.proofs.MadeLaws.{sound-readable}
-use Rattle.book.proofs.MisfitLaws.{zeros-at}
-use Rattle.book.proofs.OfferFitLaws.{sound-ranged, offer-fits, copied-at, copied-small, zeros-small}
+use Rattle.book.proofs.laws.answer.MadeLaws.{sound-readable}
+use Rattle.book.proofs.laws.check.MisfitLaws.{zeros-at}
+use Rattle.book.proofs.laws.offer.OfferFitLaws.{sound-ranged, offer-fits, copied-at, copied-small, zeros-small}
 use borrow.Author.Needs.{needs}
 use Rattle.book.proofs.offering.offer_fit.Statement.{statement}
 use Rattle.book.proofs.offering.offer_fit.Tie as tie

@@ -2,7 +2,7 @@
 use mathlib.Core.Path.{sym, _∙_}
 use native.Mathlib.Omega.{arith}
 use borrow.Author.Tests.{not-true, not-false}
-use Rattle.book.proofs.OfferCheckLaws.{room-sides, room-full, room-used, room-pass}
+use Rattle.book.proofs.laws.offer.OfferCheckLaws.{room-sides, room-full, room-used, room-pass}
 use borrow.Author.Needs.{needs}
 use Rattle.book.proofs.offering.offer_room.Statement.{statement}
 use Rattle.book.proofs.offering.offer_room.Tie as tie

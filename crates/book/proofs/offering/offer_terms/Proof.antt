@@ -1,6 +1,6 @@
 -- `offer_terms`: each test is a check of the chain.
 use native.Mathlib.Omega.{arith}
-use Rattle.book.proofs.OfferCheckLaws.{terms-unit, terms-partner, terms-price, terms-long, terms-energy, terms-pass}
+use Rattle.book.proofs.laws.offer.OfferCheckLaws.{terms-unit, terms-partner, terms-price, terms-long, terms-energy, terms-pass}
 use borrow.Author.Needs.{needs}
 use Rattle.book.proofs.offering.offer_terms.Statement.{statement}
 use Rattle.book.proofs.offering.offer_terms.Tie as tie

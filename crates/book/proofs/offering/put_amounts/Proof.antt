@@ -1,7 +1,7 @@
 -- `put_amounts`: the periods passed have their amount, all other words are as before.
 use Prim.Native.Nat.{_-_}
 use native.Mathlib.Omega.{arith}
-use Rattle.book.proofs.OfferedLaws.{Putting, putting-start, putting-more}
+use Rattle.book.proofs.laws.offer.OfferedLaws.{Putting, putting-start, putting-more}
 use borrow.Author.Needs.{needs}
 use Rattle.book.proofs.offering.put_amounts.Statement.{statement}
 use Rattle.book.proofs.offering.put_amounts.Tie as tie

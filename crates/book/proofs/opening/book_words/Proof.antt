@@ -1,6 +1,6 @@
 -- `book_words`: a law of `wordsFor` for each way out.
 use native.Mathlib.Omega.{arith}
-use Rattle.book.proofs.OpeningLaws.{words-none, words-some}
+use Rattle.book.proofs.laws.opening.OpeningLaws.{words-none, words-some}
 use borrow.Author.Needs.{needs}
 use Rattle.book.proofs.opening.book_words.Statement.{statement}
 use Rattle.book.proofs.opening.book_words.Tie as tie

@@ -1,7 +1,7 @@
 -- `open`: a law of `openingRefusal` for each way out.
 use native.Mathlib.Omega.{arith}
 use mathlib.Core.Path.{refl}
-use Rattle.book.proofs.OpeningLaws.{no-such-days, too-short, no-such-prices, ceiling-high, opens, opened-refused, opened-fresh}
+use Rattle.book.proofs.laws.opening.OpeningLaws.{no-such-days, too-short, no-such-prices, ceiling-high, opens, opened-refused, opened-fresh}
 use borrow.Author.Needs.{needs}
 use Rattle.book.proofs.opening.open.Statement.{statement}
 use Rattle.book.proofs.opening.open.Tie as tie

@@ -4,7 +4,7 @@ use mathlib.Core.List.{List}
 use native.Mathlib.Omega.{arith}
 use lib.ListN.{length-set, drop}
 use lib.Seq.{drop-set-lt}
-use Rattle.book.proofs.OpeningLaws.{headed, head-past}
+use Rattle.book.proofs.laws.opening.OpeningLaws.{headed, head-past}
 use borrow.Author.Needs.{needs}
 use Rattle.book.proofs.opening.write_head.Statement.{statement}
 use Rattle.book.proofs.opening.write_head.Tie as tie

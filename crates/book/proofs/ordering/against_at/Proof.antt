@@ -1,6 +1,6 @@
 -- `against_at`: an order of the same direction is not against; any other counts as the unit's.
 use native.Mathlib.Omega.{arith}
-use Rattle.book.proofs.OrderCheckLaws.{against-same, against-other}
+use Rattle.book.proofs.laws.order.OrderCheckLaws.{against-same, against-other}
 use borrow.Author.Needs.{needs}
 use Rattle.book.proofs.ordering.against_at.Statement.{statement}
 use Rattle.book.proofs.ordering.against_at.Tie as tie

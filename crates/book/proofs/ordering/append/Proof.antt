@@ -2,7 +2,7 @@
 use native.Mathlib.Omega.{arith}
 use mathlib.Core.Path.{_∙_}
 use borrow.Rule.Slice.PartMut.{mid-len}
-use Rattle.book.proofs.WaitLaws.{appended}
+use Rattle.book.proofs.laws.order.WaitLaws.{appended}
 use borrow.Author.Needs.{needs}
 use Rattle.book.proofs.ordering.append.Statement.{statement}
 use Rattle.book.proofs.ordering.append.Tie as tie

@@ -1,7 +1,7 @@
 -- `counted`: the phase decides.
 use Rattle.book.specs.Layout.{word}
 use native.Mathlib.Omega.{arith}
-use Rattle.book.proofs.OrderCheckLaws.{counted-call, counted-rolling}
+use Rattle.book.proofs.laws.order.OrderCheckLaws.{counted-call, counted-rolling}
 use borrow.Author.Needs.{needs}
 use Rattle.book.proofs.ordering.counted.Statement.{statement}
 use Rattle.book.proofs.ordering.counted.Tie as tie

@@ -5,9 +5,9 @@ use borrow.Rule.Slice.PartMut.{mid-len}
 use Rattle.matching.specs.declared.orders.Matched.{Matched}
 use Rattle.matching.specs.Memory.{orderOf}
 use Rattle.matching.specs.Answers.{answerOf}
-use Rattle.book.specs.Readable.{Readable}
-use Rattle.book.proofs.MadeLaws.{sound-readable}
-use Rattle.book.proofs.RestWaitLaws.{met-unfit, met-rolled}
+use Rattle.book.specs.inner.Readable.{Readable}
+use Rattle.book.proofs.laws.answer.MadeLaws.{sound-readable}
+use Rattle.book.proofs.laws.order.RestWaitLaws.{met-unfit, met-rolled}
 use borrow.Author.Needs.{needs}
 use Rattle.book.proofs.ordering.meet_orders.Statement.{statement}
 use Rattle.book.proofs.ordering.meet_orders.Tie as tie

@@ -1,6 +1,6 @@
 -- `next_number`: only word 4 changes.
 use native.Mathlib.Omega.{arith}
-use Rattle.book.proofs.WaitLaws.{number-more, number-past}
+use Rattle.book.proofs.laws.order.WaitLaws.{number-more, number-past}
 use borrow.Author.Needs.{needs}
 use Rattle.book.proofs.ordering.next_number.Statement.{statement}
 use Rattle.book.proofs.ordering.next_number.Tie as tie

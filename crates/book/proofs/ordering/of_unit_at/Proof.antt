@@ -1,6 +1,6 @@
 -- `of_unit_at`: unit and period decide.
 use native.Mathlib.Omega.{arith}
-use Rattle.book.proofs.OrderCheckLaws.{unit-other, period-other, of-unit}
+use Rattle.book.proofs.laws.order.OrderCheckLaws.{unit-other, period-other, of-unit}
 use borrow.Author.Needs.{needs}
 use Rattle.book.proofs.ordering.of_unit_at.Statement.{statement}
 use Rattle.book.proofs.ordering.of_unit_at.Tie as tie

@@ -2,8 +2,8 @@
 use native.Mathlib.Omega.{arith}
 use mathlib.Core.Path.{_≡_, sym, _∙_}
 use Rattle.book.specs.Layout.{decode}
-use Rattle.book.proofs.MadeLaws.{sound-readable}
-use Rattle.book.proofs.OrderCheckLaws.{order-names-first, order-days-first, order-fit-first}
+use Rattle.book.proofs.laws.answer.MadeLaws.{sound-readable}
+use Rattle.book.proofs.laws.order.OrderCheckLaws.{order-names-first, order-days-first, order-fit-first}
 use Rattle.book.proofs.ordering.order_checks.Statement.{statement}
 use Rattle.book.proofs.ordering.order_checks.Tie as tie
 

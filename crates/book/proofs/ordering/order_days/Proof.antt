@@ -1,6 +1,6 @@
 -- `order_days`: each test is a check of the second part; the sums are the lengths of what the checks keep.
 use native.Mathlib.Omega.{arith}
-use Rattle.book.proofs.OrderCheckLaws.{days-against, days-way, days-two, days-full, days-used, days-pass}
+use Rattle.book.proofs.laws.order.OrderCheckLaws.{days-against, days-way, days-two, days-full, days-used, days-pass}
 use borrow.Author.Needs.{needs}
 use Rattle.book.proofs.ordering.order_days.Statement.{statement}
 use Rattle.book.proofs.ordering.order_days.Tie as tie

@@ -1,9 +1,9 @@
 -- `order_fit`: one amount among zeros is what the order declares, so the misfit is the first of the last checks.
 use native.Mathlib.Omega.{arith}
 use mathlib.Core.Path.{refl, sym, _∙_}
-use Rattle.book.specs.Readable.{Readable}
-use Rattle.book.proofs.MadeLaws.{sound-readable}
-use Rattle.book.proofs.OrderFitLaws.{sound-ranged, alone-length, zeros-small, alone-small, fit-raising, fit-lowering}
+use Rattle.book.specs.inner.Readable.{Readable}
+use Rattle.book.proofs.laws.answer.MadeLaws.{sound-readable}
+use Rattle.book.proofs.laws.order.OrderFitLaws.{sound-ranged, alone-length, zeros-small, alone-small, fit-raising, fit-lowering}
 use borrow.Author.Needs.{needs}
 use Rattle.book.proofs.ordering.order_fit.Statement.{statement}
 use Rattle.book.proofs.ordering.order_fit.Tie as tie

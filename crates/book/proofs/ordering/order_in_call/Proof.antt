@@ -3,10 +3,10 @@ use Rattle.book.specs.Opening.{bookWords}
 use Rattle.book.specs.Layout.{word}
 use native.Mathlib.Omega.{arith}
 use mathlib.Core.Path.{_∙_}
-use Rattle.book.specs.Readable.{Readable}
-use Rattle.book.proofs.MadeLaws.{sound-readable}
-use Rattle.book.proofs.WaitLaws.{put-past, called}
-use Rattle.book.proofs.RestWaitLaws.{put-same}
+use Rattle.book.specs.inner.Readable.{Readable}
+use Rattle.book.proofs.laws.answer.MadeLaws.{sound-readable}
+use Rattle.book.proofs.laws.order.WaitLaws.{put-past, called}
+use Rattle.book.proofs.laws.order.RestWaitLaws.{put-same}
 use borrow.Author.Needs.{needs}
 use Rattle.book.proofs.ordering.order_in_call.Statement.{statement}
 use Rattle.book.proofs.ordering.order_in_call.Tie as tie

@@ -1,9 +1,9 @@
 -- `order_in_rolling`: matching, the rest, the rows and the number, one after the other.
 use native.Mathlib.Omega.{arith}
-use Rattle.book.specs.Readable.{Readable}
-use Rattle.book.proofs.MadeLaws.{sound-readable}
-use Rattle.book.proofs.RollCallLaws.{rows-lent, number-left, rest-room, waits-readable, waits-small, waits-rows, rows-room, number-room, rolled-on}
-use Rattle.book.proofs.RestWaitLaws.{waits-same, rolled-same}
+use Rattle.book.specs.inner.Readable.{Readable}
+use Rattle.book.proofs.laws.answer.MadeLaws.{sound-readable}
+use Rattle.book.proofs.laws.order.RollCallLaws.{rows-lent, number-left, rest-room, waits-readable, waits-small, waits-rows, rows-room, number-room, rolled-on}
+use Rattle.book.proofs.laws.order.RestWaitLaws.{waits-same, rolled-same}
 use borrow.Author.Needs.{needs}
 use Rattle.book.proofs.ordering.order_in_rolling.Statement.{statement}
 use Rattle.book.proofs.ordering.order_in_rolling.Tie as tie

@@ -1,6 +1,6 @@
 -- `order_names`: each test is a check of the first part, and what passes them all is named.
 use native.Mathlib.Omega.{arith}
-use Rattle.book.proofs.OrderCheckLaws.{names-unit, names-rows, names-price, names-energy, names-period, names-direction, names-pass}
+use Rattle.book.proofs.laws.order.OrderCheckLaws.{names-unit, names-rows, names-price, names-energy, names-period, names-direction, names-pass}
 use borrow.Author.Needs.{needs}
 use Rattle.book.proofs.ordering.order_names.Statement.{statement}
 use Rattle.book.proofs.ordering.order_names.Tie as tie

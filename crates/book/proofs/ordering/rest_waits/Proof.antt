@@ -1,7 +1,7 @@
 -- `rest_waits`: nothing waits where nothing is left.
 use native.Mathlib.Omega.{arith}
 use Rattle.matching.specs.Memory.{orderOf}
-use Rattle.book.proofs.RestWaitLaws.{rest-none, rest-some, put-same}
+use Rattle.book.proofs.laws.order.RestWaitLaws.{rest-none, rest-some, put-same}
 use borrow.Author.Needs.{needs}
 use Rattle.book.proofs.ordering.rest_waits.Statement.{statement}
 use Rattle.book.proofs.ordering.rest_waits.Tie as tie

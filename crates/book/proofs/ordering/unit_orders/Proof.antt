@@ -1,12 +1,12 @@
 -- `unit_orders`: the sums of the places passed.
-use Rattle.book.proofs.OrderCheckLaws.{counting-more, counting-end}
+use Rattle.book.proofs.laws.order.OrderCheckLaws.{counting-more, counting-end}
 use Prim.Native.Nat.{_≤_, _-_}
 use mathlib.Core.Path.{_≡_, sym}
 use native.Mathlib.Omega.{arith}
 use Rattle.measures.specs.Lists.{sum}
 use Rattle.measures.proofs.ListLaws.{sum-none}
 use Rattle.book.specs.Layout.{word}
-use Rattle.book.specs.Ordering.{ofUnitAt, againstAt}
+use Rattle.book.specs.inner.Ordering.{ofUnitAt, againstAt}
 use borrow.Author.Needs.{needs}
 use Rattle.book.proofs.ordering.unit_orders.Statement.{statement}
 use Rattle.book.proofs.ordering.unit_orders.Tie as tie

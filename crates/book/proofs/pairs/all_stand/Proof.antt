@@ -5,7 +5,7 @@ use native.Mathlib.Omega.{arith}
 use borrow.Author.Tests.{not-true, not-false}
 use lib.ListN.{length}
 use Rattle.book.specs.Layout.{word}
-use Rattle.book.proofs.TogetherLaws.{Stood, stood-none, stood-more, stood-fails, stood-ends}
+use Rattle.book.proofs.laws.check.TogetherLaws.{Stood, stood-none, stood-more, stood-fails, stood-ends}
 use borrow.Author.Needs.{needs}
 use Rattle.book.proofs.pairs.all_stand.Statement.{statement}
 use Rattle.book.proofs.pairs.all_stand.Tie as tie

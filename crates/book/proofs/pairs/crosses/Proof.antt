@@ -2,8 +2,8 @@
 use mathlib.Core.Path.{ap}
 use mathlib.Core.Bool.{not}
 use native.Mathlib.Omega.{arith}
-use Rattle.book.proofs.ShareLaws.{order-words}
-use Rattle.book.proofs.TogetherLaws.{buy-crosses, buy-apart, sell-crosses, sell-apart, is-sale}
+use Rattle.book.proofs.laws.check.ShareLaws.{order-words}
+use Rattle.book.proofs.laws.check.TogetherLaws.{buy-crosses, buy-apart, sell-crosses, sell-apart, is-sale}
 use borrow.Author.Needs.{needs}
 use Rattle.book.proofs.pairs.crosses.Statement.{statement}
 use Rattle.book.proofs.pairs.crosses.Tie as tie

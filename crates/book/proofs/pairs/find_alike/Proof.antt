@@ -1,7 +1,7 @@
 -- `find_alike`: none passed has both unit and period.
 use Prim.Native.Nat.{_-_}
 use native.Mathlib.Omega.{arith}
-use Rattle.book.proofs.TogetherLaws.{Seeking, seeking-starts, seeking-more, none-of-unit, none-of-period, alike-by-unit, alike-by-period}
+use Rattle.book.proofs.laws.check.TogetherLaws.{Seeking, seeking-starts, seeking-more, none-of-unit, none-of-period, alike-by-unit, alike-by-period}
 use borrow.Author.Needs.{needs}
 use Rattle.book.proofs.pairs.find_alike.Statement.{statement}
 use Rattle.book.proofs.pairs.find_alike.Tie as tie

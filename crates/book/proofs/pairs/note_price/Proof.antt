@@ -1,6 +1,6 @@
 -- `note_price`: the price is entered where it is higher, or lower, than what stands there.
 use mathlib.Core.Path.{sym}
-use Rattle.book.proofs.TogetherLaws.{high-new, high-not, low-new, low-not}
+use Rattle.book.proofs.laws.check.TogetherLaws.{high-new, high-not, low-new, low-not}
 use borrow.Author.Needs.{needs}
 use Rattle.book.proofs.pairs.note_price.Statement.{statement}
 use Rattle.book.proofs.pairs.note_price.Tie as tie

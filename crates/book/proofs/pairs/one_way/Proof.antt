@@ -1,6 +1,6 @@
 -- `one_way`: no order of the unit and the period stands before it, or the one found stands for all.
 use native.Mathlib.Omega.{arith}
-use Rattle.book.proofs.TogetherLaws.{way-alone, way-tested}
+use Rattle.book.proofs.laws.check.TogetherLaws.{way-alone, way-tested}
 use borrow.Author.Needs.{needs}
 use Rattle.book.proofs.pairs.one_way.Statement.{statement}
 use Rattle.book.proofs.pairs.one_way.Tie as tie

@@ -1,6 +1,6 @@
 -- `order_stands`: its way first, then in the rolling phase its price.
 use borrow.Author.Tests.{not-true, not-false}
-use Rattle.book.proofs.TogetherLaws.{stands-not, stands-called, stands-rolling}
+use Rattle.book.proofs.laws.check.TogetherLaws.{stands-not, stands-called, stands-rolling}
 use borrow.Author.Needs.{needs}
 use Rattle.book.proofs.pairs.order_stands.Statement.{statement}
 use Rattle.book.proofs.pairs.order_stands.Tie as tie

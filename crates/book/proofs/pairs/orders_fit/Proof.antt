@@ -2,9 +2,9 @@
 use mathlib.Core.Path.{refl, sym}
 use native.Mathlib.Omega.{arith}
 use lib.ListN.{replicate}
-use Rattle.book.proofs.ShareLaws.{order-words}
-use Rattle.book.proofs.UnitsFitLaws.{zeros-below}
-use Rattle.book.proofs.TogetherLaws.{stood-none, stood-ends}
+use Rattle.book.proofs.laws.check.ShareLaws.{order-words}
+use Rattle.book.proofs.laws.check.UnitsFitLaws.{zeros-below}
+use Rattle.book.proofs.laws.check.TogetherLaws.{stood-none, stood-ends}
 use borrow.Author.Needs.{needs}
 use Rattle.book.proofs.pairs.orders_fit.Statement.{statement}
 use Rattle.book.proofs.pairs.orders_fit.Tie as tie

@@ -2,8 +2,8 @@
 use mathlib.Core.Path.{sym, _∙_}
 use borrow.Author.Tests.{not-true}
 use native.Mathlib.Omega.{arith}
-use Rattle.book.proofs.ShareLaws.{order-words}
-use Rattle.book.proofs.TogetherLaws.{not-priced, priced}
+use Rattle.book.proofs.laws.check.ShareLaws.{order-words}
+use Rattle.book.proofs.laws.check.TogetherLaws.{not-priced, priced}
 use borrow.Author.Needs.{needs}
 use Rattle.book.proofs.pairs.stands_apart.Statement.{statement}
 use Rattle.book.proofs.pairs.stands_apart.Tie as tie

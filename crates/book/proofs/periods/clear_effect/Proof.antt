@@ -2,8 +2,8 @@
 use mathlib.Core.Path.{_∙_}
 use lib.ListN.{length-set}
 use native.Mathlib.Omega.{arith}
-use Rattle.book.proofs.MadeLaws.{sound-readable}
-use Rattle.book.proofs.ClearEffectLaws.{swept-readable, swept-room, swept-rows, swept-small, all-cleared}
+use Rattle.book.proofs.laws.answer.MadeLaws.{sound-readable}
+use Rattle.book.proofs.laws.clear.ClearEffectLaws.{swept-readable, swept-room, swept-rows, swept-small, all-cleared}
 use borrow.Author.Needs.{needs}
 use Rattle.book.proofs.periods.clear_effect.Statement.{statement}
 use Rattle.book.proofs.periods.clear_effect.Tie as tie

@@ -1,5 +1,5 @@
 -- `clear_met`: no prices meet, or the period is cleared.
-use Rattle.book.proofs.SkipLaws.{stepped-by}
+use Rattle.book.proofs.laws.clear.SkipLaws.{stepped-by}
 use borrow.Author.Needs.{needs}
 use Rattle.book.proofs.periods.clear_met.Statement.{statement}
 use Rattle.book.proofs.periods.clear_met.Tie as tie

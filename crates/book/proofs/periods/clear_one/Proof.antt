@@ -4,7 +4,7 @@ use mathlib.Core.Path.{ap}
 use native.Mathlib.Omega.{arith}
 use Rattle.matching.specs.declared.orders.Matched.{Matched}
 use Rattle.matching.specs.Answers.{answerOf}
-use Rattle.book.proofs.PassingLaws.{fit-part, never-unfit, step-few, stepped}
+use Rattle.book.proofs.laws.clear.PassingLaws.{fit-part, never-unfit, step-few, stepped}
 use borrow.Author.Needs.{needs}
 use Rattle.book.proofs.periods.clear_one.Statement.{statement}
 use Rattle.book.proofs.periods.clear_one.Tie as tie

@@ -5,9 +5,9 @@ use native.Mathlib.Omega.{arith}
 use lib.ListN.{length}
 use Rattle.measures.specs.Lists.{Each}
 use Rattle.matching.specs.Memory.{ordersIn}
-use Rattle.book.specs.Periods.{PricedBy}
-use Rattle.book.proofs.PassingLaws.{Passing, passing-start, passing-ready, passing-more, passing-end}
-use Rattle.book.proofs.SkipLaws.{priced-after}
+use Rattle.book.specs.inner.Periods.{PricedBy}
+use Rattle.book.proofs.laws.clear.PassingLaws.{Passing, passing-start, passing-ready, passing-more, passing-end}
+use Rattle.book.proofs.laws.clear.SkipLaws.{priced-after}
 use borrow.Author.Needs.{needs}
 use Rattle.book.proofs.periods.clear_orders.Statement.{statement}
 use Rattle.book.proofs.periods.clear_orders.Tie as tie

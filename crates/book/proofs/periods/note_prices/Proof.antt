@@ -3,7 +3,7 @@ use Prim.Native.Nat.{ℕ, _≤_, _-_}
 use mathlib.Core.Path.{_≡_, _∙_}
 use native.Mathlib.Omega.{arith}
 use lib.ListN.{length}
-use Rattle.book.proofs.SkipLaws.{NotedTo, noted-more, noted-all}
+use Rattle.book.proofs.laws.clear.SkipLaws.{NotedTo, noted-more, noted-all}
 use borrow.Author.Needs.{needs}
 use Rattle.book.proofs.periods.note_prices.Statement.{statement}
 use Rattle.book.proofs.periods.note_prices.Tie as tie

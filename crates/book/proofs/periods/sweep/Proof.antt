@@ -2,9 +2,9 @@
 use borrow.Rule.Slice.PartMut.{mid-len}
 use native.Mathlib.Omega.{arith}
 use mathlib.Core.Path.{_∙_}
-use Rattle.book.specs.Readable.{Readable}
-use Rattle.book.proofs.MadeLaws.{sound-readable}
-use Rattle.book.proofs.ClearEffectLaws.{clear-asks, orders-below, swept}
+use Rattle.book.specs.inner.Readable.{Readable}
+use Rattle.book.proofs.laws.answer.MadeLaws.{sound-readable}
+use Rattle.book.proofs.laws.clear.ClearEffectLaws.{clear-asks, orders-below, swept}
 use borrow.Author.Needs.{needs}
 use Rattle.book.proofs.periods.sweep.Statement.{statement}
 use Rattle.book.proofs.periods.sweep.Tie as tie

@@ -1,7 +1,7 @@
 -- `head_in`: a test that fails contradicts one of the head's facts.
 use native.Mathlib.Omega.{arith}
 use mathlib.Core.Path.{sym}
-use Rattle.book.proofs.RangeFacts.{Head, head-fails, head-holds}
+use Rattle.book.proofs.laws.memory.RangeFacts.{Head, head-fails, head-holds}
 use borrow.Author.Needs.{needs}
 use Rattle.book.proofs.ranges.head_in.Statement.{statement}
 use Rattle.book.proofs.ranges.head_in.Tie as tie

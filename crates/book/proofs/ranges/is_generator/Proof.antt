@@ -1,6 +1,6 @@
 -- `is_generator`: kinds 1 and 2.
 use native.Mathlib.Omega.{arith}
-use Rattle.book.proofs.RangeFacts.{generator-is, generator-not}
+use Rattle.book.proofs.laws.memory.RangeFacts.{generator-is, generator-not}
 use borrow.Author.Needs.{needs}
 use Rattle.book.proofs.ranges.is_generator.Statement.{statement}
 use Rattle.book.proofs.ranges.is_generator.Tie as tie

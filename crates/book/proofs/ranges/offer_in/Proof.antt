@@ -1,7 +1,7 @@
 -- `offer_in`: a test that fails contradicts one of the offer's facts; the sides decide the rest.
 use native.Mathlib.Omega.{arith}
 use mathlib.Core.Path.{sym, _∙_}
-use Rattle.book.proofs.RangeFacts.{OfferWords, offer-fails, offer-by-sides}
+use Rattle.book.proofs.laws.memory.RangeFacts.{OfferWords, offer-fails, offer-by-sides}
 use borrow.Author.Needs.{needs}
 use Rattle.book.proofs.ranges.offer_in.Statement.{statement}
 use Rattle.book.proofs.ranges.offer_in.Tie as tie

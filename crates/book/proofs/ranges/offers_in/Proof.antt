@@ -9,7 +9,7 @@ use Rattle.measures.proofs.ListLaws.{all-none, all-more, all-fails}
 use Rattle.matching.specs.Memory.{orderAt}
 use Rattle.book.specs.Sound.{offerIn}
 use Rattle.book.specs.Layout.{word, decode, offerAt, ordersPart}
-use Rattle.book.proofs.RangeFacts.{offers-every}
+use Rattle.book.proofs.laws.memory.RangeFacts.{offers-every}
 use borrow.Author.Needs.{needs}
 use Rattle.book.proofs.ranges.offers_in.Statement.{statement}
 use Rattle.book.proofs.ranges.offers_in.Tie as tie

@@ -1,7 +1,7 @@
 -- `order_in`: a test that fails contradicts one of the order's facts.
 use native.Mathlib.Omega.{arith}
 use mathlib.Core.Path.{sym}
-use Rattle.book.proofs.RangeFacts.{OrderWords, order-fails, order-holds}
+use Rattle.book.proofs.laws.memory.RangeFacts.{OrderWords, order-fails, order-holds}
 use borrow.Author.Needs.{needs}
 use Rattle.book.proofs.ranges.order_in.Statement.{statement}
 use Rattle.book.proofs.ranges.order_in.Tie as tie

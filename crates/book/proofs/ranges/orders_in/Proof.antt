@@ -9,7 +9,7 @@ use Rattle.measures.proofs.ListLaws.{all-none, all-more, all-fails}
 use Rattle.matching.specs.Memory.{orderAt}
 use Rattle.book.specs.Sound.{orderIn}
 use Rattle.book.specs.Layout.{word, decode, offerAt, ordersPart}
-use Rattle.book.proofs.RangeFacts.{orders-every}
+use Rattle.book.proofs.laws.memory.RangeFacts.{orders-every}
 use borrow.Author.Needs.{needs}
 use Rattle.book.proofs.ranges.orders_in.Statement.{statement}
 use Rattle.book.proofs.ranges.orders_in.Tie as tie

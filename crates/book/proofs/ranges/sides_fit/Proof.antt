@@ -2,7 +2,7 @@
 use mathlib.Core.Path.{sym, _∙_}
 use native.Mathlib.Omega.{arith}
 use borrow.Author.Tests.{not-true, not-false}
-use Rattle.book.proofs.RangeFacts.{sides-alone, sides-unknown, sides-no-generator, sides-no-load, sides-right}
+use Rattle.book.proofs.laws.memory.RangeFacts.{sides-alone, sides-unknown, sides-no-generator, sides-no-load, sides-right}
 use borrow.Author.Needs.{needs}
 use Rattle.book.proofs.ranges.sides_fit.Statement.{statement}
 use Rattle.book.proofs.ranges.sides_fit.Tie as tie

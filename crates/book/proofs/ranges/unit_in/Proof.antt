@@ -1,7 +1,7 @@
 -- `unit_in`: a test that fails contradicts one of the unit's facts.
 use native.Mathlib.Omega.{arith}
 use mathlib.Core.Path.{sym}
-use Rattle.book.proofs.RangeFacts.{UnitFields, unit-fails, unit-holds}
+use Rattle.book.proofs.laws.memory.RangeFacts.{UnitFields, unit-fails, unit-holds}
 use borrow.Author.Needs.{needs}
 use Rattle.book.proofs.ranges.unit_in.Statement.{statement}
 use Rattle.book.proofs.ranges.unit_in.Tie as tie

@@ -7,7 +7,7 @@ use native.Mathlib.Omega.{arith}
 use borrow.Author.Tests.{not-true, not-false}
 use Rattle.measures.specs.Lists.{all}
 use Rattle.measures.proofs.ListLaws.{all-none, all-more, all-fails}
-use Rattle.book.specs.Readable.{unitFieldsIn}
+use Rattle.book.specs.inner.Readable.{unitFieldsIn}
 use borrow.Author.Needs.{needs}
 use Rattle.book.proofs.ranges.units_in.Statement.{statement}
 use Rattle.book.proofs.ranges.units_in.Tie as tie

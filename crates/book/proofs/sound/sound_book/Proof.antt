@@ -11,11 +11,11 @@ use Rattle.measures.proofs.ListLaws.{not-both}
 use Rattle.book.specs.Sound.{headIn}
 use Rattle.book.specs.Opening.{bookWords}
 use Rattle.book.specs.Layout.{word, decode}
-use Rattle.book.specs.Readable.{Readable, Ranged}
-use Rattle.book.proofs.RangeFacts.{Head, head-facts, readable}
-use Rattle.book.proofs.ShareLaws.{order-words}
-use Rattle.book.proofs.UnitsFitLaws.{zeros-below}
-use Rattle.book.proofs.SoundInLaws.{SoundWords, sound-fails, sound-by-units, never-short, ranged}
+use Rattle.book.specs.inner.Readable.{Readable, Ranged}
+use Rattle.book.proofs.laws.memory.RangeFacts.{Head, head-facts, readable}
+use Rattle.book.proofs.laws.check.ShareLaws.{order-words}
+use Rattle.book.proofs.laws.check.UnitsFitLaws.{zeros-below}
+use Rattle.book.proofs.laws.check.SoundInLaws.{SoundWords, sound-fails, sound-by-units, never-short, ranged}
 use borrow.Author.Needs.{needs}
 use Rattle.book.proofs.sound.sound_book.Statement.{statement}
 use Rattle.book.proofs.sound.sound_book.Tie as tie

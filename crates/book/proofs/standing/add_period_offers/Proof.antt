@@ -2,9 +2,9 @@
 use Prim.Native.Nat.{_-_, _≤_, _+_, _*_}
 use native.Mathlib.Omega.{arith}
 use Rattle.book.specs.Layout.{word}
-use Rattle.book.proofs.RangeFacts.{OfferWords}
-use Rattle.book.proofs.ShareLaws.{offer-words, amount-small}
-use Rattle.book.proofs.LinkedLaws.{OffersAdded, offers-none, offers-more, offers-end}
+use Rattle.book.proofs.laws.memory.RangeFacts.{OfferWords}
+use Rattle.book.proofs.laws.check.ShareLaws.{offer-words, amount-small}
+use Rattle.book.proofs.laws.check.LinkedLaws.{OffersAdded, offers-none, offers-more, offers-end}
 use borrow.Author.Needs.{needs}
 use Rattle.book.proofs.standing.add_period_offers.Statement.{statement}
 use Rattle.book.proofs.standing.add_period_offers.Tie as tie

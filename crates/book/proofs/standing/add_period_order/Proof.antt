@@ -2,9 +2,9 @@
 use Prim.Native.Nat.{_-_, _+_, _*_}
 use native.Mathlib.Omega.{arith}
 use Rattle.book.specs.Layout.{word}
-use Rattle.book.proofs.RangeFacts.{OrderWords}
-use Rattle.book.proofs.ShareLaws.{order-words}
-use Rattle.book.proofs.LinkedLaws.{order-raised, order-lowered}
+use Rattle.book.proofs.laws.memory.RangeFacts.{OrderWords}
+use Rattle.book.proofs.laws.check.ShareLaws.{order-words}
+use Rattle.book.proofs.laws.check.LinkedLaws.{order-raised, order-lowered}
 use borrow.Author.Needs.{needs}
 use Rattle.book.proofs.standing.add_period_order.Statement.{statement}
 use Rattle.book.proofs.standing.add_period_order.Tie as tie

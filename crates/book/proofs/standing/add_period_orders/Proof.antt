@@ -1,7 +1,7 @@
 -- `add_period_orders`: the orders of the period are walked, last first, and those passed have their quantities added.
 use native.Mathlib.Omega.{arith}
 use Prim.Native.Nat.{_-_}
-use Rattle.book.proofs.LinkedLaws.{Walking, walking-starts, walking-more, walking-ends}
+use Rattle.book.proofs.laws.check.LinkedLaws.{Walking, walking-starts, walking-more, walking-ends}
 use borrow.Author.Needs.{needs}
 use Rattle.book.proofs.standing.add_period_orders.Statement.{statement}
 use Rattle.book.proofs.standing.add_period_orders.Tie as tie

@@ -3,7 +3,7 @@ use Prim.Native.Nat.{_+_, _-_, _*_, _<_}
 use native.Mathlib.Omega.{arith}
 use lib.ListN.{length}
 use Rattle.book.specs.Layout.{word}
-use Rattle.book.proofs.LinkedLaws.{Linking, linking-none, linking-more, linking-ends}
+use Rattle.book.proofs.laws.check.LinkedLaws.{Linking, linking-none, linking-more, linking-ends}
 use borrow.Author.Needs.{needs}
 use Rattle.book.proofs.standing.link_orders.Statement.{statement}
 use Rattle.book.proofs.standing.link_orders.Tie as tie

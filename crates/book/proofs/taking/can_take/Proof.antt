@@ -1,7 +1,7 @@
 -- `can_take`: the partner takes all, a unit of the other side takes of a listing.
 use mathlib.Core.Path.{sym, _∙_}
 use native.Mathlib.Omega.{arith}
-use Rattle.book.proofs.FoundLaws.{takes-other, takes-unlike, takes-whole, takes-over, takes-load, takes-generator}
+use Rattle.book.proofs.laws.take.FoundLaws.{takes-other, takes-unlike, takes-whole, takes-over, takes-load, takes-generator}
 use borrow.Author.Needs.{needs}
 use Rattle.book.proofs.taking.can_take.Statement.{statement}
 use Rattle.book.proofs.taking.can_take.Tie as tie

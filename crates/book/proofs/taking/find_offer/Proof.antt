@@ -2,7 +2,7 @@
 use Prim.Native.Nat.{_≤_, _-_}
 use native.Mathlib.Omega.{arith}
 use Rattle.book.specs.Layout.{word}
-use Rattle.book.proofs.FoundLaws.{Unmet, unmet-more, found-here, found-nowhere}
+use Rattle.book.proofs.laws.take.FoundLaws.{Unmet, unmet-more, found-here, found-nowhere}
 use borrow.Author.Needs.{needs}
 use Rattle.book.proofs.taking.find_offer.Statement.{statement}
 use Rattle.book.proofs.taking.find_offer.Tie as tie

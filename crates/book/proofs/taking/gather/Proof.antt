@@ -6,7 +6,7 @@ use native.Mathlib.Omega.{arith}
 use lib.ListN.{length, drop, length-set}
 use Rattle.measures.specs.Lists.{table}
 use Rattle.book.specs.Layout.{word, amountAt}
-use Rattle.book.proofs.GatherLaws.{gather-none, gather-more, gather-end}
+use Rattle.book.proofs.laws.take.GatherLaws.{gather-none, gather-more, gather-end}
 use borrow.Author.Needs.{needs}
 use Rattle.book.proofs.taking.gather.Statement.{statement}
 use Rattle.book.proofs.taking.gather.Tie as tie

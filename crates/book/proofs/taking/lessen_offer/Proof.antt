@@ -1,5 +1,5 @@
 -- `lessen_offer`: the amounts are less, and the offer is marked.
-use Rattle.book.proofs.LessenedLaws.{lessened}
+use Rattle.book.proofs.laws.take.LessenedLaws.{lessened}
 use borrow.Author.Needs.{needs}
 use Rattle.book.proofs.taking.lessen_offer.Statement.{statement}
 use Rattle.book.proofs.taking.lessen_offer.Tie as tie

@@ -1,7 +1,7 @@
 -- `take_checks`: the checks before the fit, then the fit.
 use native.Mathlib.Omega.{arith}
-use Rattle.book.proofs.MadeLaws.{sound-readable}
-use Rattle.book.proofs.CheckedLaws.{checked-refused, fit-asks, checked-fit}
+use Rattle.book.proofs.laws.answer.MadeLaws.{sound-readable}
+use Rattle.book.proofs.laws.take.CheckedLaws.{checked-refused, fit-asks, checked-fit}
 use borrow.Author.Needs.{needs}
 use Rattle.book.proofs.taking.take_checks.Statement.{statement}
 use Rattle.book.proofs.taking.take_checks.Tie as tie

@@ -1,8 +1,8 @@
 -- `take_effect`: all that is left, or a part of it.
 use mathlib.Core.Path.{_∙_}
 use lib.ListN.{length}
-use Rattle.book.proofs.MadeLaws.{sound-readable}
-use Rattle.book.proofs.EffectLaws.{there, take-some, take-all, take-less, part-asks, all-asks, part-made, whole-made}
+use Rattle.book.proofs.laws.answer.MadeLaws.{sound-readable}
+use Rattle.book.proofs.laws.take.EffectLaws.{there, take-some, take-all, take-less, part-asks, all-asks, part-made, whole-made}
 use borrow.Author.Needs.{needs}
 use Rattle.book.proofs.taking.take_effect.Statement.{statement}
 use Rattle.book.proofs.taking.take_effect.Tie as tie

@@ -3,8 +3,8 @@ use Prim.Native.Nat.{_*_}
 use mathlib.Core.Path.{refl}
 use native.Mathlib.Omega.{arith}
 use Rattle.book.specs.Layout.{word}
-use Rattle.book.proofs.MadeLaws.{sound-readable}
-use Rattle.book.proofs.GatherLaws.{shared-parts, raising-small, lowering-small, sound-ranged, take-fitted}
+use Rattle.book.proofs.laws.answer.MadeLaws.{sound-readable}
+use Rattle.book.proofs.laws.take.GatherLaws.{shared-parts, raising-small, lowering-small, sound-ranged, take-fitted}
 use borrow.Author.Needs.{needs}
 use Rattle.book.proofs.taking.take_fit.Statement.{statement}
 use Rattle.book.proofs.taking.take_fit.Tie as tie

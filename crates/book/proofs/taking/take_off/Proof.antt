@@ -3,8 +3,8 @@ use Prim.Native.Nat.{_≤_, _-_, _*_}
 use mathlib.Core.Path.{refl}
 use native.Mathlib.Omega.{arith}
 use Rattle.book.specs.Layout.{word}
-use Rattle.book.specs.RowsIn.{AmountsLess}
-use Rattle.book.proofs.WritingLaws.{less-none, less-more, less-end, amount-kept}
+use Rattle.book.specs.inner.RowsIn.{AmountsLess}
+use Rattle.book.proofs.laws.take.WritingLaws.{less-none, less-more, less-end, amount-kept}
 use borrow.Author.Needs.{needs}
 use Rattle.book.proofs.taking.take_off.Statement.{statement}
 use Rattle.book.proofs.taking.take_off.Tie as tie

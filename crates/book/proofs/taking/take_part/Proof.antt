@@ -2,8 +2,8 @@
 use Prim.Native.Nat.{_*_}
 use lib.ListN.{take}
 use Rattle.book.specs.Layout.{word}
-use Rattle.book.proofs.MadeLaws.{sound-readable}
-use Rattle.book.proofs.EnterLaws.{rows-asks, parts-first, enter-asks, part-taken}
+use Rattle.book.proofs.laws.answer.MadeLaws.{sound-readable}
+use Rattle.book.proofs.laws.take.EnterLaws.{rows-asks, parts-first, enter-asks, part-taken}
 use borrow.Author.Needs.{needs}
 use Rattle.book.proofs.taking.take_part.Statement.{statement}
 use Rattle.book.proofs.taking.take_part.Tie as tie

@@ -2,8 +2,8 @@
 use mathlib.Core.Path.{sym, _∙_}
 use native.Mathlib.Omega.{arith}
 use borrow.Author.Tests.{not-true, not-false}
-use Rattle.book.proofs.MadeLaws.{sound-readable}
-use Rattle.book.proofs.PartyLaws.{party-unknown, party-few, party-energy, party-none, party-cannot, party-passed, can-asks}
+use Rattle.book.proofs.laws.answer.MadeLaws.{sound-readable}
+use Rattle.book.proofs.laws.take.PartyLaws.{party-unknown, party-few, party-energy, party-none, party-cannot, party-passed, can-asks}
 use Rattle.book.proofs.taking.take_party.Statement.{statement}
 use Rattle.book.proofs.taking.take_party.Tie as tie
 

@@ -1,6 +1,6 @@
 -- `take_rows`: the generator sells.
 use mathlib.Core.Path.{sym, _∙_}
-use Rattle.book.proofs.TakenLaws.{rows-sold, rows-bought}
+use Rattle.book.proofs.laws.take.TakenLaws.{rows-sold, rows-bought}
 use borrow.Author.Needs.{needs}
 use Rattle.book.proofs.taking.take_rows.Statement.{statement}
 use Rattle.book.proofs.taking.take_rows.Tie as tie

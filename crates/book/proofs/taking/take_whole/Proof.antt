@@ -3,8 +3,8 @@ use Prim.Native.Nat.{_*_}
 use mathlib.Core.Path.{refl}
 use lib.ListN.{take}
 use Rattle.book.specs.Layout.{word}
-use Rattle.book.proofs.EnterLaws.{rows-asks}
-use Rattle.book.proofs.WholeLaws.{whole-asks, whole-taken}
+use Rattle.book.proofs.laws.take.EnterLaws.{rows-asks}
+use Rattle.book.proofs.laws.take.WholeLaws.{whole-asks, whole-taken}
 use borrow.Author.Needs.{needs}
 use Rattle.book.proofs.taking.take_whole.Statement.{statement}
 use Rattle.book.proofs.taking.take_whole.Tie as tie

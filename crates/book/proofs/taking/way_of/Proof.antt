@@ -1,6 +1,6 @@
 -- `way_of`: by the partner.
 use native.Mathlib.Omega.{arith}
-use Rattle.book.proofs.TakenLaws.{way-listing, way-bilateral}
+use Rattle.book.proofs.laws.take.TakenLaws.{way-listing, way-bilateral}
 use Rattle.book.proofs.taking.way_of.Statement.{statement}
 use Rattle.book.proofs.taking.way_of.Tie as tie
 

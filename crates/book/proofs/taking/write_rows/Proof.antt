@@ -2,7 +2,7 @@
 use Prim.Native.Nat.{_≤_, _-_}
 use native.Mathlib.Omega.{arith}
 use lib.ListN.{take}
-use Rattle.book.proofs.WritingLaws.{Writing, writing-none, writing-skip, writing-row, writing-end}
+use Rattle.book.proofs.laws.take.WritingLaws.{Writing, writing-none, writing-skip, writing-row, writing-end}
 use borrow.Author.Needs.{needs}
 use Rattle.book.proofs.taking.write_rows.Statement.{statement}
 use Rattle.book.proofs.taking.write_rows.Tie as tie

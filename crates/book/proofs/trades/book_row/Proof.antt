@@ -1,6 +1,6 @@
 -- `book_row`: the seller sold, the buyer bought.
-use Rattle.book.specs.RowsIn.{rowAt}
-use Rattle.book.proofs.BookingLaws.{row-traded, seller-asks, buyer-asks}
+use Rattle.book.specs.inner.RowsIn.{rowAt}
+use Rattle.book.proofs.laws.rows.BookingLaws.{row-traded, seller-asks, buyer-asks}
 use borrow.Author.Needs.{needs}
 use Rattle.book.proofs.trades.book_row.Statement.{statement}
 use Rattle.book.proofs.trades.book_row.Tie as tie

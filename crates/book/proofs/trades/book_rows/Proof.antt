@@ -1,7 +1,7 @@
 -- `book_rows`: the rows passed are booked.
 use Prim.Native.Nat.{_≤_, _-_}
 use native.Mathlib.Omega.{arith}
-use Rattle.book.proofs.BookingLaws.{Booking, booking-none, booking-more, booking-end, row-asks}
+use Rattle.book.proofs.laws.rows.BookingLaws.{Booking, booking-none, booking-more, booking-end, row-asks}
 use borrow.Author.Needs.{needs}
 use Rattle.book.proofs.trades.book_rows.Statement.{statement}
 use Rattle.book.proofs.trades.book_rows.Tie as tie

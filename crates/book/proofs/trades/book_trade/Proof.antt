@@ -1,7 +1,7 @@
 -- `book_trade`: the unit's new figures are those of the definition.
 use mathlib.Core.Path.{sym, _∙_}
 use native.Mathlib.Omega.{arith}
-use Rattle.book.proofs.BookingLaws.{trade-raised, trade-lowered}
+use Rattle.book.proofs.laws.rows.BookingLaws.{trade-raised, trade-lowered}
 use borrow.Author.Needs.{needs}
 use Rattle.book.proofs.trades.book_trade.Statement.{statement}
 use Rattle.book.proofs.trades.book_trade.Tie as tie

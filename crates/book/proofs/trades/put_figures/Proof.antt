@@ -1,7 +1,7 @@
 -- `put_figures`: four stores at four places.
 use native.Mathlib.Omega.{arith}
 use lib.ListN.{length-set}
-use Rattle.book.proofs.FigureLaws.{figures-put}
+use Rattle.book.proofs.laws.rows.FigureLaws.{figures-put}
 use borrow.Author.Needs.{needs}
 use Rattle.book.proofs.trades.put_figures.Statement.{statement}
 use Rattle.book.proofs.trades.put_figures.Tie as tie

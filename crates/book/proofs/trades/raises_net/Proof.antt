@@ -1,6 +1,6 @@
 -- `raises_net`: a generator raises by selling, a load by buying.
 use mathlib.Core.Path.{sym, _∙_}
-use Rattle.book.proofs.BookingLaws.{raises-sold, raises-bought}
+use Rattle.book.proofs.laws.rows.BookingLaws.{raises-sold, raises-bought}
 use borrow.Author.Needs.{needs}
 use Rattle.book.proofs.trades.raises_net.Statement.{statement}
 use Rattle.book.proofs.trades.raises_net.Tie as tie

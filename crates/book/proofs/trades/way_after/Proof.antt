@@ -1,6 +1,6 @@
 -- `way_after`: ways 3 and 4 set the direction.
 use native.Mathlib.Omega.{arith}
-use Rattle.book.proofs.BookingLaws.{way-set, way-left}
+use Rattle.book.proofs.laws.rows.BookingLaws.{way-set, way-left}
 use borrow.Author.Needs.{needs}
 use Rattle.book.proofs.trades.way_after.Statement.{statement}
 use Rattle.book.proofs.trades.way_after.Tie as tie

@@ -1,6 +1,6 @@
 -- `add_cell`: a test that fails, or the sums with what the cell adds.
 use native.Mathlib.Omega.{arith}
-use Rattle.book.proofs.UnitsFitLaws.{cell-misfit, cell-over, cell-passed, cell-refused, cell-little}
+use Rattle.book.proofs.laws.check.UnitsFitLaws.{cell-misfit, cell-over, cell-passed, cell-refused, cell-little}
 use borrow.Author.Needs.{needs}
 use Rattle.book.proofs.whole.add_cell.Statement.{statement}
 use Rattle.book.proofs.whole.add_cell.Tie as tie

@@ -5,7 +5,7 @@ use native.Mathlib.Omega.{arith}
 use lib.ListN.{getD}
 use borrow.Author.Tests.{not-true, not-false}
 use Rattle.book.specs.Layout.{word}
-use Rattle.book.proofs.UnitsFitLaws.{CellsPast, past-none, past-more, past-fails, past-ends, past-below}
+use Rattle.book.proofs.laws.check.UnitsFitLaws.{CellsPast, past-none, past-more, past-fails, past-ends, past-below}
 use borrow.Author.Needs.{needs}
 use Rattle.book.proofs.whole.add_idle.Statement.{statement}
 use Rattle.book.proofs.whole.add_idle.Tie as tie

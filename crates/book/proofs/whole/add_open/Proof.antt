@@ -3,8 +3,8 @@ use mathlib.Core.Path.{_∙_, sym}
 use native.Mathlib.Omega.{arith}
 use borrow.Author.Tests.{not-true, not-false}
 use Rattle.measures.proofs.ListLaws.{both-ways}
-use Rattle.book.proofs.UnitsFitLaws.{open-up, open-down, open-below}
-use Rattle.book.proofs.SettleLaws.{open-waits, open-fails, open-ends, settles-both, settling-still}
+use Rattle.book.proofs.laws.check.UnitsFitLaws.{open-up, open-down, open-below}
+use Rattle.book.proofs.laws.check.SettleLaws.{open-waits, open-fails, open-ends, settles-both, settling-still}
 use borrow.Author.Needs.{needs}
 use Rattle.book.proofs.whole.add_open.Statement.{statement}
 use Rattle.book.proofs.whole.add_open.Tie as tie

@@ -4,9 +4,9 @@ use mathlib.Core.Bool.{true}
 use native.Mathlib.Omega.{arith}
 use borrow.Author.Tests.{not-true, not-false}
 use Rattle.measures.proofs.ListLaws.{both-ways}
-use Rattle.book.specs.Whole.{CellsDone, openUp, openDown}
-use Rattle.book.proofs.UnitsFitLaws.{cells-same, idle-up, idle-down}
-use Rattle.book.proofs.SettleLaws.{period-fails, period-done}
+use Rattle.book.specs.inner.Whole.{CellsDone, openUp, openDown}
+use Rattle.book.proofs.laws.check.UnitsFitLaws.{cells-same, idle-up, idle-down}
+use Rattle.book.proofs.laws.check.SettleLaws.{period-fails, period-done}
 use borrow.Author.Needs.{needs}
 use Rattle.book.proofs.whole.add_period.Statement.{statement}
 use Rattle.book.proofs.whole.add_period.Tie as tie

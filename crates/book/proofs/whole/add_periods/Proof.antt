@@ -6,9 +6,9 @@ use native.Mathlib.Omega.{arith}
 use lib.ListN.{length}
 use borrow.Author.Tests.{not-true, not-false}
 use Rattle.book.specs.Layout.{word}
-use Rattle.book.specs.Whole.{PeriodsDone, NoneWaits}
-use Rattle.book.proofs.UnitsFitLaws.{periods-none, periods-more, periods-below, periods-fail, periods-end}
-use Rattle.book.proofs.SettleLaws.{none-zeros}
+use Rattle.book.specs.inner.Whole.{PeriodsDone, NoneWaits}
+use Rattle.book.proofs.laws.check.UnitsFitLaws.{periods-none, periods-more, periods-below, periods-fail, periods-end}
+use Rattle.book.proofs.laws.check.SettleLaws.{none-zeros}
 use borrow.Author.Needs.{needs}
 use Rattle.book.proofs.whole.add_periods.Statement.{statement}
 use Rattle.book.proofs.whole.add_periods.Tie as tie

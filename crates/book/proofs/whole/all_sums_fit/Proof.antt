@@ -7,7 +7,7 @@ use borrow.Author.Tests.{not-true, not-false}
 use Rattle.measures.specs.Lists.{all}
 use Rattle.measures.proofs.ListLaws.{all-none, all-more, all-fails}
 use Rattle.book.specs.Layout.{word}
-use Rattle.book.specs.Whole.{sumsHold}
+use Rattle.book.specs.inner.Whole.{sumsHold}
 use borrow.Author.Needs.{needs}
 use Rattle.book.proofs.whole.all_sums_fit.Statement.{statement}
 use Rattle.book.proofs.whole.all_sums_fit.Tie as tie

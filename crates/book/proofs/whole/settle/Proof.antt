@@ -1,7 +1,7 @@
 -- `settle`: what waits goes to the sums, if the unit passes with it.
 use mathlib.Core.Path.{refl}
 use native.Mathlib.Omega.{arith}
-use Rattle.book.proofs.SettleLaws.{settle-fails, settle-passes}
+use Rattle.book.proofs.laws.check.SettleLaws.{settle-fails, settle-passes}
 use borrow.Author.Needs.{needs}
 use Rattle.book.proofs.whole.settle.Statement.{statement}
 use Rattle.book.proofs.whole.settle.Tie as tie

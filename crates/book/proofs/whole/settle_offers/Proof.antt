@@ -5,9 +5,9 @@ use native.Mathlib.Omega.{arith}
 use borrow.Author.Tests.{not-true, not-false}
 use Rattle.measures.proofs.ListLaws.{both-ways}
 use Rattle.book.specs.Layout.{word}
-use Rattle.book.specs.Whole.{Settling, OffersSettled}
-use Rattle.book.proofs.ShareLaws.{offer-words}
-use Rattle.book.proofs.SettleLaws.{settling-none, settling-more, settling-fails, none-here, none-there, settles-fails, settles-ends, offers-settled-more}
+use Rattle.book.specs.inner.Whole.{Settling, OffersSettled}
+use Rattle.book.proofs.laws.check.ShareLaws.{offer-words}
+use Rattle.book.proofs.laws.check.SettleLaws.{settling-none, settling-more, settling-fails, none-here, none-there, settles-fails, settles-ends, offers-settled-more}
 use borrow.Author.Needs.{needs}
 use Rattle.book.proofs.whole.settle_offers.Statement.{statement}
 use Rattle.book.proofs.whole.settle_offers.Tie as tie

@@ -6,9 +6,9 @@ use borrow.Author.Tests.{not-true, not-false}
 use lib.ListN.{getD}
 use Rattle.measures.proofs.ListLaws.{both-ways}
 use Rattle.book.specs.Layout.{word}
-use Rattle.book.specs.Whole.{Latest, Settling, OrdersSettled}
-use Rattle.book.proofs.ShareLaws.{order-words}
-use Rattle.book.proofs.SettleLaws.{settling-none, settling-more, settling-fails, none-here, none-there, settles-fails, settles-ends, orders-settled-more}
+use Rattle.book.specs.inner.Whole.{Latest, Settling, OrdersSettled}
+use Rattle.book.proofs.laws.check.ShareLaws.{order-words}
+use Rattle.book.proofs.laws.check.SettleLaws.{settling-none, settling-more, settling-fails, none-here, none-there, settles-fails, settles-ends, orders-settled-more}
 use borrow.Author.Needs.{needs}
 use Rattle.book.proofs.whole.settle_orders.Statement.{statement}
 use Rattle.book.proofs.whole.settle_orders.Tie as tie

@@ -1,6 +1,6 @@
 -- `sums_fit`: a sum past its limit, or none.
 use native.Mathlib.Omega.{arith}
-use Rattle.book.proofs.UnitsFitLaws.{sums-term, sums-volume, sums-within}
+use Rattle.book.proofs.laws.check.UnitsFitLaws.{sums-term, sums-volume, sums-within}
 use borrow.Author.Needs.{needs}
 use Rattle.book.proofs.whole.sums_fit.Statement.{statement}
 use Rattle.book.proofs.whole.sums_fit.Tie as tie

@@ -2,7 +2,7 @@
 use mathlib.Core.Path.{refl, sym, _∙_}
 use lib.ListN.{replicate}
 use borrow.Author.Tests.{not-true, not-false}
-use Rattle.book.proofs.UnitsFitLaws.{zeros-below, units-fail, units-by-sums}
+use Rattle.book.proofs.laws.check.UnitsFitLaws.{zeros-below, units-fail, units-by-sums}
 use borrow.Author.Needs.{needs}
 use Rattle.book.proofs.whole.units_fit.Statement.{statement}
 use Rattle.book.proofs.whole.units_fit.Tie as tie

@@ -1,7 +1,7 @@
 -- `shift`: the words passed are those a step behind, the others are as before.
 use Prim.Native.Nat.{_-_}
 use native.Mathlib.Omega.{arith}
-use Rattle.book.proofs.WithdrawLaws.{Shifting, shifting-start, shifting-more}
+use Rattle.book.proofs.laws.withdraw.WithdrawLaws.{Shifting, shifting-start, shifting-more}
 use borrow.Author.Needs.{needs}
 use Rattle.book.proofs.withdrawing.shift.Statement.{statement}
 use Rattle.book.proofs.withdrawing.shift.Tie as tie

@@ -1,7 +1,7 @@
 -- `shift_amounts`: the periods passed have their amounts moved, all other words are as before.
 use Prim.Native.Nat.{_-_}
 use native.Mathlib.Omega.{arith}
-use Rattle.book.proofs.WithdrawLaws.{Closing, closing-start, closing-more}
+use Rattle.book.proofs.laws.withdraw.WithdrawLaws.{Closing, closing-start, closing-more}
 use borrow.Author.Needs.{needs}
 use Rattle.book.proofs.withdrawing.shift_amounts.Statement.{statement}
 use Rattle.book.proofs.withdrawing.shift_amounts.Tie as tie

@@ -1,8 +1,8 @@
 -- `withdraw_checks`: each test is a check of the chain, and the place found is the number's.
 use native.Mathlib.Omega.{arith}
-use Rattle.book.specs.Readable.{Readable}
-use Rattle.book.proofs.MadeLaws.{sound-readable}
-use Rattle.book.proofs.OfferPlaceLaws.{withdraw-unknown, withdraw-absent, withdraw-other, withdraw-taken, withdraw-passes}
+use Rattle.book.specs.inner.Readable.{Readable}
+use Rattle.book.proofs.laws.answer.MadeLaws.{sound-readable}
+use Rattle.book.proofs.laws.withdraw.OfferPlaceLaws.{withdraw-unknown, withdraw-absent, withdraw-other, withdraw-taken, withdraw-passes}
 use Rattle.book.proofs.withdrawing.withdraw_checks.Statement.{statement}
 use Rattle.book.proofs.withdrawing.withdraw_checks.Tie as tie
 

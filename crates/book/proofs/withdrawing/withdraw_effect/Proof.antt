@@ -4,10 +4,10 @@ use mathlib.Core.Path.{_≡_, _∙_}
 use native.Mathlib.Omega.{arith}
 use lib.ListN.{length, length-set}
 use Rattle.book.specs.Layout.{word}
-use Rattle.book.specs.Readable.{Readable}
-use Rattle.book.proofs.MadeLaws.{sound-readable}
-use Rattle.book.proofs.OfferPlaceLaws.{offer-placed}
-use Rattle.book.proofs.WithdrawLaws.{withdrawn, withdrawn-past}
+use Rattle.book.specs.inner.Readable.{Readable}
+use Rattle.book.proofs.laws.answer.MadeLaws.{sound-readable}
+use Rattle.book.proofs.laws.withdraw.OfferPlaceLaws.{offer-placed}
+use Rattle.book.proofs.laws.withdraw.WithdrawLaws.{withdrawn, withdrawn-past}
 use Rattle.book.proofs.withdrawing.withdraw_effect.Statement.{statement}
 use Rattle.book.proofs.withdrawing.withdraw_effect.Tie as tie
 

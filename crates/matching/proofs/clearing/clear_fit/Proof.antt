@@ -1,7 +1,7 @@
 -- `clear_fit`: a volume of 0 changes nothing; any other is traded.
 use mathlib.Core.Path.{refl}
-use Rattle.matching.proofs.FitLaws.{fit-gives}
-use Rattle.matching.proofs.StepLaws.{clears-none}
+use Rattle.matching.proofs.laws.orders.FitLaws.{fit-gives}
+use Rattle.matching.proofs.laws.clearing.StepLaws.{clears-none}
 use borrow.Author.Needs.{needs}
 use Rattle.matching.proofs.clearing.clear_fit.Statement.{statement}
 use Rattle.matching.proofs.clearing.clear_fit.Tie as tie

@@ -1,7 +1,7 @@
 -- `clear_period`: orders that do not fit stay; others are cleared.
 use mathlib.Core.Path.{sym, _∙_}
 use borrow.Author.Tests.{not-true, not-false}
-use Rattle.matching.proofs.StepLaws.{clears-unfit}
+use Rattle.matching.proofs.laws.clearing.StepLaws.{clears-unfit}
 use borrow.Author.Needs.{needs}
 use Rattle.matching.proofs.clearing.clear_period.Statement.{statement}
 use Rattle.matching.proofs.clearing.clear_period.Tie as tie

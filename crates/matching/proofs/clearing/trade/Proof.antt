@@ -1,9 +1,9 @@
 -- `trade`: each step's contract is one part of the definition, and the volume lies at the margin of both sides.
 use mathlib.Core.Path.{refl}
 use native.Mathlib.Omega.{arith}
-use Rattle.matching.proofs.FitLaws.{Fit, fit-gives}
-use Rattle.matching.proofs.PlaceLaws.{stand-here}
-use Rattle.matching.proofs.StepLaws.{sides-few, bids-at-margin, asks-at-margin, clears-some}
+use Rattle.matching.proofs.laws.orders.FitLaws.{Fit, fit-gives}
+use Rattle.matching.proofs.laws.clearing.PlaceLaws.{stand-here}
+use Rattle.matching.proofs.laws.clearing.StepLaws.{sides-few, bids-at-margin, asks-at-margin, clears-some}
 use borrow.Author.Needs.{needs}
 use Rattle.matching.proofs.clearing.trade.Statement.{statement}
 use Rattle.matching.proofs.clearing.trade.Tie as tie

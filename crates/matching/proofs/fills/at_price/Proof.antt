@@ -1,5 +1,5 @@
 -- `at_price`: one comparison for each of the three questions.
-use Rattle.matching.proofs.PickLaws.{chosen-at, chosen-dearer, chosen-cheaper}
+use Rattle.matching.proofs.laws.clearing.PickLaws.{chosen-at, chosen-dearer, chosen-cheaper}
 use Rattle.matching.proofs.fills.at_price.Statement.{statement}
 use Rattle.matching.proofs.fills.at_price.Tie as tie
 

@@ -3,8 +3,8 @@ use Prim.Native.Nat.{ℕ, _+_, _≤_}
 use mathlib.Core.List.{List}
 use native.Mathlib.Omega.{arith}
 use lib.ListN.{length, take}
-use Rattle.matching.specs.Places.{picked}
-use Rattle.matching.proofs.PickLaws.{both-few, better-sum, side-filled}
+use Rattle.matching.specs.inner.Places.{picked}
+use Rattle.matching.proofs.laws.clearing.PickLaws.{both-few, better-sum, side-filled}
 use borrow.Author.Needs.{needs}
 use Rattle.matching.proofs.fills.fill.Statement.{statement}
 use Rattle.matching.proofs.fills.fill.Tie as tie

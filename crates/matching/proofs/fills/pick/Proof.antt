@@ -2,8 +2,8 @@
 use Prim.Native.Nat.{_-_}
 use mathlib.Core.Path.{sym, refl, _∙_}
 use native.Mathlib.Omega.{arith}
-use Rattle.matching.proofs.LayingLaws.{stand-below}
-use Rattle.matching.proofs.PickLaws.{Picking, picking-start, picking-skip, picking-put, picking-room, picking-end}
+use Rattle.matching.proofs.laws.laying.LayingLaws.{stand-below}
+use Rattle.matching.proofs.laws.clearing.PickLaws.{Picking, picking-start, picking-skip, picking-put, picking-room, picking-end}
 use borrow.Author.Needs.{needs}
 use Rattle.matching.proofs.fills.pick.Statement.{statement}
 use Rattle.matching.proofs.fills.pick.Tie as tie

@@ -2,7 +2,7 @@
 use Prim.Native.Nat.{_-_}
 use native.Mathlib.Nat.{zero-add}
 use native.Mathlib.Omega.{arith}
-use Rattle.matching.proofs.PickLaws.{Adding, adding-next, adding-end}
+use Rattle.matching.proofs.laws.clearing.PickLaws.{Adding, adding-next, adding-end}
 use borrow.Author.Needs.{needs}
 use Rattle.matching.proofs.fills.together.Statement.{statement}
 use Rattle.matching.proofs.fills.together.Tie as tie

@@ -2,7 +2,7 @@
 use mathlib.Core.Path.{sym, _∙_}
 use native.Mathlib.Omega.{arith}
 use borrow.Author.Tests.{not-true, not-false}
-use Rattle.matching.proofs.FitLaws.{not-many, not-in, not-lent, not-rising, is-fit}
+use Rattle.matching.proofs.laws.orders.FitLaws.{not-many, not-in, not-lent, not-rising, is-fit}
 use borrow.Author.Needs.{needs}
 use Rattle.matching.proofs.fitness.fits.Statement.{statement}
 use Rattle.matching.proofs.fitness.fits.Tie as tie

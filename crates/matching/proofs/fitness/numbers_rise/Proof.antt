@@ -2,7 +2,7 @@
 use Prim.Native.Nat.{_≤_, _-_}
 use mathlib.Core.Path.{sym}
 use native.Mathlib.Omega.{arith}
-use Rattle.matching.proofs.FitLaws.{ClimbsTo, climbs-more, climbs-rise, climbs-not}
+use Rattle.matching.proofs.laws.orders.FitLaws.{ClimbsTo, climbs-more, climbs-rise, climbs-not}
 use borrow.Author.Needs.{needs}
 use Rattle.matching.proofs.fitness.numbers_rise.Statement.{statement}
 use Rattle.matching.proofs.fitness.numbers_rise.Tie as tie

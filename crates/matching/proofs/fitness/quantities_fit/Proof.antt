@@ -3,7 +3,7 @@ use native.Mathlib.Nat.{zero-add}
 use Prim.Native.Nat.{_-_}
 use mathlib.Core.Path.{sym}
 use native.Mathlib.Omega.{arith}
-use Rattle.matching.proofs.FitLaws.{Summing, summing-more, summing-over, summing-ends}
+use Rattle.matching.proofs.laws.orders.FitLaws.{Summing, summing-more, summing-over, summing-ends}
 use borrow.Author.Needs.{needs}
 use Rattle.matching.proofs.fitness.quantities_fit.Statement.{statement}
 use Rattle.matching.proofs.fitness.quantities_fit.Tie as tie

@@ -1,7 +1,7 @@
 -- `find_margins`: a bid and an ask that meet are met for the smaller of what is left of them; the laws say what the walk has found where it ends.
 use native.Mathlib.Omega.{arith}
-use Rattle.matching.proofs.LayingLaws.{stand-below}
-use Rattle.matching.proofs.PlaceLaws.{stand-here, Meeting, meeting-start, meeting-bid, meeting-ask, meeting-takes, meeting-small, meeting-bids-end, meeting-asks-end, meeting-apart, turns, turns-bid, turns-ask, turns-take}
+use Rattle.matching.proofs.laws.laying.LayingLaws.{stand-below}
+use Rattle.matching.proofs.laws.clearing.PlaceLaws.{stand-here, Meeting, meeting-start, meeting-bid, meeting-ask, meeting-takes, meeting-small, meeting-bids-end, meeting-asks-end, meeting-apart, turns, turns-bid, turns-ask, turns-take}
 use borrow.Author.Needs.{needs}
 use Rattle.matching.proofs.margins.find_margins.Statement.{statement}
 use Rattle.matching.proofs.margins.find_margins.Tie as tie

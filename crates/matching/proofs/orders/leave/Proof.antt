@@ -2,7 +2,7 @@
 use native.Mathlib.Omega.{arith}
 use Prim.Native.Nat.{_+_, _*_}
 use lib.Seq.{drop-set-lt}
-use Rattle.matching.proofs.OrderLaws.{left-at}
+use Rattle.matching.proofs.laws.orders.OrderLaws.{left-at}
 use borrow.Author.Needs.{needs}
 use Rattle.matching.proofs.orders.leave.Statement.{statement}
 use Rattle.matching.proofs.orders.leave.Tie as tie

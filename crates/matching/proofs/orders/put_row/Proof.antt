@@ -5,7 +5,7 @@ use native.Mathlib.Omega.{arith}
 use native.Mathlib.Numerals.{add-one, add-two, add-three, add-four, add-five}
 use lib.ListN.{length, length-set}
 use Rattle.matching.specs.Memory.{written, rowOf}
-use Rattle.matching.proofs.RowLaws.{written-more}
+use Rattle.matching.proofs.laws.orders.RowLaws.{written-more}
 use borrow.Author.Needs.{needs}
 use Rattle.matching.proofs.orders.put_row.Statement.{statement}
 use Rattle.matching.proofs.orders.put_row.Tie as tie

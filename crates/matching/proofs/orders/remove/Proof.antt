@@ -2,7 +2,7 @@
 use Prim.Native.Nat.{ℕ, _+_, _*_, _-_, _<_, _≤_}
 use native.Mathlib.Omega.{arith}
 use native.Mathlib.Numerals.{add-one}
-use Rattle.matching.proofs.OrderLaws.{moved, Moving, moving-start, moving-more}
+use Rattle.matching.proofs.laws.orders.OrderLaws.{moved, Moving, moving-start, moving-more}
 use borrow.Author.Needs.{needs}
 use Rattle.matching.proofs.orders.remove.Statement.{statement}
 use Rattle.matching.proofs.orders.remove.Tie as tie

@@ -2,7 +2,7 @@
 use native.Mathlib.Omega.{arith}
 use lib.ListN.{length-set}
 use Rattle.matching.specs.Memory.{orderOf}
-use Rattle.matching.proofs.OrderLaws.{order-written, past-written}
+use Rattle.matching.proofs.laws.orders.OrderLaws.{order-written, past-written}
 use borrow.Author.Needs.{needs}
 use Rattle.matching.proofs.orders.write.Statement.{statement}
 use Rattle.matching.proofs.orders.write.Tie as tie

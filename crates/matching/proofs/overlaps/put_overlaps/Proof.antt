@@ -1,9 +1,9 @@
 -- `put_overlaps`: the fill that ends first shares nothing with what lies behind the other.
 use Prim.Native.Nat.{_+_, _-_, _≤_}
 use native.Mathlib.Omega.{arith}
-use Rattle.matching.specs.Places.{fillsAt}
-use Rattle.matching.proofs.TakingLaws.{filling-below}
-use Rattle.matching.proofs.OverlapLaws.{Rowing, rowing-start, fills-amounts, bids-done, asks-done, bid-in-range, ask-in-range, bid-row, ask-row}
+use Rattle.matching.specs.inner.Places.{fillsAt}
+use Rattle.matching.proofs.laws.orders.TakingLaws.{filling-below}
+use Rattle.matching.proofs.laws.rows.OverlapLaws.{Rowing, rowing-start, fills-amounts, bids-done, asks-done, bid-in-range, ask-in-range, bid-row, ask-row}
 use borrow.Author.Needs.{needs}
 use Rattle.matching.proofs.overlaps.put_overlaps.Statement.{statement}
 use Rattle.matching.proofs.overlaps.put_overlaps.Tie as tie

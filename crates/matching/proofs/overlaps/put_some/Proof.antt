@@ -1,5 +1,5 @@
 -- `put_some`: a row of no quantity is not written.
-use Rattle.matching.proofs.OverlapLaws.{wrote-none, wrote-one}
+use Rattle.matching.proofs.laws.rows.OverlapLaws.{wrote-none, wrote-one}
 use borrow.Author.Needs.{needs}
 use Rattle.matching.proofs.overlaps.put_some.Statement.{statement}
 use Rattle.matching.proofs.overlaps.put_some.Tie as tie

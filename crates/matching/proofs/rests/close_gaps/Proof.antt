@@ -5,7 +5,7 @@ use native.Mathlib.Omega.{arith}
 use lib.ListN.{set}
 use Rattle.matching.specs.Orders.{Order}
 use Rattle.matching.specs.Memory.{ordersIn}
-use Rattle.matching.proofs.TakingLaws.{Closing, closing-start, closing-skip, closing-stay, closing-move, closing-end}
+use Rattle.matching.proofs.laws.orders.TakingLaws.{Closing, closing-start, closing-skip, closing-stay, closing-move, closing-end}
 use borrow.Author.Needs.{needs}
 use Rattle.matching.proofs.rests.close_gaps.Statement.{statement}
 use Rattle.matching.proofs.rests.close_gaps.Tie as tie

@@ -1,6 +1,6 @@
 -- `leave_rest`: the fills go off, and the emptied orders go at the end.
 use mathlib.Core.Path.{_∙_}
-use Rattle.matching.proofs.TakingLaws.{rest-left}
+use Rattle.matching.proofs.laws.orders.TakingLaws.{rest-left}
 use borrow.Author.Needs.{needs}
 use Rattle.matching.proofs.rests.leave_rest.Statement.{statement}
 use Rattle.matching.proofs.rests.leave_rest.Tie as tie

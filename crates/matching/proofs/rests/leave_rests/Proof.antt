@@ -2,7 +2,7 @@
 use mathlib.Core.Path.{ap, _∙_}
 use native.Mathlib.Omega.{arith}
 use Rattle.matching.specs.Orders.{rising}
-use Rattle.matching.proofs.TakingLaws.{rests-left}
+use Rattle.matching.proofs.laws.orders.TakingLaws.{rests-left}
 use borrow.Author.Needs.{needs}
 use Rattle.matching.proofs.rests.leave_rests.Statement.{statement}
 use Rattle.matching.proofs.rests.leave_rests.Tie as tie

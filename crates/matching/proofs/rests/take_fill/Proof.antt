@@ -1,7 +1,7 @@
 -- `take_fill`: by the rising numbers the order at p alone has its number.
 use mathlib.Core.Path.{ap}
 use Rattle.matching.specs.Orders.{Order}
-use Rattle.matching.proofs.TakingLaws.{taken-whole, taken-part}
+use Rattle.matching.proofs.laws.orders.TakingLaws.{taken-whole, taken-part}
 use borrow.Author.Needs.{needs}
 use Rattle.matching.proofs.rests.take_fill.Statement.{statement}
 use Rattle.matching.proofs.rests.take_fill.Tie as tie

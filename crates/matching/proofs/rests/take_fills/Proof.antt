@@ -3,7 +3,7 @@ use Prim.Native.Nat.{_-_}
 use mathlib.Core.Path.{ap, _∙_}
 use native.Mathlib.Omega.{arith}
 use Rattle.matching.specs.Orders.{rising}
-use Rattle.matching.proofs.TakingLaws.{Taking, taking-start, taking-more, taking-end, filling-below}
+use Rattle.matching.proofs.laws.orders.TakingLaws.{Taking, taking-start, taking-more, taking-end, filling-below}
 use borrow.Author.Needs.{needs}
 use Rattle.matching.proofs.rests.take_fills.Statement.{statement}
 use Rattle.matching.proofs.rests.take_fills.Tie as tie

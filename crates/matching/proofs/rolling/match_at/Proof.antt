@@ -3,7 +3,7 @@ use mathlib.Core.Path.{ap, _∙_}
 use mathlib.Core.List.{[], _∷_, _++_}
 use Rattle.matching.specs.Orders.{Row}
 use Rattle.matching.specs.Memory.{written}
-use Rattle.matching.proofs.TurnLaws.{least-of, row-of}
+use Rattle.matching.proofs.laws.rolling.TurnLaws.{least-of, row-of}
 use borrow.Author.Needs.{needs}
 use Rattle.matching.proofs.rolling.match_at.Statement.{statement}
 use Rattle.matching.proofs.rolling.match_at.Tie as tie

@@ -2,9 +2,9 @@
 use mathlib.Core.Path.{refl, sym, _∙_}
 use native.Mathlib.Omega.{arith}
 use borrow.Author.Tests.{not-true, not-false}
-use Rattle.matching.proofs.FitLaws.{fit-gives}
-use Rattle.matching.proofs.MeetingLaws.{meets-unfit}
-use Rattle.matching.proofs.TurnLaws.{turn-fills, meets-turn, meets-none}
+use Rattle.matching.proofs.laws.orders.FitLaws.{fit-gives}
+use Rattle.matching.proofs.laws.rolling.MeetingLaws.{meets-unfit}
+use Rattle.matching.proofs.laws.rolling.TurnLaws.{turn-fills, meets-turn, meets-none}
 use borrow.Author.Needs.{needs}
 use Rattle.matching.proofs.rolling.meet.Statement.{statement}
 use Rattle.matching.proofs.rolling.meet.Tie as tie

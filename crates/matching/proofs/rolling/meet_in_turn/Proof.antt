@@ -7,8 +7,8 @@ use borrow.Author.Tests.{eqb-true, eqb-false}
 use lib.ListN.{length, length-set}
 use Rattle.matching.specs.Memory.{orderOf}
 use Rattle.matching.specs.Rolling.{matchRow}
-use Rattle.matching.proofs.RunLaws.{Found, found-start, found-next, found-whole}
-use Rattle.matching.proofs.TurnLaws.{Meeting, meeting-begins, meeting-room, meeting-more, ends-spent, ends-alone, ends-full}
+use Rattle.matching.proofs.laws.laying.RunLaws.{Found, found-start, found-next, found-whole}
+use Rattle.matching.proofs.laws.rolling.TurnLaws.{Meeting, meeting-begins, meeting-room, meeting-more, ends-spent, ends-alone, ends-full}
 use borrow.Author.Needs.{needs}
 use Rattle.matching.proofs.rolling.meet_in_turn.Statement.{statement}
 use Rattle.matching.proofs.rolling.meet_in_turn.Tie as tie

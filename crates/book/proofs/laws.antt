@@ -1,0 +1,15 @@
+pub mod memory
+pub mod check
+pub mod rows
+pub mod sound
+pub mod answer
+pub mod opening
+pub mod enrol
+pub mod offer
+pub mod take
+pub mod withdraw
+pub mod order
+pub mod cancel
+pub mod clear
+pub mod close
+pub mod curve

@@ -1,0 +1,202 @@
+-- From an outcome to the contract of a call: a law for the refused and one for the accepted.
+use Prim.Native.Nat.{ℕ, zero, suc, _+_, _*_, _≤_, _<_}
+use mathlib.Core.Path.{_≡_, refl, sym, ap, _∙_}
+use mathlib.Core.Bool.{Bool, true, false, cond, not, _&&_}
+use mathlib.Core.List.{List, [], _∷_}
+use native.Mathlib.Omega.{arith}
+use borrow.Author.Tests.{eq-eqb, ne-eqb, leb-true, ltb-false}
+use lib.ListN.{length, drop, length-append}
+use lib.Dec.{eqb, leb}
+use Rattle.measures.proofs.ListLaws.{cond-true, cond-false, and-left, and-right, all-true, both-ways, not-fails}
+use Rattle.matching.specs.Orders.{Row}
+use Rattle.matching.specs.Memory.{written}
+use Rattle.matching.proofs.laws.orders.RowLaws.{written-none}
+use Rattle.book.specs.declared.Answer.{Answer}
+use Rattle.book.specs.declared.Answer.the-variants.{Done, Refused}
+use Rattle.limits.specs.Units.{periods}
+use Rattle.measures.specs.Lists.{keep}
+use Rattle.matching.specs.Clearing.{Cleared}
+use Rattle.matching.specs.Rolling.{Met, meet}
+use Rattle.book.specs.Trades.{rowsBooked}
+use Rattle.book.specs.Book.{Book, callPhase, rollingPhase, offerOf, withOffers, withOrders, inPhase, nextNumber}
+use Rattle.book.specs.Sound.{sound, headIn}
+use Rattle.book.specs.Opening.{bookWords}
+use Rattle.book.specs.Layout.{word, decode, enough}
+use Rattle.book.specs.Refusals.{Outcome, Check, check, firstOf, decided, accepted, unsound}
+use Rattle.book.specs.Enrol.{enrolment, enrolRefusal, enrolChecks, enrolled}
+use Rattle.book.specs.Offer.{offering, offerRefusal, offerChecks, offered}
+use Rattle.book.specs.Take.{taking, takeRefusal, takeChecks, takenParts, takeRows, offersLess}
+use Rattle.book.specs.Withdraw.{withdrawal, withdrawRefusal, withdrawChecks}
+use Rattle.book.specs.Order.{ordering, orderRefusal, orderChecks, newOrder, orderedInCall, orderedInRolling}
+use Rattle.book.specs.Cancel.{cancellation, cancelRefusal, cancelChecks}
+use Rattle.book.specs.Clear.{clearing, clearRefusal, clearChecks, clearFrom}
+use Rattle.book.specs.Close.{closing, dayClosed}
+use Rattle.book.specs.Calls.{Call, enrol, offer, take, withdraw, order, cancel, clear, close, outcome}
+use Rattle.book.specs.Contract.{Told, toldBy, soundIn, outcomeOn, Made}
+use Rattle.book.specs.inner.Readable.{Readable, Ranged, unitsFieldsIn}
+use Rattle.book.proofs.laws.memory.RangeFacts.{Head, head-facts, readable, units-held}
+use Rattle.book.proofs.laws.answer.RefusalLaws.{none-applies}
+
+-- a sound book in memory is long enough, and sound
+pub sound-enough : (m : List ℕ) → soundIn m ≡ true → enough m ≡ true
+unfolding soundIn
+sound-enough m e = and-left (enough m) (sound (decode m)) e
+
+pub sound-book : (m : List ℕ) → soundIn m ≡ true → sound (decode m) ≡ true
+unfolding soundIn
+sound-book m e = and-right (enough m) (sound (decode m)) e
+
+pub sound-head : (m : List ℕ) → soundIn m ≡ true → Head m
+unfolding sound
+sound-head m e = let t = all-true _ (sound-book m e) in head-facts m (t .0)
+
+pub sound-readable : (m : List ℕ) → soundIn m ≡ true → Readable m
+sound-readable m e = readable m (sound-head m e) (leb-true _ _ (sound-enough m e))
+
+-- a chain of checks on a book that is sound, or not
+pub chain-sound : (b : Book) (cs : List Check) → sound b ≡ true → firstOf (unsound b ∷ cs) ≡ firstOf cs
+unfolding firstOf
+chain-sound b cs e = rw e refl
+
+pub chain-unsound : (b : Book) (cs : List Check) → sound b ≡ false → firstOf (unsound b ∷ cs) ≡ 1
+unfolding firstOf
+chain-unsound b cs e = rw e refl
+
+-- an outcome that was decided
+pub decided-refused : (r : ℕ) (b : Book) (o : Outcome) → (r ≡ 0 → ⊥) → decided r b o ≡ record { refusal = r; number = 0; rows = []; book = b }
+decided-refused r b o n = cond-false (eqb r 0) o _ (ne-eqb r 0 n) refl
+
+pub decided-accepted : (r : ℕ) (b : Book) (o : Outcome) → r ≡ 0 → decided r b o ≡ o
+decided-accepted r b o e = cond-true (eqb r 0) o _ (eq-eqb r 0 e) refl
+
+-- on memory that holds a sound book a call gives what it gives on the book
+pub outcome-sound : (m : List ℕ) (c : Call) → soundIn m ≡ true → outcomeOn m c ≡ outcome (decode m) c
+unfolding outcomeOn
+outcome-sound m c e = cond-true (enough m) (outcome (decode m) c) _ (sound-enough m e) refl
+
+-- the contract of a refused call, from what its outcome is
+pub made-refused : (m rows : List ℕ) (c : Call) (r : ℕ) → outcomeOn m c ≡ record { refusal = r; number = 0; rows = []; book = decode m } → (r ≡ 0 → ⊥) → Made m rows c (Refused r) m rows
+made-refused m rows c r e n = record {
+  answer = rw e refl;
+  refused = λ h. (refl, refl);
+  accepted = λ h. absurd (n (sym (ap (λ (o : Outcome). o .refusal) e) ∙ h));
+  handed = λ h. absurd (n (sym (ap (λ (o : Outcome). o .refusal) e) ∙ h));
+  past = refl;
+  long = refl;
+}
+
+-- the contract of an accepted call
+pub made-accepted : (m rows : List ℕ) (c : Call) (n : ℕ) (rs : List Row) (b : Book) (k : ℕ) (m′ rows′ : List ℕ) → outcomeOn m c ≡ accepted n rs b
+    → k ≡ length rs → decode m′ ≡ b → rows′ ≡ written rows rs → drop (bookWords (word m 0)) m′ ≡ drop (bookWords (word m 0)) m → length m′ ≡ length m
+    → Made m rows c (Done n k) m′ rows′
+made-accepted m rows c n rs b k m′ rows′ e ek d w p l = record {
+  answer = rw (e, ek) refl;
+  refused = λ h. absurd (h (ap (λ (o : Outcome). o .refusal) e));
+  accepted = λ h. d ∙ sym (ap (λ (o : Outcome). o .book) e);
+  handed = λ h. w ∙ ap (λ (o : Outcome). written rows (o .rows)) (sym e);
+  past = p;
+  long = l;
+}
+
+-- each call is its checks behind that of soundness, and its effect
+abbrev pub checksOf : Book → Call → List Check
+checksOf b (enrol kind capacity asset) = enrolChecks b kind capacity asset
+checksOf b (offer unit partner price amounts) = offerChecks b unit partner price amounts
+checksOf b (take unit number quantity lent) = takeChecks b unit number quantity lent
+checksOf b (withdraw unit number) = withdrawChecks b unit number
+checksOf b (order unit direction period price quantity lent) = orderChecks b unit direction period price quantity lent
+checksOf b (cancel unit number) = cancelChecks b unit number
+checksOf b (clear lent) = clearChecks b lent
+checksOf b close = []
+
+abbrev pub effectOf : Book → Call → Outcome
+effectOf b (enrol kind capacity asset) = accepted (length (enrolled b kind capacity asset .units)) [] (enrolled b kind capacity asset)
+effectOf b (offer unit partner price amounts) = accepted (nextNumber b) [] (offered b unit partner price amounts)
+effectOf b (take unit number quantity lent) =
+    accepted 0 (takeRows b (offerOf b number) unit (takenParts b number quantity))
+    (rowsBooked (takeRows b (offerOf b number) unit (takenParts b number quantity)) (withOffers b (offersLess number (takenParts b number quantity) (b .offers))))
+effectOf b (withdraw unit number) = accepted 0 [] (withOffers b (keep (λ o. not (eqb (o .number) number)) (b .offers)))
+effectOf b (order unit direction period price quantity lent) =
+    cond (eqb (b .phase) callPhase)
+    (orderedInCall b (newOrder b unit direction period price quantity))
+    (orderedInRolling b (newOrder b unit direction period price quantity))
+effectOf b (cancel unit number) = accepted 0 [] (withOrders b (keep (λ o. not (eqb (o .number) number)) (b .orders)))
+effectOf b (clear lent) =
+    accepted 0 (clearFrom 0 (periods (b .days)) (b .orders) .rows)
+    (inPhase (rowsBooked (clearFrom 0 (periods (b .days)) (b .orders) .rows) (withOrders b (clearFrom 0 (periods (b .days)) (b .orders) .orders))) rollingPhase)
+effectOf b close = accepted 0 [] (dayClosed b)
+
+pub outcome-is : (b : Book) (c : Call) → outcome b c ≡ decided (firstOf (unsound b ∷ checksOf b c)) b (effectOf b c)
+unfolding enrolment enrolRefusal offering offerRefusal taking takeRefusal withdrawal withdrawRefusal ordering orderRefusal cancellation cancelRefusal clearing clearRefusal closing
+outcome-is b (enrol kind capacity asset) = refl
+outcome-is b (offer unit partner price amounts) = refl
+outcome-is b (take unit number quantity lent) = refl
+outcome-is b (withdraw unit number) = refl
+outcome-is b (order unit direction period price quantity lent) = refl
+outcome-is b (cancel unit number) = refl
+outcome-is b (clear lent) = refl
+outcome-is b close = refl
+
+-- the three ways of a call: not a sound book, a check that applies, or none
+pub made-unsound : (m rows : List ℕ) (c : Call) → soundIn m ≡ false → Made m rows c (Refused 1) m rows
+unfolding soundIn outcomeOn
+made-unsound m rows c e = made-refused m rows c 1 (go (enough m) (sound (decode m)) refl refl) (λ z. absurd (omega arith))
+  where
+    go : (a s : Bool) → enough m ≡ a → sound (decode m) ≡ s → outcomeOn m c ≡ record { refusal = 1; number = 0; rows = []; book = decode m }
+    go false s ea es = cond-false (enough m) (outcome (decode m) c) _ ea refl
+    go true false ea es =
+        cond-true (enough m) (outcome (decode m) c) _ ea refl ∙ outcome-is (decode m) c
+        ∙ ap (λ (r : ℕ). decided r (decode m) (effectOf (decode m) c)) (chain-unsound (decode m) (checksOf (decode m) c) es)
+    go true true ea es = both-ways (sym (and-true′ ea es) ∙ e)
+      where
+        and-true′ : enough m ≡ true → sound (decode m) ≡ true → (enough m && sound (decode m)) ≡ true
+        and-true′ x y = rw (x, y) refl
+
+pub made-checked : (m rows : List ℕ) (c : Call) (r : ℕ) → soundIn m ≡ true → r ≡ firstOf (checksOf (decode m) c) → (r ≡ 0 → ⊥) → Made m rows c (Refused r) m rows
+made-checked m rows c r e f n =
+    made-refused m rows c r
+    (outcome-sound m c e ∙ outcome-is (decode m) c
+    ∙ ap (λ (x : ℕ). decided x (decode m) (effectOf (decode m) c)) (chain-sound (decode m) (checksOf (decode m) c) (sound-book m e) ∙ sym f)
+    ∙ decided-refused r (decode m) (effectOf (decode m) c) n)
+    n
+
+pub made-done : (m rows : List ℕ) (c : Call) (n : ℕ) (rs : List Row) (b : Book) (k : ℕ) (m′ rows′ : List ℕ)
+    → soundIn m ≡ true → 0 ≡ firstOf (checksOf (decode m) c) → effectOf (decode m) c ≡ accepted n rs b
+    → k ≡ length rs → decode m′ ≡ b → rows′ ≡ written rows rs → drop (bookWords (word m 0)) m′ ≡ drop (bookWords (word m 0)) m → length m′ ≡ length m
+    → Made m rows c (Done n k) m′ rows′
+made-done m rows c n rs b k m′ rows′ e f g =
+    made-accepted m rows c n rs b k m′ rows′
+    (outcome-sound m c e ∙ outcome-is (decode m) c
+    ∙ ap (λ (x : ℕ). decided x (decode m) (effectOf (decode m) c)) (chain-sound (decode m) (checksOf (decode m) c) (sound-book m e) ∙ sym f)
+    ∙ decided-accepted 0 (decode m) (effectOf (decode m) c) refl ∙ g)
+
+-- the numbers that enrol and offer return, in memory
+pub enrol-number : (m : List ℕ) (kind capacity asset : ℕ) → effectOf (decode m) (enrol kind capacity asset) ≡ accepted (word m 5 + 1) [] (enrolled (decode m) kind capacity asset)
+enrol-number m kind capacity asset =
+    ap (λ (n : ℕ). accepted n [] (enrolled (decode m) kind capacity asset))
+    (length-append (decode m .units) _ ∙ ap (λ (n : ℕ). n + 1) (units-held m))
+
+pub offer-number : (m : List ℕ) (unit partner price : ℕ) (amounts : List ℕ) → effectOf (decode m) (offer unit partner price amounts) ≡ accepted (word m 4 + 1) [] (offered (decode m) unit partner price amounts)
+unfolding decode
+offer-number m unit partner price amounts = refl
+
+-- a call with no check but soundness
+pub no-checks : 0 ≡ firstOf []
+unfolding firstOf
+no-checks = refl
+
+-- enough rows were lent where a clear's checks passed
+pub clear-passed : (m : List ℕ) (lent : ℕ) → 0 ≡ firstOf (clearChecks (decode m) lent) → 4464 ≤ lent
+clear-passed m lent e =
+    let t = none-applies (clearChecks (decode m) lent) (omega arith, (omega arith, tt)) (sym e) in
+    ltb-false lent 4464 (t .0)
+
+-- the effect of an order in either phase
+module _ (m : List ℕ) (u d p price q lent : ℕ) where
+  pub order-called : word m 3 ≡ 0 → effectOf (decode m) (order u d p price q lent) ≡ accepted (word m 4 + 1) [] (orderedInCall (decode m) (newOrder (decode m) u d p price q) .book)
+  unfolding decode
+  order-called e = cond-true (eqb (word m 3) 0) _ _ (eq-eqb (word m 3) 0 e) refl
+
+  pub order-rolled : (word m 3 ≡ 0 → ⊥) → effectOf (decode m) (order u d p price q lent) ≡ accepted (word m 4 + 1) (meet (newOrder (decode m) u d p price q) (decode m .orders) .rows) (orderedInRolling (decode m) (newOrder (decode m) u d p price q) .book)
+  unfolding decode
+  order-rolled n = cond-false (eqb (word m 3) 0) _ _ (ne-eqb (word m 3) 0 n) refl

@@ -1,0 +1,11 @@
+pub mod SoundInLaws
+pub mod NumberLaws
+pub mod PairLaws
+pub mod TogetherLaws
+pub mod LinkedLaws
+pub mod SettleLaws
+pub mod UnitsFitLaws
+pub mod ShareLaws
+pub mod PeriodLaws
+pub mod JoinLaws
+pub mod MisfitLaws

@@ -1,0 +1,134 @@
+-- Whether memory holds a sound book: the tests that the code makes, one by one, are the definition's.
+use Prim.Native.Nat.{ℕ, _+_, _-_, _*_, _≤_, _<_}
+use mathlib.Core.Path.{_≡_, refl, sym, ap, _∙_}
+use mathlib.Core.Bool.{Bool, true, false, not, _&&_, _||_}
+use mathlib.Core.List.{List, [], _∷_}
+use native.Mathlib.Omega.{arith}
+use borrow.Author.Tests.{leb-true, le-leb, eq-eqb}
+use lib.ListN.{length, getD, replicate}
+use lib.Dec.{eqb, leb}
+use Rattle.measures.specs.Ranges.{mostEnergy}
+use Rattle.measures.specs.Lists.{holds, every, all}
+use Rattle.measures.proofs.ListLaws.{and-true, and-left, and-right, all-true, holds-all, false-by, not-both, all-at, all-by, every-table, table-length}
+use Rattle.measures.proofs.RangeLaws.{In}
+use Rattle.limits.specs.Units.{periods, kindIn, capacityIn, assetIn}
+use Rattle.book.specs.Book.{Figures, Unit, Book, rollingPhase, unitOf}
+use Rattle.book.specs.Fit.{unitFits}
+use Rattle.book.specs.Sound.{headIn, unitIn, offerIn, orderIn, numbersDiffer, oneWay, apart, eachTwo, sound}
+use Rattle.book.specs.Opening.{bookWords}
+use Rattle.book.specs.Layout.{word, figuresAt, unitAt, decode, enough}
+use Rattle.book.specs.Contract.{soundIn}
+use Rattle.book.specs.inner.Readable.{Readable, Ranged, unitFieldsIn, unitsFieldsIn, waysIn, unitWhole, unitsWhole, pairsFit}
+use Rattle.book.proofs.laws.memory.RangeFacts.{Head, head-facts, head-holds, readable, units-held, unit-at}
+use Rattle.book.proofs.laws.check.MisfitLaws.{zeros-at}
+
+-- a unit in memory is in range if its fields and its directions are
+module _ (m : List ℕ) (k : ℕ) (h : k < word m 5) where
+  at : unitOf (decode m) (k + 1) ≡ unitAt m (word m 0) k
+  at = unit-at m (k + 1) (omega arith, omega arith) ∙ ap (unitAt m (word m 0)) (omega arith)
+
+  pub unit-parts : unitIn (word m 0) (unitAt m (word m 0) k) ≡ true → (unitFieldsIn m k ≡ true) × (waysIn (decode m) (k + 1) ≡ true)
+  unfolding unitIn unitFieldsIn waysIn
+  unit-parts e =
+      let t = all-true _ e in
+      (holds-all _ (t .0, (t .1 .0, (t .1 .1 .0, tt))), ap (λ (u : Unit). every (λ (f : Figures). leb (f .way) 2) (u .figures)) at ∙ t .1 .1 .1 .1 .0)
+
+  pub unit-joined : unitFieldsIn m k ≡ true → waysIn (decode m) (k + 1) ≡ true → unitIn (word m 0) (unitAt m (word m 0) k) ≡ true
+  unfolding unitIn unitFieldsIn waysIn
+  unit-joined e w =
+      let t = all-true _ e in
+      holds-all _ (t .0, (t .1 .0, (t .1 .1 .0, (eq-eqb _ _ (table-length _ _), (sym (ap (λ (u : Unit). every (λ (f : Figures). leb (f .way) 2) (u .figures)) at) ∙ w, tt)))))
+
+-- the tests in the order in which the code makes them
+pub record SoundWords (m : List ℕ) : Type 0 where
+  pub long : bookWords (word m 0) ≤ length m
+  pub head : headIn (decode m) ≡ true
+  pub units : unitsFieldsIn m ≡ true
+  pub offers : every (offerIn (decode m)) (decode m .offers) ≡ true
+  pub orders : every (orderIn (decode m)) (decode m .orders) ≡ true
+  pub numbers : numbersDiffer (decode m) ≡ true
+  pub pairs : pairsFit (word m 3) (decode m .orders) ≡ true
+  pub whole : unitsWhole (decode m) ≡ true
+
+units-every : (m : List ℕ) → every (unitIn (decode m .days)) (decode m .units) ≡ all (word m 5) (λ k. unitIn (word m 0) (unitAt m (word m 0) k))
+unfolding decode
+units-every m = every-table (unitIn (word m 0)) (word m 5) (unitAt m (word m 0))
+
+phase-held : (m : List ℕ) → decode m .phase ≡ word m 3
+unfolding decode
+phase-held m = refl
+
+pub sound-words : (m : List ℕ) → soundIn m ≡ true → SoundWords m
+unfolding soundIn sound pairsFit unitsWhole unitWhole
+sound-words m e =
+    let t = all-true _ (and-right (enough m) (sound (decode m)) e) in
+    let us : all (word m 5) (λ k. unitIn (word m 0) (unitAt m (word m 0) k)) ≡ true = sym (units-every m) ∙ t .1 .0 in
+    let part : (k : ℕ) → k < word m 5 → (unitFieldsIn m k ≡ true) × (waysIn (decode m) (k + 1) ≡ true) = λ k h. unit-parts m k h (all-at (word m 5) (λ i. unitIn (word m 0) (unitAt m (word m 0) i)) k us h) in
+    record {
+      long = leb-true _ _ (and-left (enough m) (sound (decode m)) e);
+      head = t .0;
+      units = all-by (word m 5) (unitFieldsIn m) (λ k h. part k h .0);
+      offers = t .1 .1 .0;
+      orders = t .1 .1 .1 .0;
+      numbers = t .1 .1 .1 .1 .0;
+      pairs = and-true (eachTwo oneWay (decode m .orders)) _ (t .1 .1 .1 .1 .1 .0) (rw (phase-held m) at (t .1 .1 .1 .1 .1 .1 .0));
+      whole = all-by (length (decode m .units)) (λ k. waysIn (decode m) (k + 1) && unitFits (decode m) (k + 1))
+          (λ k h. and-true (waysIn (decode m) (k + 1)) (unitFits (decode m) (k + 1)) (part k (rw (units-held m) at h) .1) (all-at (length (decode m .units)) (λ i. unitFits (decode m) (i + 1)) k (t .1 .1 .1 .1 .1 .1 .1 .0) h));
+    }
+
+pub sound-joined : (m : List ℕ) → SoundWords m → soundIn m ≡ true
+unfolding soundIn sound pairsFit unitsWhole unitWhole
+sound-joined m s =
+    let fit : (k : ℕ) → k < length (decode m .units) → (waysIn (decode m) (k + 1) && unitFits (decode m) (k + 1)) ≡ true = λ k h. all-at (length (decode m .units)) (λ i. waysIn (decode m) (i + 1) && unitFits (decode m) (i + 1)) k (s .whole) h in
+    and-true (enough m) (sound (decode m)) (le-leb _ _ (s .long))
+    (holds-all _ (
+      s .head,
+      (
+        units-every m ∙ all-by (word m 5) _ (λ k h. unit-joined m k h (all-at (word m 5) (unitFieldsIn m) k (s .units) h) (and-left (waysIn (decode m) (k + 1)) (unitFits (decode m) (k + 1)) (fit k (rw (units-held m) h)))),
+        (
+          s .offers,
+          (
+            s .orders,
+            (
+              s .numbers,
+              (
+                and-left (eachTwo oneWay (decode m .orders)) (not (eqb (word m 3) 1) || eachTwo apart (decode m .orders)) (s .pairs),
+                (
+                  rw (phase-held m) (and-right (eachTwo oneWay (decode m .orders)) (not (eqb (word m 3) 1) || eachTwo apart (decode m .orders)) (s .pairs)),
+                  (all-by (length (decode m .units)) _ (λ k h. and-right (waysIn (decode m) (k + 1)) (unitFits (decode m) (k + 1)) (fit k h)), tt),
+                ),
+              ),
+            ),
+          ),
+        ),
+      ),
+    ))
+
+pub sound-fails : (m : List ℕ) → (SoundWords m → ⊥) → false ≡ soundIn m
+sound-fails m n = sym (false-by _ (λ e. n (sound-words m e)))
+
+-- the fit of the units decides where all else holds
+pub sound-by-units : (m : List ℕ) → bookWords (word m 0) ≤ length m → headIn (decode m) ≡ true → unitsFieldsIn m ≡ true → every (offerIn (decode m)) (decode m .offers) ≡ true
+    → every (orderIn (decode m)) (decode m .orders) ≡ true → numbersDiffer (decode m) ≡ true → pairsFit (word m 3) (decode m .orders) ≡ true → unitsWhole (decode m) ≡ soundIn m
+sound-by-units m l h u f o n p = go (unitsWhole (decode m)) refl
+  where
+    go : (b : Bool) → unitsWhole (decode m) ≡ b → unitsWhole (decode m) ≡ soundIn m
+    go true e = e ∙ sym (sound-joined m (record { long = l; head = h; units = u; offers = f; orders = o; numbers = n; pairs = p; whole = e }))
+    go false e = e ∙ sound-fails m (λ s. not-both _ (s .whole) e)
+
+-- all units, by places
+pub units-by-places : (m : List ℕ) → unitsWhole (decode m) ≡ all (word m 5) (λ k. unitWhole (decode m) (k + 1))
+unfolding unitsWhole
+units-by-places m = ap (λ (n : ℕ). all n (λ k. unitWhole (decode m) (k + 1))) (units-held m)
+
+-- too short, seen before the days are read
+pub never-short : (m : List ℕ) → length m < 1776 → SoundWords m → ⊥
+never-short m h s = let l = s .long in omega arith
+
+-- what the tests passed give to those after them
+pub ranged : (m : List ℕ) → bookWords (word m 0) ≤ length m → headIn (decode m) ≡ true → unitsFieldsIn m ≡ true → every (offerIn (decode m)) (decode m .offers) ≡ true
+    → every (orderIn (decode m)) (decode m .orders) ≡ true → Ranged m
+ranged m l h u f o = record { readable = readable m (head-facts m h) l; units = u; offers = f; orders = o }
+
+pub zeros-small : (n i : ℕ) → getD (replicate n 0) i 0 ≤ mostEnergy
+zeros-small n i = let z = zeros-at n i in omega arith

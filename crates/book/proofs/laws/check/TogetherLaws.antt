@@ -1,0 +1,392 @@
+-- Open orders that may stand together: a unit's orders of a period go one way, and no two of a period cross.
+use Prim.Native.Nat.{ℕ, zero, suc, _+_, _-_, _*_, _≤_, _<_}
+use mathlib.Core.Path.{_≡_, refl, sym, ap, _∙_}
+use mathlib.Core.Bool.{Bool, true, false, cond, not, _&&_, _||_}
+use mathlib.Core.List.{List, [], _∷_}
+use native.Mathlib.Omega.{arith}
+use native.Mathlib.Decide.{ℕ-discrete, decLt}
+use borrow.Author.Tests.{eq-eqb, ne-eqb, eqb-true, eqb-false, le-leb, lt-leb, lt-ltb, le-ltb, not-false}
+use lib.ListN.{length, getD, set, replicate}
+use lib.Seq.{getD-set-same, getD-set-other}
+use lib.Dec.{eqb, leb, ltb}
+use Rattle.measures.specs.Lists.{holds, all}
+use Rattle.measures.proofs.ListLaws.{both-ways, false-by, not-both, all-true, holds-all, all-none, all-more, all-fails, all-at, all-by, all-ext}
+use Rattle.limits.specs.Units.{periods}
+use Rattle.matching.specs.Orders.{Order as OpenOrder}
+use Rattle.matching.specs.Memory.{orderAt, ordersIn}
+use Rattle.book.specs.Sound.{oneWay, apart}
+use Rattle.book.specs.Layout.{word, ordersPart, decode}
+use Rattle.book.specs.inner.Readable.{Ranged, pairFits, pairsFit}
+use Rattle.book.specs.inner.Whole.{Latest, Alike, highWith, lowWith, Prices, crossless, Priced, pairsBefore, OrderStands}
+use Rattle.book.proofs.laws.memory.RangeFacts.{order-word}
+use Rattle.book.proofs.laws.check.ShareLaws.{order-words}
+use Rattle.book.proofs.laws.check.MisfitLaws.{zeros-at}
+use Rattle.book.proofs.laws.check.PairLaws.{OneWay, one-way-holds, one-way-fact, Apart, apart-holds, apart-fact, Pair, pair-holds, pair-fact, pairs-by, pairs-fail}
+
+abbrev orderIn : List ℕ → ℕ → OpenOrder
+orderIn m k = orderAt (ordersPart m) k
+
+field : (m : List ℕ) (k i : ℕ) → k < 256 → i < 6 → getD (ordersPart m) (6 * k + i) 0 ≡ word m (240 + 6 * k + i)
+field m k i h l = order-word m (6 * k + i) (omega arith) ∙ ap (word m) (omega arith)
+
+-- two orders, by their words
+module _ (m : List ℕ) (a b : ℕ) (ha : a < 256) (hb : b < 256) where
+  way-holds : (word m (240 + 6 * a + 1) ≡ word m (240 + 6 * b + 1) → word m (240 + 6 * a + 3) ≡ word m (240 + 6 * b + 3) → word m (240 + 6 * a + 2) ≡ word m (240 + 6 * b + 2))
+      → oneWay (orderIn m a) (orderIn m b) ≡ true
+  way-holds f =
+      one-way-holds (orderIn m a) (orderIn m b)
+      (λ u p. field m a 2 ha (omega arith) ∙ f (sym (field m a 1 ha (omega arith)) ∙ u ∙ field m b 1 hb (omega arith)) (sym (field m a 3 ha (omega arith)) ∙ p ∙ field m b 3 hb (omega arith)) ∙ sym (field m b 2 hb (omega arith)))
+
+  way-fact : oneWay (orderIn m a) (orderIn m b) ≡ true → word m (240 + 6 * a + 1) ≡ word m (240 + 6 * b + 1) → word m (240 + 6 * a + 3) ≡ word m (240 + 6 * b + 3)
+      → word m (240 + 6 * a + 2) ≡ word m (240 + 6 * b + 2)
+  way-fact e u p =
+      sym (field m a 2 ha (omega arith))
+      ∙ one-way-fact (orderIn m a) (orderIn m b) e (field m a 1 ha (omega arith) ∙ u ∙ sym (field m b 1 hb (omega arith))) (field m a 3 ha (omega arith) ∙ p ∙ sym (field m b 3 hb (omega arith)))
+      ∙ field m b 2 hb (omega arith)
+
+  apart-by : (word m (240 + 6 * a + 2) ≡ 1 → word m (240 + 6 * b + 2) ≡ 0 → word m (240 + 6 * a + 3) ≡ word m (240 + 6 * b + 3) → word m (240 + 6 * a + 4) < word m (240 + 6 * b + 4))
+      → apart (orderIn m a) (orderIn m b) ≡ true
+  apart-by f =
+      apart-holds (orderIn m a) (orderIn m b)
+      (λ d e p. let l = f (sym (field m a 2 ha (omega arith)) ∙ d) (sym (field m b 2 hb (omega arith)) ∙ e) (sym (field m a 3 ha (omega arith)) ∙ p ∙ field m b 3 hb (omega arith)) in omega (arith, field m a 4 ha (omega arith), field m b 4 hb (omega arith)))
+
+  apart-word : apart (orderIn m a) (orderIn m b) ≡ true → word m (240 + 6 * a + 2) ≡ 1 → word m (240 + 6 * b + 2) ≡ 0 → word m (240 + 6 * a + 3) ≡ word m (240 + 6 * b + 3)
+      → word m (240 + 6 * a + 4) < word m (240 + 6 * b + 4)
+  apart-word t d e p =
+      let l = apart-fact (orderIn m a) (orderIn m b) t (field m a 2 ha (omega arith) ∙ d) (field m b 2 hb (omega arith) ∙ e) (field m a 3 ha (omega arith) ∙ p ∙ sym (field m b 3 hb (omega arith))) in
+      omega (arith, field m a 4 ha (omega arith), field m b 4 hb (omega arith))
+
+-- the walk along the unit's and the period's orders before the one at place k: none passed has both
+pub record Seeking (m : List ℕ) (k a b : ℕ) : Type 0 where
+  pub fewUnit : a ≤ k
+  pub fewPeriod : b ≤ k
+  pub ownUnit : 0 < a → word m (240 + 6 * (a - 1) + 1) ≡ word m (240 + 6 * k + 1)
+  pub ownPeriod : 0 < b → word m (240 + 6 * (b - 1) + 3) ≡ word m (240 + 6 * k + 3)
+  pub noneUnit : (j : ℕ) → a ≤ j → j < k → word m (240 + 6 * j + 1) ≡ word m (240 + 6 * k + 1) → word m (240 + 6 * j + 3) ≡ word m (240 + 6 * k + 3) → ⊥
+  pub nonePeriod : (j : ℕ) → b ≤ j → j < k → word m (240 + 6 * j + 1) ≡ word m (240 + 6 * k + 1) → word m (240 + 6 * j + 3) ≡ word m (240 + 6 * k + 3) → ⊥
+
+module _ (m : List ℕ) (k : ℕ) where
+  pub seeking-starts : (a b : ℕ) → Latest m 1 (word m (240 + 6 * k + 1)) a k → Latest m 3 (word m (240 + 6 * k + 3)) b k → Seeking m k a b
+  seeking-starts a b u p =
+      record {
+        fewUnit = u .to;
+        fewPeriod = p .to;
+        ownUnit = u .own;
+        ownPeriod = p .own;
+        noneUnit = λ j h l x y. u .none j h l x;
+        nonePeriod = λ j h l x y. p .none j h l y;
+      }
+
+  module _ (a b : ℕ) (s : Seeking m k a b) where
+    pub seeking-more : (c d : ℕ) → 0 < a → 0 < b → (word m (240 + 6 * (a - 1) + 3) ≡ word m (240 + 6 * k + 3) → ⊥) → (word m (240 + 6 * (b - 1) + 1) ≡ word m (240 + 6 * k + 1) → ⊥)
+        → Latest m 1 (word m (240 + 6 * (a - 1) + 1)) c (a - 1) → Latest m 3 (word m (240 + 6 * (b - 1) + 3)) d (b - 1) → Seeking m k c d
+    seeking-more c d ha hb na nb u p =
+        let x = s .fewUnit in
+        let y = s .fewPeriod in
+        let z = u .to in
+        let t = p .to in
+        record {
+          fewUnit = omega arith;
+          fewPeriod = omega arith;
+          ownUnit = λ h. u .own h ∙ s .ownUnit ha;
+          ownPeriod = λ h. p .own h ∙ s .ownPeriod hb;
+          noneUnit = λ j h l. units j h l (ℕ-discrete j (a - 1)) (decLt j a);
+          nonePeriod = λ j h l. periodsOf j h l (ℕ-discrete j (b - 1)) (decLt j b);
+        }
+      where
+        units : (j : ℕ) → c ≤ j → j < k → Dec (j ≡ a - 1) → Dec (j < a) → word m (240 + 6 * j + 1) ≡ word m (240 + 6 * k + 1) → word m (240 + 6 * j + 3) ≡ word m (240 + 6 * k + 3) → ⊥
+        units j h l (yes e) q x y = na (sym (ap (λ (i : ℕ). word m (240 + 6 * i + 3)) e) ∙ y)
+        units j h l (no e) (yes q) x y = u .none j h (omega arith) (x ∙ sym (s .ownUnit ha))
+        units j h l (no e) (no q) x y = s .noneUnit j (omega arith) l x y
+
+        periodsOf : (j : ℕ) → d ≤ j → j < k → Dec (j ≡ b - 1) → Dec (j < b) → word m (240 + 6 * j + 1) ≡ word m (240 + 6 * k + 1) → word m (240 + 6 * j + 3) ≡ word m (240 + 6 * k + 3) → ⊥
+        periodsOf j h l (yes e) q x y = nb (sym (ap (λ (i : ℕ). word m (240 + 6 * i + 1)) e) ∙ x)
+        periodsOf j h l (no e) (yes q) x y = p .none j h (omega arith) (y ∙ sym (s .ownPeriod hb))
+        periodsOf j h l (no e) (no q) x y = s .nonePeriod j (omega arith) l x y
+
+    pub none-of-unit : a ≤ 0 → Alike m k 0
+    none-of-unit h = record { to = omega arith; unit = λ z. absurd (omega arith); period = λ z. absurd (omega arith); none = λ z j l. s .noneUnit j (omega arith) l }
+
+    pub none-of-period : b ≡ 0 → Alike m k 0
+    none-of-period h = record { to = omega arith; unit = λ z. absurd (omega arith); period = λ z. absurd (omega arith); none = λ z j l. s .nonePeriod j (omega arith) l }
+
+    pub alike-by-unit : 0 < a → word m (240 + 6 * (a - 1) + 3) ≡ word m (240 + 6 * k + 3) → Alike m k a
+    alike-by-unit h e = record { to = s .fewUnit; unit = s .ownUnit; period = λ z. e; none = λ z. absurd (omega arith) }
+
+    pub alike-by-period : (b ≡ 0 → ⊥) → word m (240 + 6 * (b - 1) + 1) ≡ word m (240 + 6 * k + 1) → Alike m k b
+    alike-by-period h e = record { to = s .fewPeriod; unit = λ z. e; period = s .ownPeriod; none = λ z. absurd (h z) }
+
+-- the order at place k beside one of its unit and period, or none
+module _ (m : List ℕ) (k : ℕ) (hk : k < 256) where
+  pub way-alone : (t : ℕ) → t ≡ 0 → Alike m k t → true ≡ all k (λ j. oneWay (orderIn m k) (orderIn m j))
+  way-alone t e al = sym (all-by k _ (λ j l. way-holds m k j hk (omega arith) (λ u p. absurd (al .none e j l (sym u) (sym p)))))
+
+  module _ (t : ℕ) (some : t ≡ 0 → ⊥) (al : Alike m k t) where
+    place : (0 < t) × (t - 1 < k)
+    place = let z = al .to in go (decLt 0 t)
+      where
+        go : Dec (0 < t) → (0 < t) × (t - 1 < k)
+        go (yes h) = let z = al .to in (h, omega arith)
+        go (no h) = absurd (some (omega arith))
+
+    way-other : (word m (240 + 6 * (t - 1) + 2) ≡ word m (240 + 6 * k + 2) → ⊥) → false ≡ all k (λ j. oneWay (orderIn m k) (orderIn m j))
+    way-other n =
+        let h = place in
+        sym (all-fails k (λ j. oneWay (orderIn m k) (orderIn m j)) (t - 1) (h .1) (false-by _ (λ e. n (sym (way-fact m k (t - 1) hk (omega arith) e (sym (al .unit (h .0))) (sym (al .period (h .0))))))))
+
+    -- those before go one way, so the one found stands for all
+    way-same : pairsBefore m k ≡ true → word m (240 + 6 * (t - 1) + 2) ≡ word m (240 + 6 * k + 2) → true ≡ all k (λ j. oneWay (orderIn m k) (orderIn m j))
+    unfolding pairsBefore
+    way-same pb e = sym (all-by k _ (λ j l. way-holds m k j hk (omega arith) (λ u p. sym (dirs j l (sym u) (sym p)))))
+      where
+        pair : (i j : ℕ) → i < k → j < i → oneWay (orderIn m i) (orderIn m j) ≡ true
+        pair i j h l =
+            one-way-holds (orderIn m i) (orderIn m j)
+            (pair-fact (word m 3) (orderIn m i) (orderIn m j)
+            (all-at i (λ x. pairFits (word m 3) (orderIn m i) (orderIn m x)) j (all-at k (λ y. all y (λ x. pairFits (word m 3) (orderIn m y) (orderIn m x))) i pb h) l) .way)
+
+        dirs : (j : ℕ) → j < k → word m (240 + 6 * j + 1) ≡ word m (240 + 6 * k + 1) → word m (240 + 6 * j + 3) ≡ word m (240 + 6 * k + 3) → word m (240 + 6 * j + 2) ≡ word m (240 + 6 * k + 2)
+        dirs j l u p = go (decLt j (t - 1)) (decLt (t - 1) j)
+          where
+            go : Dec (j < t - 1) → Dec (t - 1 < j) → word m (240 + 6 * j + 2) ≡ word m (240 + 6 * k + 2)
+            go (yes a) b =
+                let h = place in
+                sym (way-fact m (t - 1) j (omega arith) (omega arith) (pair (t - 1) j (h .1) a) (al .unit (h .0) ∙ sym u) (al .period (h .0) ∙ sym p)) ∙ e
+            go (no a) (yes b) =
+                let h = place in
+                way-fact m j (t - 1) (omega arith) (omega arith) (pair j (t - 1) l b) (u ∙ sym (al .unit (h .0))) (p ∙ sym (al .period (h .0))) ∙ e
+            go (no a) (no b) = let q : j ≡ t - 1 = omega arith in ap (λ (i : ℕ). word m (240 + 6 * i + 2)) q ∙ e
+
+    pub way-tested : pairsBefore m k ≡ true → eqb (word m (240 + 6 * (t - 1) + 2)) (word m (240 + 6 * k + 2)) ≡ all k (λ j. oneWay (orderIn m k) (orderIn m j))
+    way-tested pb = go (eqb (word m (240 + 6 * (t - 1) + 2)) (word m (240 + 6 * k + 2))) refl
+      where
+        go : (b : Bool) → eqb (word m (240 + 6 * (t - 1) + 2)) (word m (240 + 6 * k + 2)) ≡ b → b ≡ all k (λ j. oneWay (orderIn m k) (orderIn m j))
+        go true e = way-same pb (eqb-true _ _ e)
+        go false e = way-other (eqb-false _ _ e)
+
+-- an order's price entered, by cases
+module _ (d p price : ℕ) (l : List ℕ) where
+  pub high-new : d ≡ 1 → getD l p 0 ≤ price → highWith d p price l ≡ set l p (price + 1)
+  unfolding highWith
+  high-new e h = rw (eq-eqb d 1 e, le-leb (getD l p 0) price h)
+
+  pub high-not : (d ≡ 1 → price < getD l p 0) → highWith d p price l ≡ l
+  unfolding highWith
+  high-not f = go (ℕ-discrete d 1)
+    where
+      go : Dec (d ≡ 1) → cond (eqb d 1 && leb (getD l p 0) price) (set l p (price + 1)) l ≡ l
+      go (yes e) = rw (eq-eqb d 1 e, lt-leb (getD l p 0) price (f e))
+      go (no n) = rw (ne-eqb d 1 n)
+
+  pub low-new : (d ≡ 1 → ⊥) → price < getD l p 0 → lowWith d p price l ≡ set l p price
+  unfolding lowWith
+  low-new n h = rw (ne-eqb d 1 n, lt-ltb price (getD l p 0) h)
+
+  pub low-not : ((d ≡ 1 → ⊥) → getD l p 0 ≤ price) → lowWith d p price l ≡ l
+  unfolding lowWith
+  low-not f = go (ℕ-discrete d 1)
+    where
+      go : Dec (d ≡ 1) → cond (not (eqb d 1) && ltb price (getD l p 0)) (set l p price) l ≡ l
+      go (yes e) = rw (eq-eqb d 1 e)
+      go (no n) = rw (ne-eqb d 1 n, le-ltb price (getD l p 0) (f n))
+
+-- prices before any order
+const-at : (n c i : ℕ) → i < n → getD (replicate n c) i 0 ≡ c
+const-at zero c i h = absurd (omega arith)
+const-at (suc n) c zero h = refl
+const-at (suc n) c (suc i) h = const-at n c i (omega arith)
+
+pub prices-none : (m : List ℕ) → periods (word m 0) ≤ 744 → Prices m 0 (replicate 744 0) (replicate 744 10_000_001)
+prices-none m few =
+    record {
+      above = λ p j a b. absurd (omega arith);
+      least = λ p x a f. omega (arith, zeros-at 744 p);
+      below = λ p j a b. absurd (omega arith);
+      most = λ p x a l f. omega (arith, const-at 744 10_000_001 p (omega arith));
+    }
+
+-- the order at place k against those before it
+module _ (m : List ℕ) (g : Ranged m) (k : ℕ) (h : k < word m 7) (high low : List ℕ) (s : Prices m k high low) where
+  few : k < 256
+  few = let t = g .readable .ordersTo in omega arith
+
+  term : word m (240 + 6 * k + 3) < periods (word m 0)
+  term = order-words m k g h .period
+
+  pub buy-crosses : word m 2 ≤ 10_000_000 → word m (240 + 6 * k + 2) ≡ 1 → getD low (word m (240 + 6 * k + 3)) 0 ≤ word m (240 + 6 * k + 4) → false ≡ all k (crossless m k)
+  buy-crosses c d l =
+      sym (false-by _ (λ t. absurd (let z = s .most (word m (240 + 6 * k + 3)) (word m (240 + 6 * k + 4)) term (let y = order-words m k g h .price .1 in omega arith)
+      (λ j a e q. apart-word m k j few (let f = few in omega arith) (all-true (apart (orderIn m k) (orderIn m j) ∷ apart (orderIn m j) (orderIn m k) ∷ []) (all-at k (crossless m k) j t a) .0) d e (sym q)) in omega arith)))
+
+  pub sell-crosses : word m (240 + 6 * k + 2) ≡ 0 → word m (240 + 6 * k + 4) < getD high (word m (240 + 6 * k + 3)) 0 → false ≡ all k (crossless m k)
+  sell-crosses d l =
+      sym (false-by _ (λ t. absurd (let z = s .least (word m (240 + 6 * k + 3)) (word m (240 + 6 * k + 4)) term
+      (λ j a e q. apart-word m j k (let f = few in omega arith) few (all-true (apart (orderIn m k) (orderIn m j) ∷ apart (orderIn m j) (orderIn m k) ∷ []) (all-at k (crossless m k) j t a) .1 .0) e d q) in omega arith)))
+
+  pub buy-apart : word m (240 + 6 * k + 2) ≡ 1 → word m (240 + 6 * k + 4) < getD low (word m (240 + 6 * k + 3)) 0 → true ≡ all k (crossless m k)
+  buy-apart d l =
+      sym (all-by k _ (λ j a. holds-all (apart (orderIn m k) (orderIn m j) ∷ apart (orderIn m j) (orderIn m k) ∷ []) (
+        apart-by m k j few (let f = few in omega arith) (λ e i q. let z = s .below (word m (240 + 6 * k + 3)) j term a i (sym q) in omega arith),
+        (apart-by m j k (let f = few in omega arith) few (λ e i q. absurd (omega arith)), tt),
+      )))
+
+  pub sell-apart : word m (240 + 6 * k + 2) ≡ 0 → getD high (word m (240 + 6 * k + 3)) 0 ≤ word m (240 + 6 * k + 4) → true ≡ all k (crossless m k)
+  sell-apart d l =
+      sym (all-by k _ (λ j a. holds-all (apart (orderIn m k) (orderIn m j) ∷ apart (orderIn m j) (orderIn m k) ∷ []) (
+        apart-by m k j few (let f = few in omega arith) (λ e i q. absurd (omega arith)),
+        (apart-by m j k (let f = few in omega arith) few (λ e i q. let z = s .above (word m (240 + 6 * k + 3)) j term a e q in omega arith), tt),
+      )))
+
+  -- a buy's price entered
+  pub buy-entered : (high′ : List ℕ) → word m (240 + 6 * k + 2) ≡ 1 → ((q : ℕ) → (q ≡ word m (240 + 6 * k + 3) → ⊥) → getD high′ q 0 ≡ getD high q 0)
+      → getD high (word m (240 + 6 * k + 3)) 0 ≤ getD high′ (word m (240 + 6 * k + 3)) 0 → word m (240 + 6 * k + 4) < getD high′ (word m (240 + 6 * k + 3)) 0
+      → ((x : ℕ) → getD high (word m (240 + 6 * k + 3)) 0 ≤ x → word m (240 + 6 * k + 4) < x → getD high′ (word m (240 + 6 * k + 3)) 0 ≤ x) → Prices m (k + 1) high′ low
+  buy-entered high′ d same up over tight =
+      record {
+        above = λ q j a b e i. above q j a e i (ℕ-discrete j k) (ℕ-discrete q (word m (240 + 6 * k + 3))) b;
+        least = λ q x a f. least q x a f (ℕ-discrete q (word m (240 + 6 * k + 3)));
+        below = λ q j a b e i. below q j a e i (ℕ-discrete j k) b;
+        most = λ q x a l f. s .most q x a l (λ j b. f j (omega arith));
+      }
+    where
+      above : (q j : ℕ) → q < periods (word m 0) → word m (240 + 6 * j + 2) ≡ 1 → word m (240 + 6 * j + 3) ≡ q → Dec (j ≡ k) → Dec (q ≡ word m (240 + 6 * k + 3)) → j < k + 1
+          → word m (240 + 6 * j + 4) < getD high′ q 0
+      above q j a e i (yes y) (yes z) b = rw z (rw y over)
+      above q j a e i (yes y) (no z) b = absurd (z (sym i ∙ ap (λ (t : ℕ). word m (240 + 6 * t + 3)) y))
+      above q j a e i (no y) (yes z) b = let o = s .above q j a (omega arith) e i in rw z (let u = rw z at o in omega arith)
+      above q j a e i (no y) (no z) b = let o = s .above q j a (omega arith) e i in omega (arith, same q z)
+
+      least : (q x : ℕ) → q < periods (word m 0) → ((j : ℕ) → j < k + 1 → word m (240 + 6 * j + 2) ≡ 1 → word m (240 + 6 * j + 3) ≡ q → word m (240 + 6 * j + 4) < x)
+          → Dec (q ≡ word m (240 + 6 * k + 3)) → getD high′ q 0 ≤ x
+      least q x a f (yes z) =
+          let o = s .least q x a (λ j b. f j (omega arith)) in
+          rw z (tight x (rw z at o) (f k (omega arith) d (sym z)))
+      least q x a f (no z) = let o = s .least q x a (λ j b. f j (omega arith)) in omega (arith, same q z)
+
+      below : (q j : ℕ) → q < periods (word m 0) → word m (240 + 6 * j + 2) ≡ 0 → word m (240 + 6 * j + 3) ≡ q → Dec (j ≡ k) → j < k + 1 → getD low q 0 ≤ word m (240 + 6 * j + 4)
+      below q j a e i (yes y) b = let z : word m (240 + 6 * k + 2) ≡ 0 = sym (ap (λ (t : ℕ). word m (240 + 6 * t + 2)) y) ∙ e in absurd (omega arith)
+      below q j a e i (no y) b = s .below q j a (omega arith) e i
+
+  -- a sale's price entered
+  pub sell-entered : (low′ : List ℕ) → word m (240 + 6 * k + 2) ≡ 0 → ((q : ℕ) → (q ≡ word m (240 + 6 * k + 3) → ⊥) → getD low′ q 0 ≡ getD low q 0)
+      → getD low′ (word m (240 + 6 * k + 3)) 0 ≤ getD low (word m (240 + 6 * k + 3)) 0 → getD low′ (word m (240 + 6 * k + 3)) 0 ≤ word m (240 + 6 * k + 4)
+      → ((x : ℕ) → x < getD low (word m (240 + 6 * k + 3)) 0 → x < word m (240 + 6 * k + 4) → x < getD low′ (word m (240 + 6 * k + 3)) 0) → Prices m (k + 1) high low′
+  sell-entered low′ d same down under tight =
+      record {
+        above = λ q j a b e i. above q j a e i (ℕ-discrete j k) b;
+        least = λ q x a f. s .least q x a (λ j b. f j (omega arith));
+        below = λ q j a b e i. below q j a e i (ℕ-discrete j k) (ℕ-discrete q (word m (240 + 6 * k + 3))) b;
+        most = λ q x a l f. most q x a l f (ℕ-discrete q (word m (240 + 6 * k + 3)));
+      }
+    where
+      below : (q j : ℕ) → q < periods (word m 0) → word m (240 + 6 * j + 2) ≡ 0 → word m (240 + 6 * j + 3) ≡ q → Dec (j ≡ k) → Dec (q ≡ word m (240 + 6 * k + 3)) → j < k + 1
+          → getD low′ q 0 ≤ word m (240 + 6 * j + 4)
+      below q j a e i (yes y) (yes z) b = rw z (rw y under)
+      below q j a e i (yes y) (no z) b = absurd (z (sym i ∙ ap (λ (t : ℕ). word m (240 + 6 * t + 3)) y))
+      below q j a e i (no y) (yes z) b = let o = s .below q j a (omega arith) e i in rw z (let u = rw z at o in omega arith)
+      below q j a e i (no y) (no z) b = let o = s .below q j a (omega arith) e i in omega (arith, same q z)
+
+      most : (q x : ℕ) → q < periods (word m 0) → x ≤ 10_000_000 → ((j : ℕ) → j < k + 1 → word m (240 + 6 * j + 2) ≡ 0 → word m (240 + 6 * j + 3) ≡ q → x < word m (240 + 6 * j + 4))
+          → Dec (q ≡ word m (240 + 6 * k + 3)) → x < getD low′ q 0
+      most q x a l f (yes z) =
+          let o = s .most q x a l (λ j b. f j (omega arith)) in
+          rw z (tight x (rw z at o) (f k (omega arith) d (sym z)))
+      most q x a l f (no z) = let o = s .most q x a l (λ j b. f j (omega arith)) in omega (arith, same q z)
+
+      above : (q j : ℕ) → q < periods (word m 0) → word m (240 + 6 * j + 2) ≡ 1 → word m (240 + 6 * j + 3) ≡ q → Dec (j ≡ k) → j < k + 1 → word m (240 + 6 * j + 4) < getD high q 0
+      above q j a e i (yes y) b = let z : word m (240 + 6 * k + 2) ≡ 1 = sym (ap (λ (t : ℕ). word m (240 + 6 * t + 2)) y) ∙ e in absurd (omega arith)
+      above q j a e i (no y) b = s .above q j a (omega arith) e i
+
+  -- the four ways in which an order stands apart
+  pub is-sale : (word m (240 + 6 * k + 2) ≡ 1 → ⊥) → word m (240 + 6 * k + 2) ≡ 0
+  is-sale n = let d = order-words m k g h .direction in go d (ℕ-discrete (word m (240 + 6 * k + 2)) 1)
+    where
+      go : word m (240 + 6 * k + 2) ≤ 1 → Dec (word m (240 + 6 * k + 2) ≡ 1) → word m (240 + 6 * k + 2) ≡ 0
+      go d (yes y) = absurd (n y)
+      go d (no y) = omega arith
+
+  -- the order's price entered
+  abbrev d : ℕ
+  d = word m (240 + 6 * k + 2)
+
+  abbrev p : ℕ
+  p = word m (240 + 6 * k + 3)
+
+  abbrev price : ℕ
+  price = word m (240 + 6 * k + 4)
+
+  price-entered : p < length high → p < length low → Dec (d ≡ 1) → Dec (price < getD high p 0) → Dec (price < getD low p 0) → Prices m (k + 1) (highWith d p price high) (lowWith d p price low)
+  price-entered rh rl (yes e) (yes u) w = rw (high-not d p price high (λ _. u), low-not d p price low (λ n. absurd (n e))) (buy-entered high e (λ q n. refl) (omega arith) u (λ x a b. a))
+  price-entered rh rl (yes e) (no u) w =
+      let v = getD-set-same high p (price + 1) 0 rh in
+      rw (high-new d p price high e (omega arith), low-not d p price low (λ n. absurd (n e)))
+      (buy-entered (set high p (price + 1)) e (λ q n. getD-set-other high p q (price + 1) 0 n) (omega arith) (omega arith) (λ x a b. omega arith))
+  price-entered rh rl (no n) u (yes w) =
+      let v = getD-set-same low p price 0 rl in
+      rw (high-not d p price high (λ e. absurd (n e)), low-new d p price low n w)
+      (sell-entered (set low p price) (is-sale n) (λ q z. getD-set-other low p q price 0 z) (omega arith) (omega arith) (λ x a b. omega arith))
+  price-entered rh rl (no n) u (no w) = rw (high-not d p price high (λ e. absurd (n e)), low-not d p price low (λ _. omega arith)) (sell-entered low (is-sale n) (λ q z. refl) (omega arith) (omega arith) (λ x a b. a))
+
+  pub priced : (r : Bool) → r ≡ not (all k (crossless m k)) → r ≡ false → length high ≡ 744 → length low ≡ 744 → Priced m k true (highWith d p price high) (lowWith d p price low)
+  priced r e f lh ll =
+      record {
+        answer = sym (not-false (all k (crossless m k)) (sym e ∙ f));
+        entered = λ z. let t = term in let y = g .readable .daysTo in price-entered (omega arith) (omega arith) (ℕ-discrete d 1) (decLt price (getD high p 0)) (decLt price (getD low p 0));
+      }
+
+pub not-priced : (m : List ℕ) (k : ℕ) (high low : List ℕ) → false ≡ all k (crossless m k) → Priced m k false high low
+not-priced m k high low e = record { answer = e; entered = λ z. both-ways (sym z) }
+
+-- an order that stands, or does not
+module _ (m : List ℕ) (k : ℕ) (high low : List ℕ) where
+  pub stands-not : (r : Bool) → r ≡ all k (λ j. oneWay (orderIn m k) (orderIn m j)) → r ≡ false → OrderStands m k false high low
+  stands-not r e f =
+      record {
+        answer = sym (false-by _ (λ t. not-both _ (all-by k (λ j. oneWay (orderIn m k) (orderIn m j)) (λ j h. one-way-holds (orderIn m k) (orderIn m j) (pair-fact (word m 3) (orderIn m k) (orderIn m j) (all-at k (λ i. pairFits (word m 3) (orderIn m k) (orderIn m i)) j t h) .way))) (sym e ∙ f)));
+        entered = λ z. both-ways (sym z);
+      }
+
+  pub stands-called : (r : Bool) → r ≡ all k (λ j. oneWay (orderIn m k) (orderIn m j)) → r ≡ true → (word m 3 ≡ 1 → ⊥) → OrderStands m k true high low
+  stands-called r e t n =
+      record {
+        answer = sym (all-by k (λ j. pairFits (word m 3) (orderIn m k) (orderIn m j)) (λ j h. pair-holds (word m 3) (orderIn m k) (orderIn m j) (record { way = one-way-fact (orderIn m k) (orderIn m j) (all-at k (λ i. oneWay (orderIn m k) (orderIn m i)) j (sym e ∙ t) h); buy = λ z. absurd (n z); sale = λ z. absurd (n z) })));
+        entered = λ z y. absurd (n y);
+      }
+
+  pub stands-rolling : (r q : Bool) → r ≡ all k (λ j. oneWay (orderIn m k) (orderIn m j)) → r ≡ true → word m 3 ≡ 1 → Priced m k q high low → OrderStands m k q high low
+  unfolding pairFits holds
+  stands-rolling r q e t y d =
+      record {
+        answer = d .answer ∙ all-ext k _ _ (λ j h. both j (all-at k _ j (sym e ∙ t) h));
+        entered = λ z x. d .entered z;
+      }
+    where
+      both : (j : ℕ) → oneWay (orderIn m k) (orderIn m j) ≡ true → holds (apart (orderIn m k) (orderIn m j) ∷ apart (orderIn m j) (orderIn m k) ∷ []) ≡ pairFits (word m 3) (orderIn m k) (orderIn m j)
+      both j w = rw (w, eq-eqb (word m 3) 1 y) (go (apart (orderIn m k) (orderIn m j)) (apart (orderIn m j) (orderIn m k)))
+        where
+          go : (a b : Bool) → holds (a ∷ b ∷ []) ≡ (a && b)
+          go true true = refl
+          go true false = refl
+          go false b = refl
+
+-- the orders below k stand
+pub record Stood (m : List ℕ) (k : ℕ) (high low : List ℕ) : Type 0 where
+  pub passed : pairsBefore m k ≡ true
+  pub prices : word m 3 ≡ 1 → Prices m k high low
+
+pub stood-none : (m : List ℕ) → periods (word m 0) ≤ 744 → Stood m 0 (replicate 744 0) (replicate 744 10_000_001)
+unfolding pairsBefore
+stood-none m few = record { passed = all-none _; prices = λ z. prices-none m few }
+
+module _ (m : List ℕ) (k : ℕ) (high low high′ low′ : List ℕ) (s : Stood m k high low) (r : Bool) (d : OrderStands m k r high′ low′) where
+  pub stood-more : r ≡ true → Stood m (k + 1) high′ low′
+  unfolding pairsBefore
+  stood-more t = record { passed = all-more k _ (s .passed) (sym (d .answer) ∙ t); prices = d .entered t }
+
+  pub stood-fails : k < word m 7 → r ≡ false → false ≡ pairsFit (word m 3) (decode m .orders)
+  unfolding decode
+  stood-fails h f = pairs-fail (word m 3) (ordersPart m) (word m 7) k h (sym (d .answer) ∙ f)
+
+pub stood-ends : (m : List ℕ) (k : ℕ) (high low : List ℕ) → k ≡ word m 7 → Stood m k high low → true ≡ pairsFit (word m 3) (decode m .orders)
+unfolding decode pairsBefore
+stood-ends m k high low e s = sym (pairs-by (word m 3) (ordersPart m) (word m 7) (rw e at (s .passed)))

@@ -1,0 +1,2 @@
+pub mod EnrolLaws
+pub mod CellLaws

@@ -1,0 +1,3 @@
+pub mod RangeFacts
+pub mod WordLaws
+pub mod KeptLaws

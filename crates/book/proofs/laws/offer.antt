@@ -1,0 +1,4 @@
+pub mod OfferChainLaws
+pub mod OfferCheckLaws
+pub mod OfferFitLaws
+pub mod OfferedLaws

@@ -1,0 +1,5 @@
+pub mod BookingLaws
+pub mod FigureLaws
+pub mod SmallLaws
+pub mod TradeLaws
+pub mod ExchangedLaws

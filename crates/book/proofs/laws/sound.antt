@@ -1,0 +1,6 @@
+pub mod SoundLaws
+pub mod FormedLaws
+pub mod RemainLaws
+pub mod FitLaws
+pub mod OpenLaws
+pub mod DeclareLaws

@@ -1,0 +1,12 @@
+pub mod TakeLaws
+pub mod TakingLaws
+pub mod TakenLaws
+pub mod EffectLaws
+pub mod EnterLaws
+pub mod WholeLaws
+pub mod LessenedLaws
+pub mod WritingLaws
+pub mod GatherLaws
+pub mod FoundLaws
+pub mod PartyLaws
+pub mod CheckedLaws

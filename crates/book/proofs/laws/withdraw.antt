@@ -1,0 +1,2 @@
+pub mod WithdrawLaws
+pub mod OfferPlaceLaws

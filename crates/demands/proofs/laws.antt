@@ -1,0 +1,3 @@
+pub mod sound
+pub mod tally
+pub mod theorem

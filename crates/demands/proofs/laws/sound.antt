@@ -1,0 +1,4 @@
+pub mod CallLaws
+pub mod KeepLaws
+pub mod OfferLaws
+pub mod SoundAfter

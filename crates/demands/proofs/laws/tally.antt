@@ -1,0 +1,11 @@
+pub mod AcceptedLaws
+pub mod AgreeLaws
+pub mod BookedLaws
+pub mod ClearTallyLaws
+pub mod MapLaws
+pub mod MatchTallyLaws
+pub mod OrderTallyLaws
+pub mod RolledTallyLaws
+pub mod StandingLaws
+pub mod TakeTallyLaws
+pub mod WaitingCallLaws

@@ -1,0 +1,106 @@
+-- Demand 3, sentence by sentence, of a tally and the book that the same calls left.
+use Prim.Native.Nat.{ℕ, _+_, _-_, _*_, _≤_, _<_}
+use mathlib.Core.Path.{_≡_}
+use mathlib.Core.Bool.{Bool, true, cond, not, _&&_}
+use mathlib.Core.List.{List, [], _∷_}
+use lib.ListN.{length, getD}
+use lib.Dec.{eqb}
+use Rattle.measures.specs.Ranges.{between}
+use Rattle.measures.specs.Lists.{Each, sumOf, sum}
+use Rattle.limits.specs.Units.{periods, generator}
+use Rattle.limits.specs.Limits.{hourOf, hourLimit, termLimit, volumeLimit}
+use Rattle.matching.specs.Orders.{Order as OpenOrder, Row}
+use Rattle.book.specs.Book.{Figures, Book, figuresOf, net}
+use Rattle.book.specs.Trades.{raises, lowers}
+use Rattle.book.specs.Opening.{fresh, openingRefusal}
+use Rattle.book.specs.Curve.{firstHalf, secondHalf, points}
+use Rattle.book.specs.Calls.{Call, outcome, answered, bookAfter}
+use Rattle.demands.specs.Tally.{Member, Amounts, Tally, opened, tallied}
+
+-- the unit of a number, and whether there is one
+abbrev pub memberOf : Tally → ℕ → Member
+memberOf t u = getD (t .units) (u - 1) (record { kind = 0; capacity = 0; asset = 0 })
+
+abbrev pub enrolled : Tally → ℕ → Bool
+enrolled t u = between 1 (length (t .units)) u
+
+-- what a unit sold and bought in a period, by the rows
+unfoldable pub sold : Tally → ℕ → ℕ → ℕ
+sold t u p = sumOf (λ r. cond (eqb (r .seller) u && eqb (r .period) p) (r .quantity) 0) (t .rows)
+
+unfoldable pub bought : Tally → ℕ → ℕ → ℕ
+bought t u p = sumOf (λ r. cond (eqb (r .buyer) u && eqb (r .period) p) (r .quantity) 0) (t .rows)
+
+-- "Raising is a generator's sale or a load's purchase; lowering is the other."
+abbrev pub raisedBy : Tally → ℕ → ℕ → ℕ
+raisedBy t u p = cond (generator (memberOf t u .kind)) (sold t u p) (bought t u p)
+
+abbrev pub loweredBy : Tally → ℕ → ℕ → ℕ
+loweredBy t u p = cond (generator (memberOf t u .kind)) (bought t u p) (sold t u p)
+
+-- "Net: a generator's is sold less bought, a load's bought less sold."
+abbrev pub netOf : Tally → ℕ → ℕ → ℕ
+netOf t u p = raisedBy t u p - loweredBy t u p
+
+-- "Volume is all traded energy, bought and sold"
+abbrev pub volumeOf : Tally → ℕ → ℕ
+volumeOf t u = sum (periods (t .days)) (λ p. sold t u p + bought t u p)
+
+-- "any part, from none to all, of each open amount", by number and period
+pub record Part (t : Tally) : Type 0 where
+  pub part : ℕ → ℕ → ℕ
+  pub ofOffers : Each (λ (a : Amounts). (p : ℕ) → part (a .number) p ≤ getD (a .amounts) p 0) (t .offers)
+  pub ofOrders : Each (λ (o : OpenOrder). part (o .number) (o .period) ≤ o .quantity) (t .orders)
+
+-- "raising to the net, lowering off it": the parts of a unit's open amounts in a period
+unfoldable pub raisingPart : (t : Tally) → Part t → ℕ → ℕ → ℕ
+raisingPart t x u p =
+    sumOf (λ (a : Amounts). cond (eqb (a .unit) u) (x .part (a .number) p) 0) (t .offers)
+    + sumOf (λ (o : OpenOrder). cond (eqb (o .unit) u && eqb (o .period) p && raises (memberOf t u .kind) (o .direction)) (x .part (o .number) p) 0) (t .orders)
+
+unfoldable pub loweringPart : (t : Tally) → Part t → ℕ → ℕ → ℕ
+loweringPart t x u p =
+    sumOf (λ (o : OpenOrder). cond (eqb (o .unit) u && eqb (o .period) p && lowers (memberOf t u .kind) (o .direction)) (x .part (o .number) p) 0) (t .orders)
+
+-- the nets of one side in a period
+unfoldable pub netsOf : (ℕ → Bool) → Tally → ℕ → ℕ
+netsOf side t p = sum (length (t .units)) (λ k. cond (side (memberOf t (k + 1) .kind)) (netOf t (k + 1) p) 0)
+
+-- of a unit, with a part of what is open added
+pub record Bounded (t : Tally) (x : Part t) (u : ℕ) : Type 0 where
+  -- "nets stay within 0 and the hour limit"
+  pub atLeastNone : (p : ℕ) → p < periods (t .days) → loweredBy t u p + loweringPart t x u p ≤ raisedBy t u p + raisingPart t x u p
+  pub withinHour : (p : ℕ) → p < periods (t .days)
+      → raisedBy t u p + raisingPart t x u p - (loweredBy t u p + loweringPart t x u p) ≤ hourLimit (memberOf t u .kind) (memberOf t u .capacity) (hourOf p)
+  -- "term and volume limits hold"
+  pub withinTerm :
+      sum (periods (t .days)) (λ p. raisedBy t u p + raisingPart t x u p - (loweredBy t u p + loweringPart t x u p))
+      ≤ termLimit (memberOf t u .kind) (memberOf t u .capacity) (memberOf t u .asset) (t .days)
+  pub withinVolume :
+      volumeOf t u + sum (periods (t .days)) (λ p. raisingPart t x u p + loweringPart t x u p)
+      ≤ volumeLimit (memberOf t u .kind) (termLimit (memberOf t u .kind) (memberOf t u .capacity) (memberOf t u .asset) (t .days))
+
+pub record Demand3 (t : Tally) (b : Book) : Type 0 where
+  -- "nets and volumes are what the rows sum to"
+  pub nets : (u : ℕ) → enrolled t u ≡ true → (p : ℕ) → p < periods (t .days) → net (figuresOf b u p) ≡ netOf t u p
+  pub volumes : (u : ℕ) → enrolled t u ≡ true → sum (periods (t .days)) (λ p. figuresOf b u p .volume) ≡ volumeOf t u
+  -- "generators' nets total loads' nets in every hour"
+  pub balance : (p : ℕ) → p < periods (t .days) → netsOf generator t p ≡ netsOf (λ kind. not (generator kind)) t p
+  -- "whatever part of the open amounts still trades, nets stay within 0 and the hour limit, term and volume limits hold"
+  pub bounds : (x : Part t) (u : ℕ) → enrolled t u ≡ true → Bounded t x u
+  -- "each hour's two curve points sum to the net and differ by at most 1"
+  pub curves : (u day : ℕ) → enrolled t u ≡ true → day < t .days → (h : ℕ) → h < 24
+      → (getD (points b u day) (2 * h) 0 + getD (points b u day) (2 * h + 1) 0 ≡ netOf t u (24 * day + h))
+      × (getD (points b u day) (2 * h) 0 ≤ getD (points b u day) (2 * h + 1) 0)
+      × (getD (points b u day) (2 * h + 1) 0 ≤ getD (points b u day) (2 * h) 0 + 1)
+
+-- the tally of a list of calls from a book
+unfoldable pub tallyAfter : Tally → Book → List Call → Tally
+tallyAfter t b [] = t
+tallyAfter t b (c ∷ cs) = tallyAfter (tallied t c (answered (outcome b c))) (outcome b c .book) cs
+
+-- "One theorem over every list of calls from a newly opened book, counted from the handed-out rows by 01's tally"
+abbrev pub OverEveryList : Type 0
+OverEveryList =
+    (words days floor ceiling : ℕ) (cs : List Call) → openingRefusal words days floor ceiling ≡ 0
+    → Demand3 (tallyAfter (opened days) (fresh days floor ceiling) cs) (bookAfter (fresh days floor ceiling) cs)

@@ -1,0 +1,1 @@
+// The theorem over every list of calls, the tally that it counts by, and the figures: definitions and proofs alone.

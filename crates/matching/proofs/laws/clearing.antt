@@ -1,0 +1,12 @@
+pub mod VolumeLaws
+pub mod WalkLaws
+pub mod MarginLaws
+pub mod PlaceLaws
+pub mod FillLaws
+pub mod PickLaws
+pub mod SideLaws
+pub mod PeriodLaws
+pub mod StepLaws
+pub mod RestLaws
+pub mod CrossLaws
+pub mod ClearingLaws

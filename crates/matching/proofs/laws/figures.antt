@@ -1,0 +1,3 @@
+pub mod FiguresHold
+pub mod Figure2Cleared
+pub mod Figure3Cleared

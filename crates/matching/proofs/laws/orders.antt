@@ -1,0 +1,10 @@
+pub mod OrderLaws
+pub mod RowLaws
+pub mod FitLaws
+pub mod AheadLaws
+pub mod LaidLaws
+pub mod LessenLaws
+pub mod TakeOffLaws
+pub mod AfterLaws
+pub mod TakingLaws
+pub mod ExchangeLaws

@@ -1,0 +1,7 @@
+pub mod CandidateLaws
+pub mod CounterpartLaws
+pub mod MeetingLaws
+pub mod MetLaws
+pub mod TurnLaws
+pub mod RollingLaws
+pub mod RollingFigure

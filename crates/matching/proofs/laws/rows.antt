@@ -1,0 +1,2 @@
+pub mod OverlapLaws
+pub mod RowSumLaws
