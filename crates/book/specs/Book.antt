@@ -116,7 +116,17 @@ orderOpen b n = ltb 0 (length (ordersOf b n))
 -- a book with other units, offers, orders, phase or numbers
 abbrev pub withUnits : Book → List Unit → Book
 withUnits b us =
-    record { days = b .days; floor = b .floor; ceiling = b .ceiling; phase = b .phase; given = b .given; units = us; offers = b .offers; orders = b .orders }
+    record {
+      days = b .days;
+      floor = b .floor;
+      ceiling = b .ceiling;
+      phase = b .phase;
+      given = b .given;
+      units = us;
+      offers = b .offers;
+      orders =
+          b .orders;
+    }
 
 abbrev pub withOffers : Book → List OpenOffer → Book
 withOffers b os =
@@ -136,7 +146,17 @@ nextNumber b = b .given + 1
 
 abbrev pub numbered : Book → Book
 numbered b =
-    record { days = b .days; floor = b .floor; ceiling = b .ceiling; phase = b .phase; given = nextNumber b; units = b .units; offers = b .offers; orders = b .orders }
+    record {
+      days = b .days;
+      floor = b .floor;
+      ceiling = b .ceiling;
+      phase = b .phase;
+      given = nextNumber b;
+      units = b .units;
+      offers = b .offers;
+      orders =
+          b .orders;
+    }
 
 -- the figures of a unit that has not traded
 abbrev pub noTrades : ℕ → List Figures

@@ -13,7 +13,17 @@ unitDayOver u = record { kind = u .kind; capacity = u .capacity; asset = u .asse
 
 abbrev pub dayClosed : Book → Book
 dayClosed b =
-    record { days = b .days; floor = b .floor; ceiling = b .ceiling; phase = callPhase; given = 0; units = map unitDayOver (b .units); offers = []; orders = [] }
+    record {
+      days = b .days;
+      floor = b .floor;
+      ceiling = b .ceiling;
+      phase = callPhase;
+      given = 0;
+      units = map unitDayOver (b .units);
+      offers = [];
+      orders =
+          [];
+    }
 
 unfoldable pub closing : Book → Outcome
 closing b = decided (firstOf (unsound b ∷ [])) b (accepted 0 [] (dayClosed b))

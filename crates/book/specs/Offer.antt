@@ -5,7 +5,24 @@ use mathlib.Core.List.{List, [], _∷_, _++_}
 use lib.ListN.{getD}
 use Rattle.book.specs.Book.{OpenOffer, Book, withOffers, nextNumber, numbered}
 use Rattle.book.specs.Fit.{Declaration}
-use Rattle.book.specs.Refusals.{Outcome, Check, firstOf, decided, accepted, unsound, unknownUnit, unknownPartner, badPrice, badAmounts, wrongPartner, offersFull, numbersUsed, hourMisfit, termMisfit, volumeMisfit}
+use Rattle.book.specs.Refusals.{
+  Outcome,
+  Check,
+  firstOf,
+  decided,
+  accepted,
+  unsound,
+  unknownUnit,
+  unknownPartner,
+  badPrice,
+  badAmounts,
+  wrongPartner,
+  offersFull,
+  numbersUsed,
+  hourMisfit,
+  termMisfit,
+  volumeMisfit,
+}
 
 -- amounts that raise, by period: what an offer or a take declares
 abbrev pub raisingAmounts : List ℕ → Declaration

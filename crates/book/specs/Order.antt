@@ -8,7 +8,27 @@ use Rattle.matching.specs.Rolling.{Met, meet}
 use Rattle.book.specs.Book.{Book, callPhase, unitOf, withOrders, nextNumber, numbered}
 use Rattle.book.specs.Trades.{raises, lowers, rowsBooked}
 use Rattle.book.specs.Fit.{Declaration}
-use Rattle.book.specs.Refusals.{Outcome, Check, firstOf, decided, accepted, unsound, unknownUnit, fewRows, badPrice, badQuantity, badPeriod, badDirection, otherDirection, twoOpen, ordersFull, numbersUsed, hourMisfit, termMisfit, volumeMisfit}
+use Rattle.book.specs.Refusals.{
+  Outcome,
+  Check,
+  firstOf,
+  decided,
+  accepted,
+  unsound,
+  unknownUnit,
+  fewRows,
+  badPrice,
+  badQuantity,
+  badPeriod,
+  badDirection,
+  otherDirection,
+  twoOpen,
+  ordersFull,
+  numbersUsed,
+  hourMisfit,
+  termMisfit,
+  volumeMisfit,
+}
 
 -- what an order declares: its quantity, in its period, raising or lowering
 abbrev pub orderDeclares : Book → ℕ → ℕ → ℕ → ℕ → Declaration

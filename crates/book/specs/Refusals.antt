@@ -9,7 +9,23 @@ use Rattle.measures.specs.Lists.{keep}
 use Rattle.measures.specs.Sharing.{total}
 use Rattle.limits.specs.Units.{daysIn, periods, periodIn, kindIn, generator, capacityIn, assetIn}
 use Rattle.matching.specs.Orders.{Order as OpenOrder, Row, sells, buys}
-use Rattle.book.specs.Book.{OpenOffer, Book, callPhase, rollingPhase, mostUnits, mostOffers, mostOrders, mostNumbers, known, unitOf, figuresOf, offerOf, offerOpen, orderOf, orderOpen}
+use Rattle.book.specs.Book.{
+  OpenOffer,
+  Book,
+  callPhase,
+  rollingPhase,
+  mostUnits,
+  mostOffers,
+  mostOrders,
+  mostNumbers,
+  known,
+  unitOf,
+  figuresOf,
+  offerOf,
+  offerOpen,
+  orderOf,
+  orderOpen,
+}
 use Rattle.book.specs.Fit.{Declaration, hoursFit, termFits, volumeFits}
 use Rattle.book.specs.Sound.{sound, pricesIn, energyIn, bilateralSides}
 

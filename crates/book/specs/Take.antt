@@ -11,7 +11,22 @@ use Rattle.matching.specs.Orders.{Row}
 use Rattle.book.specs.Book.{OpenOffer, Book, unitOf, offerOf, withOffers}
 use Rattle.book.specs.Trades.{rowsBooked}
 use Rattle.book.specs.Offer.{raisingAmounts}
-use Rattle.book.specs.Refusals.{Outcome, Check, firstOf, decided, accepted, unsound, unknownUnit, fewRows, badQuantity, noSuchOffer, cannotTake, hourMisfit, termMisfit, volumeMisfit}
+use Rattle.book.specs.Refusals.{
+  Outcome,
+  Check,
+  firstOf,
+  decided,
+  accepted,
+  unsound,
+  unknownUnit,
+  fewRows,
+  badQuantity,
+  noSuchOffer,
+  cannotTake,
+  hourMisfit,
+  termMisfit,
+  volumeMisfit,
+}
 
 -- what each period gives: of a bilateral offer, taken for its total, each amount whole (law `parts-of-all`)
 abbrev pub takenParts : Book → ℕ → ℕ → List ℕ
@@ -21,7 +36,8 @@ takenParts b n q = parts q (offerOf b n .amounts)
 abbrev pub takeChecks : Book → ℕ → ℕ → ℕ → ℕ → List Check
 takeChecks b u n q lent =
     unknownUnit b u ∷ fewRows lent ∷ badQuantity q ∷ noSuchOffer b n ∷ cannotTake b u n q
-    ∷ hourMisfit b u (raisingAmounts (takenParts b n q)) ∷ termMisfit b u (raisingAmounts (takenParts b n q)) ∷ volumeMisfit b u (raisingAmounts (takenParts b n q)) ∷ []
+    ∷ hourMisfit b u (raisingAmounts (takenParts b n q)) ∷ termMisfit b u (raisingAmounts (takenParts b n q))
+    ∷ volumeMisfit b u (raisingAmounts (takenParts b n q)) ∷ []
 
 unfoldable pub takeRefusal : Book → ℕ → ℕ → ℕ → ℕ → ℕ
 takeRefusal b u n q lent = firstOf (unsound b ∷ takeChecks b u n q lent)

@@ -29,7 +29,13 @@ traded kind way direction q f =
 -- the unit after such a trade in period p
 abbrev pub unitTraded : ℕ → ℕ → ℕ → ℕ → Unit → Unit
 unitTraded way direction p q u =
-    record { kind = u .kind; capacity = u .capacity; asset = u .asset; figures = set (u .figures) p (traded (u .kind) way direction q (getD (u .figures) p noFigures)) }
+    record {
+      kind = u .kind;
+      capacity = u .capacity;
+      asset = u .asset;
+      figures = set (u .figures) p
+          (traded (u .kind) way direction q (getD (u .figures) p noFigures));
+    }
 
 -- the book after unit u traded
 unfoldable pub booked : ℕ → ℕ → ℕ → ℕ → ℕ → Book → Book

@@ -23,7 +23,17 @@ ghost use mathlib.Core.Path.{_≡_};
 ghost use mathlib.Core.List.{List, []};
 ghost use lib.ListN.{length};
 ghost use Rattle.book.specs.Contract.{Made, Curved};
-ghost use Rattle.book.specs.Calls.{enrol as callEnrol, offer as callOffer, take as callTake, withdraw as callWithdraw, cancel as callCancel, close as callClose, clear as callClear, order as callOrder};
+ghost use Rattle.book.specs.Calls.{
+  enrol as callEnrol,
+  offer as callOffer,
+  take as callTake,
+  withdraw as callWithdraw,
+  cancel as callCancel,
+  close as
+      callClose,
+  clear as callClear,
+  order as callOrder,
+};
 
 // The 48 points of a unit on a day.
 pub fn curve(book: &[u64], unit: u64, day: u64, points: &mut [u64]) -> Answer
@@ -74,7 +84,8 @@ pub fn offer(book: &mut [u64], unit: u64, partner: u64, price: u64, amounts: &[u
 
 // Takes a quantity of an open offer: a row for each period that gives some.
 pub fn take(book: &mut [u64], unit: u64, number: u64, quantity: u64, rows: &mut [u64]) -> Answer
-    ensures { λ r. ⌜ Made (now (book .entry)) (now (rows .entry)) (callTake unit number quantity (length (now (rows .entry)))) r (now (book .exit)) (now (rows .exit)) ⌝ }
+    ensures { λ r. ⌜ Made (now (book .entry)) (now (rows .entry)) (callTake unit number quantity (length (now (rows .entry)))) r (now (book .exit))
+        (now (rows .exit)) ⌝ }
 {
     if !sound_book(book) {
         return Answer::Refused(1);
@@ -154,7 +165,8 @@ pub fn order(
     quantity: u64,
     rows: &mut [u64],
 ) -> Answer
-    ensures { λ r. ⌜ Made (now (book .entry)) (now (rows .entry)) (callOrder unit direction period price quantity (length (now (rows .entry)))) r (now (book .exit)) (now (rows .exit)) ⌝ }
+    ensures { λ r. ⌜ Made (now (book .entry)) (now (rows .entry)) (callOrder unit direction period price quantity (length (now (rows .entry)))) r
+        (now (book .exit)) (now (rows .exit)) ⌝ }
 {
     if !sound_book(book) {
         return Answer::Refused(1);

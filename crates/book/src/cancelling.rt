@@ -16,7 +16,8 @@ ghost use Rattle.book.specs.Cancel.{cancelChecks};
 // The place of the open order of a number, or how many stand open.
 fn order_place(book: &[u64], number: u64) -> usize
     requires { ⌜ Readable (now book) ⌝ }
-    ensures { λ r. ⌜ (r ≤ word (now (book .entry)) 7) × ((k : ℕ) → k < r → word (now (book .entry)) (240 + 6 * k) ≡ number → ⊥) × (r < word (now (book .entry)) 7 → word (now (book .entry)) (240 + 6 * r) ≡ number) ⌝ }
+    ensures { λ r. ⌜ (r ≤ word (now (book .entry)) 7) × ((k : ℕ) → k < r → word (now (book .entry)) (240 + 6 * k) ≡ number → ⊥)
+        × (r < word (now (book .entry)) 7 → word (now (book .entry)) (240 + 6 * r) ≡ number) ⌝ }
 {
     let n = book[7] as usize;
     let mut k: usize = 0;
@@ -54,7 +55,9 @@ pub(crate) fn cancel_checks(book: &[u64], unit: u64, number: u64) -> u64
 // The open order of a number goes.
 pub(crate) fn cancel_effect(book: &mut [u64], number: u64)
     requires { ⌜ (soundIn (now book) ≡ true) × (orderOpen (decode (now book)) number ≡ true) ⌝ }
-    ensures { λ _. ⌜ (decode (now (book .exit)) ≡ withOrders (decode (now (book .entry))) (keep (λ o. not (eqb (o .number) number)) (decode (now (book .entry)) .orders))) × (drop (bookWords (word (now (book .entry)) 0)) (now (book .exit)) ≡ drop (bookWords (word (now (book .entry)) 0)) (now (book .entry))) ⌝ }
+    ensures { λ _. ⌜ (decode (now (book .exit)) ≡ withOrders (decode (now (book .entry)))
+        (keep (λ o. not (eqb (o .number) number)) (decode (now (book .entry)) .orders)))
+        × (drop (bookWords (word (now (book .entry)) 0)) (now (book .exit)) ≡ drop (bookWords (word (now (book .entry)) 0)) (now (book .entry))) ⌝ }
 {
     let n = book[7];
     let k = order_place(book, number);

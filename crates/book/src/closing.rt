@@ -12,7 +12,8 @@ ghost use Rattle.book.specs.inner.Closing.{cellClosed, DayOver, AllNette
 // The figures of the unit at place k in period p: held becomes net, and nothing is traded today.
 fn close_cell(book: &mut [u64], k: usize, p: usize)
     requires { ⌜ (Readable (now book)) × (k < 64) × (p < 24 * word (now book) 0) ⌝ }
-    requires { ⌜ (word (now book) (1776 + 328 * p + 5 * k) + word (now book) (1777 + 328 * p + 5 * k) ≤ 5000000) × (word (now book) (1778 + 328 * p + 5 * k) ≤ word (now book) (1776 + 328 * p + 5 * k)) ⌝ }
+    requires { ⌜ (word (now book) (1776 + 328 * p + 5 * k) + word (now book) (1777 + 328 * p + 5 * k) ≤ 5000000)
+        × (word (now book) (1778 + 328 * p + 5 * k) ≤ word (now book) (1776 + 328 * p + 5 * k)) ⌝ }
     ensures { λ _. ⌜ now (book .exit) ≡ cellClosed (now (book .entry)) k p ⌝ }
 {
     let held = book[1776 + 328 * p + 5 * k];
@@ -54,7 +55,8 @@ fn close_figures(book: &mut [u64])
 // Closes the day of a book that can be read and whose figures come to nets.
 pub(crate) fn close_day(book: &mut [u64])
     requires { ⌜ (Readable (now book)) × (Netting (now book)) ⌝ }
-    ensures { λ _. ⌜ (decode (now (book .exit)) ≡ dayClosed (decode (now (book .entry)))) × (drop (bookWords (word (now (book .entry)) 0)) (now (book .exit)) ≡ drop (bookWords (word (now (book .entry)) 0)) (now (book .entry))) ⌝ }
+    ensures { λ _. ⌜ (decode (now (book .exit)) ≡ dayClosed (decode (now (book .entry))))
+        × (drop (bookWords (word (now (book .entry)) 0)) (now (book .exit)) ≡ drop (bookWords (word (now (book .entry)) 0)) (now (book .entry))) ⌝ }
 {
     close_figures(book);
     book[3] = 0;

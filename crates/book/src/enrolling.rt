@@ -41,7 +41,8 @@ pub(crate) fn enrol_checks(book: &[u64], kind: u64, capacity: u64, asset: u64) -
 // The figures of the unit at place k in period p become 0.
 fn clear_cell(book: &mut [u64], k: usize, p: usize)
     requires { ⌜ (1776 + 328 * p + 328 ≤ length (now book)) × (p < 744) × (k < 64) ⌝ }
-    ensures { λ _. ⌜ now (book .exit) ≡ set (set (set (set (set (now (book .entry)) (1776 + 328 * p + 5 * k) 0) (1777 + 328 * p + 5 * k) 0) (1778 + 328 * p + 5 * k) 0) (1779 + 328 * p + 5 * k) 0) (1780 + 328 * p + 5 * k) 0 ⌝ }
+    ensures { λ _. ⌜ now (book .exit) ≡ set (set (set (set (set (now (book .entry)) (1776 + 328 * p + 5 * k) 0) (1777 + 328 * p + 5 * k) 0)
+        (1778 + 328 * p + 5 * k) 0) (1779 + 328 * p + 5 * k) 0) (1780 + 328 * p + 5 * k) 0 ⌝ }
 {
     book[1776 + 328 * p + 5 * k] = 0;
     book[1777 + 328 * p + 5 * k] = 0;
@@ -53,7 +54,10 @@ fn clear_cell(book: &mut [u64], k: usize, p: usize)
 // The figures of the unit at place k become 0 in each period; all other words stay.
 fn clear_unit(book: &mut [u64], k: usize)
     requires { ⌜ (Readable (now book)) × (k < 64) ⌝ }
-    ensures { λ _. ⌜ ((p c : ℕ) → p < 24 * word (now (book .entry)) 0 → c < 5 → word (now (book .exit)) (1776 + 328 * p + (5 * k + c)) ≡ 0) × ((i : ℕ) → ((p c : ℕ) → p < 24 * word (now (book .entry)) 0 → c < 5 → i ≡ 1776 + 328 * p + (5 * k + c) → ⊥) → word (now (book .exit)) i ≡ word (now (book .entry)) i) × (drop (bookWords (word (now (book .entry)) 0)) (now (book .exit)) ≡ drop (bookWords (word (now (book .entry)) 0)) (now (book .entry))) ⌝ }
+    ensures { λ _. ⌜ ((p c : ℕ) → p < 24 * word (now (book .entry)) 0 → c < 5 → word (now (book .exit)) (1776 + 328 * p + (5 * k + c)) ≡ 0)
+        × ((i : ℕ) → ((p c : ℕ) → p < 24 * word (now (book .entry)) 0 → c < 5 → i ≡ 1776 + 328 * p + (5 * k + c) → ⊥) → word (now (book .exit)) i
+        ≡ word (now (book .entry)) i) × (drop (bookWords (word (now (book .entry)) 0)) (now (book .exit))
+        ≡ drop (bookWords (word (now (book .entry)) 0)) (now (book .entry))) ⌝ }
 {
     let top = 24 * (book[0] as usize);
     let mut p: usize = 0;
@@ -66,7 +70,8 @@ fn clear_unit(book: &mut [u64], k: usize)
 // One unit more stands behind the others.
 pub(crate) fn enrol_effect(book: &mut [u64], kind: u64, capacity: u64, asset: u64)
     requires { ⌜ (soundIn (now book) ≡ true) × (word (now book) 5 < 64) ⌝ }
-    ensures { λ _. ⌜ (decode (now (book .exit)) ≡ enrolled (decode (now (book .entry))) kind capacity asset) × (drop (bookWords (word (now (book .entry)) 0)) (now (book .exit)) ≡ drop (bookWords (word (now (book .entry)) 0)) (now (book .entry))) ⌝ }
+    ensures { λ _. ⌜ (decode (now (book .exit)) ≡ enrolled (decode (now (book .entry))) kind capacity asset)
+        × (drop (bookWords (word (now (book .entry)) 0)) (now (book .exit)) ≡ drop (bookWords (word (now (book .entry)) 0)) (now (book .entry))) ⌝ }
 {
     let k = book[5] as usize;
     clear_unit(book, k);

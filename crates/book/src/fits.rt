@@ -22,7 +22,8 @@ ghost use Rattle.book.specs.inner.Fitting.{Below, Added, orderShare, off
 fn add_order(book: &[u64], unit: u64, way: u64, k: usize, totals: &mut [u64])
     requires { ⌜ (Ranged (now book)) × (k < word (now book) 7) ⌝ }
     requires { ⌜ (length (now totals) ≡ 744) × (Below 2000000000000 (now totals)) ⌝ }
-    ensures { λ _. ⌜ Added (periods (word (now (book .entry)) 0)) (now (totals .entry)) (now (totals .exit)) (orderShare (now (book .entry)) unit way k) mostEnergy ⌝ }
+    ensures { λ _. ⌜ Added (periods (word (now (book .entry)) 0)) (now (totals .entry)) (now (totals .exit)) (orderShare (now (book .entry)) unit way k)
+        mostEnergy ⌝ }
 {
     let at = 240 + 6 * k;
     if book[at + 1] != unit {
@@ -39,7 +40,8 @@ fn add_order(book: &[u64], unit: u64, way: u64, k: usize, totals: &mut [u64])
 fn add_orders(book: &[u64], unit: u64, way: u64, totals: &mut [u64])
     requires { ⌜ Ranged (now book) ⌝ }
     requires { ⌜ (length (now totals) ≡ 744) × (Below 40000000000 (now totals)) ⌝ }
-    ensures { λ _. ⌜ Added (periods (word (now (book .entry)) 0)) (now (totals .entry)) (now (totals .exit)) (λ p. sum (word (now (book .entry)) 7) (λ k. orderShare (now (book .entry)) unit way k p)) 1024000000000 ⌝ }
+    ensures { λ _. ⌜ Added (periods (word (now (book .entry)) 0)) (now (totals .entry)) (now (totals .exit))
+        (λ p. sum (word (now (book .entry)) 7) (λ k. orderShare (now (book .entry)) unit way k p)) 1024000000000 ⌝ }
 {
     let n = book[7] as usize;
     let mut k: usize = 0;
@@ -53,7 +55,8 @@ fn add_orders(book: &[u64], unit: u64, way: u64, totals: &mut [u64])
 fn add_offer(book: &[u64], unit: u64, j: usize, totals: &mut [u64])
     requires { ⌜ (Ranged (now book)) × (j < word (now book) 6) ⌝ }
     requires { ⌜ (length (now totals) ≡ 744) × (Below 2000000000000 (now totals)) ⌝ }
-    ensures { λ _. ⌜ Added (periods (word (now (book .entry)) 0)) (now (totals .entry)) (now (totals .exit)) (offerShare (now (book .entry)) unit j) mostEnergy ⌝ }
+    ensures { λ _. ⌜ Added (periods (word (now (book .entry)) 0)) (now (totals .entry)) (now (totals .exit)) (offerShare (now (book .entry)) unit j)
+        mostEnergy ⌝ }
 {
     if book[201 + 5 * j] != unit {
         return;
@@ -70,7 +73,8 @@ fn add_offer(book: &[u64], unit: u64, j: usize, totals: &mut [u64])
 fn add_offers(book: &[u64], unit: u64, totals: &mut [u64])
     requires { ⌜ Ranged (now book) ⌝ }
     requires { ⌜ (length (now totals) ≡ 744) × (small (now totals)) ⌝ }
-    ensures { λ _. ⌜ Added (periods (word (now (book .entry)) 0)) (now (totals .entry)) (now (totals .exit)) (λ p. sum (word (now (book .entry)) 6) (λ j. offerShare (now (book .entry)) unit j p)) 32000000000 ⌝ }
+    ensures { λ _. ⌜ Added (periods (word (now (book .entry)) 0)) (now (totals .entry)) (now (totals .exit))
+        (λ p. sum (word (now (book .entry)) 6) (λ j. offerShare (now (book .entry)) unit j p)) 32000000000 ⌝ }
 {
     let n = book[6] as usize;
     let mut j: usize = 0;
@@ -92,7 +96,8 @@ pub(crate) const MOST_VOLUME: u64 = 4_800_000_000;
 // The unit at place k.
 fn unit_at(book: &[u64], k: usize) -> Unit
     requires { ⌜ (Ranged (now book)) × (k < word (now book) 5) ⌝ }
-    ensures { λ r. ⌜ (r .kind ≡ word (now (book .entry)) (8 + 3 * k)) × (r .capacity ≡ word (now (book .entry)) (9 + 3 * k)) × (r .asset .0 ≡ word (now (book .entry)) (10 + 3 * k)) ⌝ }
+    ensures { λ r. ⌜ (r .kind ≡ word (now (book .entry)) (8 + 3 * k)) × (r .capacity ≡ word (now (book .entry)) (9 + 3 * k))
+        × (r .asset .0 ≡ word (now (book .entry)) (10 + 3 * k)) ⌝ }
 {
     Unit::fresh(book[8 + 3 * k], book[9 + 3 * k], Energy(book[10 + 3 * k]))
 }
@@ -170,7 +175,8 @@ pub(crate) fn period_fit(book: &[u64], k: usize, p: usize, x: u64, y: u64) -> u6
 // What the unit at place k comes to with these amounts by period: 1, 19, 20, 21 or 0.
 fn fit_of(book: &[u64], k: usize, raising: &[u64], lowering: &[u64]) -> u64
     requires { ⌜ (Ranged (now book)) × (k < word (now book) 5) ⌝ }
-    requires { ⌜ (length (now raising) ≡ 744) × (length (now lowering) ≡ 744) × (Below 2000000000000 (now raising)) × (Below 2000000000000 (now lowering)) ⌝ }
+    requires { ⌜ (length (now raising) ≡ 744) × (length (now lowering) ≡ 744) × (Below 2000000000000 (now raising))
+        × (Below 2000000000000 (now lowering)) ⌝ }
     ensures { λ r. ⌜ UnitCame (now (book .entry)) k (now (raising .entry)) (now (lowering .entry)) r ⌝ }
 {
     let most = bounds_of(book, k);

@@ -13,7 +13,19 @@ ghost use Rattle.measures.specs.Ranges.{mostEnergy};
 ghost use Rattle.measures.specs.Sharing.{total};
 ghost use Rattle.book.specs.Opening.{bookWords};
 ghost use Rattle.book.specs.Layout.{word, decode};
-ghost use Rattle.book.specs.Refusals.{firstOf, unknownUnit, unknownPartner, badPrice, badAmounts, wrongPartner, offersFull, numbersUsed, hourMisfit, termMisfit, volumeMisfit};
+ghost use Rattle.book.specs.Refusals.{
+  firstOf,
+  unknownUnit,
+  unknownPartner,
+  badPrice,
+  badAmounts,
+  wrongPartner,
+  offersFull,
+  numbersUsed,
+  hourMisfit,
+  termMisfit,
+  volumeMisfit,
+};
 ghost use Rattle.book.specs.inner.Readable.{Readable};
 ghost use Rattle.book.specs.Contract.{soundIn};
 ghost use Rattle.book.specs.Offer.{offered, offerChecks, raisingAmounts};
@@ -38,7 +50,8 @@ fn amounts_total(amounts: &[u64]) -> u64
 // The checks of names, price and amounts.
 fn offer_terms(book: &[u64], unit: u64, partner: u64, price: u64, amounts: &[u64]) -> u64
     requires { ⌜ Readable (now book) ⌝ }
-    ensures { λ r. ⌜ r ≡ firstOf (unknownUnit (decode (now (book .entry))) unit ∷ unknownPartner (decode (now (book .entry))) partner ∷ badPrice (decode (now (book .entry))) price ∷ badAmounts (decode (now (book .entry))) (now (amounts .entry)) ∷ []) ⌝ }
+    ensures { λ r. ⌜ r ≡ firstOf (unknownUnit (decode (now (book .entry))) unit ∷ unknownPartner (decode (now (book .entry))) partner
+        ∷ badPrice (decode (now (book .entry))) price ∷ badAmounts (decode (now (book .entry))) (now (amounts .entry)) ∷ []) ⌝ }
 {
     if unit < 1 {
         return 6;
@@ -71,7 +84,8 @@ fn offer_terms(book: &[u64], unit: u64, partner: u64, price: u64, amounts: &[u64
 // The checks of sides and of room, for names that are known.
 fn offer_room(book: &[u64], unit: u64, partner: u64) -> u64
     requires { ⌜ (Readable (now book)) × (1 ≤ unit) × (unit ≤ word (now book) 5) × (partner ≤ word (now book) 5) ⌝ }
-    ensures { λ r. ⌜ r ≡ firstOf (wrongPartner (decode (now (book .entry))) unit partner ∷ offersFull (decode (now (book .entry))) ∷ numbersUsed (decode (now (book .entry))) ∷ []) ⌝ }
+    ensures { λ r. ⌜ r ≡ firstOf (wrongPartner (decode (now (book .entry))) unit partner ∷ offersFull (decode (now (book .entry)))
+        ∷ numbersUsed (decode (now (book .entry))) ∷ []) ⌝ }
 {
     if !sides_fit(book, unit, partner) {
         return 12;
@@ -88,7 +102,8 @@ fn offer_room(book: &[u64], unit: u64, partner: u64) -> u64
 // The amounts, copied to the front of a list that has room for them.
 fn copy_amounts(amounts: &[u64], copy: &mut [u64])
     requires { ⌜ length (now amounts) ≤ length (now copy) ⌝ }
-    ensures { λ _. ⌜ ((k : ℕ) → k < length (now (amounts .entry)) → word (now (copy .exit)) k ≡ word (now (amounts .entry)) k) × ((k : ℕ) → length (now (amounts .entry)) ≤ k → word (now (copy .exit)) k ≡ word (now (copy .entry)) k) ⌝ }
+    ensures { λ _. ⌜ ((k : ℕ) → k < length (now (amounts .entry)) → word (now (copy .exit)) k ≡ word (now (amounts .entry)) k)
+        × ((k : ℕ) → length (now (amounts .entry)) ≤ k → word (now (copy .exit)) k ≡ word (now (copy .entry)) k) ⌝ }
 {
     let mut i = 0;
     while i < amounts.len() {
@@ -99,8 +114,11 @@ fn copy_amounts(amounts: &[u64], copy: &mut [u64])
 
 // Whether the amounts fit the unit's limits.
 fn offer_fit(book: &[u64], unit: u64, amounts: &[u64]) -> u64
-    requires { ⌜ (soundIn (now book) ≡ true) × (1 ≤ unit) × (unit ≤ word (now book) 5) × (length (now amounts) ≡ 24 * word (now book) 0) × (total (now amounts) ≤ mostEnergy) ⌝ }
-    ensures { λ r. ⌜ r ≡ firstOf (hourMisfit (decode (now (book .entry))) unit (raisingAmounts (now (amounts .entry))) ∷ termMisfit (decode (now (book .entry))) unit (raisingAmounts (now (amounts .entry))) ∷ volumeMisfit (decode (now (book .entry))) unit (raisingAmounts (now (amounts .entry))) ∷ []) ⌝ }
+    requires { ⌜ (soundIn (now book) ≡ true) × (1 ≤ unit) × (unit ≤ word (now book) 5) × (length (now amounts) ≡ 24 * word (now book) 0)
+        × (total (now amounts) ≤ mostEnergy) ⌝ }
+    ensures { λ r. ⌜ r ≡ firstOf (hourMisfit (decode (now (book .entry))) unit (raisingAmounts (now (amounts .entry)))
+        ∷ termMisfit (decode (now (book .entry))) unit (raisingAmounts (now (amounts .entry)))
+        ∷ volumeMisfit (decode (now (book .entry))) unit (raisingAmounts (now (amounts .entry))) ∷ []) ⌝ }
 {
     let mut raising = [0u64; 744];
     let mut lowering = [0u64; 744];
@@ -133,7 +151,9 @@ pub(crate) fn offer_checks(
 // The amounts of the offer at place j.
 fn put_amounts(book: &mut [u64], j: usize, amounts: &[u64])
     requires { ⌜ (Readable (now book)) × (j < 8) × (length (now amounts) ≡ 24 * word (now book) 0) ⌝ }
-    ensures { λ _. ⌜ ((p : ℕ) → p < 24 * word (now (book .entry)) 0 → word (now (book .exit)) (2096 + 328 * p + j) ≡ word (now (amounts .entry)) p) × ((i : ℕ) → ((p : ℕ) → p < 24 * word (now (book .entry)) 0 → i ≡ 2096 + 328 * p + j → ⊥) → word (now (book .exit)) i ≡ word (now (book .entry)) i) × (drop (bookWords (word (now (book .entry)) 0)) (now (book .exit)) ≡ drop (bookWords (word (now (book .entry)) 0)) (now (book .entry))) ⌝ }
+    ensures { λ _. ⌜ ((p : ℕ) → p < 24 * word (now (book .entry)) 0 → word (now (book .exit)) (2096 + 328 * p + j) ≡ word (now (amounts .entry)) p)
+        × ((i : ℕ) → ((p : ℕ) → p < 24 * word (now (book .entry)) 0 → i ≡ 2096 + 328 * p + j → ⊥) → word (now (book .exit)) i ≡ word (now (book .entry)) i)
+        × (drop (bookWords (word (now (book .entry)) 0)) (now (book .exit)) ≡ drop (bookWords (word (now (book .entry)) 0)) (now (book .entry))) ⌝ }
 {
     let top = 24 * (book[0] as usize);
     let mut p: usize = 0;
@@ -146,7 +166,8 @@ fn put_amounts(book: &mut [u64], j: usize, amounts: &[u64])
 // One offer more stands behind the others, under the next number.
 pub(crate) fn offer_effect(book: &mut [u64], unit: u64, partner: u64, price: u64, amounts: &[u64])
     requires { ⌜ (soundIn (now book) ≡ true) × (word (now book) 6 < 8) × (length (now amounts) ≡ 24 * word (now book) 0) ⌝ }
-    ensures { λ _. ⌜ (decode (now (book .exit)) ≡ offered (decode (now (book .entry))) unit partner price (now (amounts .entry))) × (drop (bookWords (word (now (book .entry)) 0)) (now (book .exit)) ≡ drop (bookWords (word (now (book .entry)) 0)) (now (book .entry))) ⌝ }
+    ensures { λ _. ⌜ (decode (now (book .exit)) ≡ offered (decode (now (book .entry))) unit partner price (now (amounts .entry)))
+        × (drop (bookWords (word (now (book .entry)) 0)) (now (book .exit)) ≡ drop (bookWords (word (now (book .entry)) 0)) (now (book .entry))) ⌝ }
 {
     let j = book[6] as usize;
     let number = book[4] + 1;

@@ -104,7 +104,8 @@ struct Seen {
 
 fn unit_orders(book: &[u64], unit: u64, direction: u64, period: u64) -> Seen
     requires { ⌜ Readable (now book) ⌝ }
-    ensures { λ r. ⌜ (r .stand ≡ sum (word (now (book .entry)) 7) (ofUnitAt (now (book .entry)) unit period)) × (r .against ≡ sum (word (now (book .entry)) 7) (againstAt (now (book .entry)) unit direction period)) ⌝ }
+    ensures { λ r. ⌜ (r .stand ≡ sum (word (now (book .entry)) 7) (ofUnitAt (now (book .entry)) unit period))
+        × (r .against ≡ sum (word (now (book .entry)) 7) (againstAt (now (book .entry)) unit direction period)) ⌝ }
 {
     let n = book[7] as usize;
     let mut stand: u64 = 0;
@@ -201,7 +202,8 @@ pub(crate) fn order_checks(
 // An order waits behind those that stand open.
 fn append(book: &mut [u64], o: Order)
     requires { ⌜ (1776 ≤ length (now book)) × (word (now book) 7 < 256) ⌝ }
-    ensures { λ _. ⌜ OrdersPut (now (book .entry)) (now (book .exit)) (ordersIn (ordersPart (now (book .entry))) (word (now (book .entry)) 7) ++ (orderOf o ∷ [])) ⌝ }
+    ensures { λ _. ⌜ OrdersPut (now (book .entry)) (now (book .exit)) (ordersIn (ordersPart (now (book .entry))) (word (now (book .entry)) 7)
+        ++ (orderOf o ∷ [])) ⌝ }
 {
     let n = book[7];
     matching::orders::write(&mut book[240..1776], n as usize + 1, n as usize, o);
@@ -211,7 +213,8 @@ fn append(book: &mut [u64], o: Order)
 // One number more is given.
 fn next_number(book: &mut [u64])
     requires { ⌜ (1776 ≤ length (now book)) × (word (now book) 4 < 65535) ⌝ }
-    ensures { λ _. ⌜ (decode (now (book .exit)) ≡ numbered (decode (now (book .entry)))) × ((n : ℕ) → 1776 ≤ n → drop n (now (book .exit)) ≡ drop n (now (book .entry))) ⌝ }
+    ensures { λ _. ⌜ (decode (now (book .exit)) ≡ numbered (decode (now (book .entry))))
+        × ((n : ℕ) → 1776 ≤ n → drop n (now (book .exit)) ≡ drop n (now (book .entry))) ⌝ }
 {
     let given = book[4];
     book[4] = given + 1;
@@ -227,7 +230,9 @@ pub(crate) fn order_in_call(
     quantity: u64,
 )
     requires { ⌜ (soundIn (now book) ≡ true) × (word (now book) 7 < 256) × (word (now book) 4 < 65535) ⌝ }
-    ensures { λ _. ⌜ (decode (now (book .exit)) ≡ orderedInCall (decode (now (book .entry))) (newOrder (decode (now (book .entry))) unit direction period price quantity) .book) × (drop (bookWords (word (now (book .entry)) 0)) (now (book .exit)) ≡ drop (bookWords (word (now (book .entry)) 0)) (now (book .entry))) ⌝ }
+    ensures { λ _. ⌜ (decode (now (book .exit)) ≡ orderedInCall (decode (now (book .entry)))
+        (newOrder (decode (now (book .entry))) unit direction period price quantity) .book)
+        × (drop (bookWords (word (now (book .entry)) 0)) (now (book .exit)) ≡ drop (bookWords (word (now (book .entry)) 0)) (now (book .entry))) ⌝ }
 {
     let number = book[4] + 1;
     let o = Order::fresh(
@@ -270,7 +275,8 @@ fn meet_orders(book: &mut [u64], o: Order, rows: &mut [u64]) -> Rest
 // "the rest waits"
 fn rest_waits(book: &mut [u64], o: Order, left: u64)
     requires { ⌜ (1776 ≤ length (now book)) × (word (now book) 7 < 256) ⌝ }
-    ensures { λ _. ⌜ OrdersPut (now (book .entry)) (now (book .exit)) (ordersIn (ordersPart (now (book .entry))) (word (now (book .entry)) 7) ++ waiting (leaving (orderOf o) left)) ⌝ }
+    ensures { λ _. ⌜ OrdersPut (now (book .entry)) (now (book .exit)) (ordersIn (ordersPart (now (book .entry))) (word (now (book .entry)) 7)
+        ++ waiting (leaving (orderOf o) left)) ⌝ }
 {
     if left == 0 {
         return;

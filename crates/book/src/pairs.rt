@@ -14,7 +14,8 @@ ghost use Rattle.book.specs.inner.Whole.{Chained, Alike, highWith, lowWi
 // One more than the place of an order before the one at place k with its unit and period, or 0 where there is none: the
 // orders of the unit and those of the period are walked together, so that the shorter way ends it.
 fn find_alike(book: &[u64], k: usize, own: &[u64], peers: &[u64]) -> usize
-    requires { ⌜ (Ranged (now book)) × (k < word (now book) 7) × (length (now own) ≡ 256) × (length (now peers) ≡ 256) × (Chained (now book) 1 (now own)) × (Chained (now book) 3 (now peers)) ⌝ }
+    requires { ⌜ (Ranged (now book)) × (k < word (now book) 7) × (length (now own) ≡ 256) × (length (now peers) ≡ 256) × (Chained (now book) 1 (now own))
+        × (Chained (now book) 3 (now peers)) ⌝ }
     ensures { λ r. ⌜ Alike (now (book .entry)) k r ⌝ }
 {
     let mut a = own[k] as usize;
@@ -37,7 +38,8 @@ fn find_alike(book: &[u64], k: usize, own: &[u64], peers: &[u64]) -> usize
 
 // Whether the order at place k goes the same way as the orders of its unit before it in its period, which go one way.
 fn one_way(book: &[u64], k: usize, own: &[u64], peers: &[u64]) -> bool
-    requires { ⌜ (Ranged (now book)) × (k < word (now book) 7) × (length (now own) ≡ 256) × (length (now peers) ≡ 256) × (Chained (now book) 1 (now own)) × (Chained (now book) 3 (now peers)) × (pairsBefore (now book) k ≡ true) ⌝ }
+    requires { ⌜ (Ranged (now book)) × (k < word (now book) 7) × (length (now own) ≡ 256) × (length (now peers) ≡ 256) × (Chained (now book) 1 (now own))
+        × (Chained (now book) 3 (now peers)) × (pairsBefore (now book) k ≡ true) ⌝ }
     ensures { λ r. ⌜ r ≡ all k (λ j. oneWay (orderAt (ordersPart (now (book .entry))) k) (orderAt (ordersPart (now (book .entry))) j)) ⌝ }
 {
     let t = find_alike(book, k, own, peers);
@@ -51,7 +53,8 @@ fn one_way(book: &[u64], k: usize, own: &[u64], peers: &[u64]) -> bool
 // lowest sell price.
 pub(crate) fn note_price(direction: u64, p: usize, price: u64, high: &mut [u64], low: &mut [u64])
     requires { ⌜ (p < 744) × (price ≤ 10000000) × (length (now high) ≡ 744) × (length (now low) ≡ 744) ⌝ }
-    ensures { λ _. ⌜ (now (high .exit) ≡ highWith direction p price (now (high .entry))) × (now (low .exit) ≡ lowWith direction p price (now (low .entry))) ⌝ }
+    ensures { λ _. ⌜ (now (high .exit) ≡ highWith direction p price (now (high .entry)))
+        × (now (low .exit) ≡ lowWith direction p price (now (low .entry))) ⌝ }
 {
     if direction == 1 {
         if high[p] <= price {
@@ -66,7 +69,8 @@ pub(crate) fn note_price(direction: u64, p: usize, price: u64, high: &mut [u64],
 
 // Whether the order at place k crosses one before it.
 fn crosses(book: &[u64], k: usize, high: &[u64], low: &[u64]) -> bool
-    requires { ⌜ (Ranged (now book)) × (word (now book) 2 ≤ 10000000) × (k < word (now book) 7) × (length (now high) ≡ 744) × (length (now low) ≡ 744) × (Prices (now book) k (now high) (now low)) ⌝ }
+    requires { ⌜ (Ranged (now book)) × (word (now book) 2 ≤ 10000000) × (k < word (now book) 7) × (length (now high) ≡ 744) × (length (now low) ≡ 744)
+        × (Prices (now book) k (now high) (now low)) ⌝ }
     ensures { λ r. ⌜ r ≡ not (all k (crossless (now (book .entry)) k)) ⌝ }
 {
     let at = 240 + 6 * k;
@@ -86,7 +90,8 @@ fn crosses(book: &[u64], k: usize, high: &[u64], low: &[u64]) -> bool
 
 // Whether the order at place k crosses none before it; its price is then entered.
 fn stands_apart(book: &[u64], k: usize, high: &mut [u64], low: &mut [u64]) -> bool
-    requires { ⌜ (Ranged (now book)) × (word (now book) 2 ≤ 10000000) × (k < word (now book) 7) × (length (now high) ≡ 744) × (length (now low) ≡ 744) × (Prices (now book) k (now high) (now low)) ⌝ }
+    requires { ⌜ (Ranged (now book)) × (word (now book) 2 ≤ 10000000) × (k < word (now book) 7) × (length (now high) ≡ 744) × (length (now low) ≡ 744)
+        × (Prices (now book) k (now high) (now low)) ⌝ }
     ensures { λ r. ⌜ Priced (now (book .entry)) k r (now (high .exit)) (now (low .exit)) ⌝ }
 {
     if crosses(book, k, high, low) {
@@ -107,7 +112,9 @@ fn order_stands(
     high: &mut [u64],
     low: &mut [u64],
 ) -> bool
-    requires { ⌜ (Ranged (now book)) × (word (now book) 2 ≤ 10000000) × (k < word (now book) 7) × (length (now own) ≡ 256) × (length (now peers) ≡ 256) × (Chained (now book) 1 (now own)) × (Chained (now book) 3 (now peers)) × (pairsBefore (now book) k ≡ true) × (length (now high) ≡ 744) × (length (now low) ≡ 744) × (word (now book) 3 ≡ 1 → Prices (now book) k (now high) (now low)) ⌝ }
+    requires { ⌜ (Ranged (now book)) × (word (now book) 2 ≤ 10000000) × (k < word (now book) 7) × (length (now own) ≡ 256) × (length (now peers) ≡ 256)
+        × (Chained (now book) 1 (now own)) × (Chained (now book) 3 (now peers)) × (pairsBefore (now book) k ≡ true) × (length (now high) ≡ 744)
+        × (length (now low) ≡ 744) × (word (now book) 3 ≡ 1 → Prices (now book) k (now high) (now low)) ⌝ }
     ensures { λ r. ⌜ OrderStands (now (book .entry)) k r (now (high .exit)) (now (low .exit)) ⌝ }
 {
     if !one_way(book, k, own, peers) {
@@ -121,7 +128,8 @@ fn order_stands(
 
 // Whether the orders stand together, linked by unit and by period.
 fn all_stand(book: &[u64], own: &[u64], peers: &[u64]) -> bool
-    requires { ⌜ (Ranged (now book)) × (word (now book) 2 ≤ 10000000) × (length (now own) ≡ 256) × (length (now peers) ≡ 256) × (Chained (now book) 1 (now own)) × (Chained (now book) 3 (now peers)) ⌝ }
+    requires { ⌜ (Ranged (now book)) × (word (now book) 2 ≤ 10000000) × (length (now own) ≡ 256) × (length (now peers) ≡ 256)
+        × (Chained (now book) 1 (now own)) × (Chained (now book) 3 (now peers)) ⌝ }
     ensures { λ r. ⌜ r ≡ pairsFit (word (now (book .entry)) 3) (decode (now (book .entry)) .orders) ⌝ }
 {
     let mut high = [0u64; 744];

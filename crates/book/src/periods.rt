@@ -78,7 +78,8 @@ fn clear_met(
     high: &[u64],
     low: &[u64],
 ) -> Passed
-    requires { ⌜ (Clearable (now orders) (now rows) n count) × (period < 744) × (length (now high) ≡ 744) × (length (now low) ≡ 744) × (Each (PricedBy (now high) (now low)) (ordersIn (now orders) n)) ⌝ }
+    requires { ⌜ (Clearable (now orders) (now rows) n count) × (period < 744) × (length (now high) ≡ 744) × (length (now low) ≡ 744)
+        × (Each (PricedBy (now high) (now low)) (ordersIn (now orders) n)) ⌝ }
     ensures { λ r. ⌜ Stepped (now (orders .entry)) (now (rows .entry)) n period count (r .count) (r .standing) (now (orders .exit)) (now (rows .exit)) ⌝ }
 {
     if high[period as usize] <= low[period as usize] {

@@ -13,7 +13,8 @@ ghost use Rattle.book.specs.inner.Whole.{Linked, orderRaises, orderLower
 // Links the orders by a field of theirs: `last` gets one more than the place of the last order of each value, `before`
 // one more than the place of the order before each with its value; 0 is none.
 pub(crate) fn link_orders(book: &[u64], field: usize, last: &mut [u64], before: &mut [u64])
-    requires { ⌜ (Ranged (now book)) × (field < 6) × (length (now before) ≡ 256) × (Below 0 (now last)) × ((k : ℕ) → k < word (now book) 7 → word (now book) (240 + 6 * k + field) < length (now last)) ⌝ }
+    requires { ⌜ (Ranged (now book)) × (field < 6) × (length (now before) ≡ 256) × (Below 0 (now last))
+        × ((k : ℕ) → k < word (now book) 7 → word (now book) (240 + 6 * k + field) < length (now last)) ⌝ }
     ensures { λ _. ⌜ Linked (now (book .entry)) field (now (last .exit)) (now (before .exit)) ⌝ }
 {
     let n = book[7] as usize;
@@ -42,8 +43,10 @@ pub(crate) fn add_period_offers(book: &[u64], p: usize, raising: &mut [u64])
 
 // What the order at place i, of period p, has open goes to its unit.
 fn add_period_order(book: &[u64], p: usize, i: usize, raising: &mut [u64], lowering: &mut [u64])
-    requires { ⌜ (Ranged (now book)) × (i < word (now book) 7) × (word (now book) (240 + 6 * i + 3) ≡ p) × (length (now raising) ≡ 64) × (length (now lowering) ≡ 64) × (Below 2000000000000 (now raising)) × (Below 2000000000000 (now lowering)) ⌝ }
-    ensures { λ _. ⌜ BothAdded (now (raising .entry)) (now (lowering .entry)) (now (raising .exit)) (now (lowering .exit)) (orderRaises (now (book .entry)) i p) (orderLowers (now (book .entry)) i p) mostEnergy ⌝ }
+    requires { ⌜ (Ranged (now book)) × (i < word (now book) 7) × (word (now book) (240 + 6 * i + 3) ≡ p) × (length (now raising) ≡ 64)
+        × (length (now lowering) ≡ 64) × (Below 2000000000000 (now raising)) × (Below 2000000000000 (now lowering)) ⌝ }
+    ensures { λ _. ⌜ BothAdded (now (raising .entry)) (now (lowering .entry)) (now (raising .exit)) (now (lowering .exit))
+        (orderRaises (now (book .entry)) i p) (orderLowers (now (book .entry)) i p) mostEnergy ⌝ }
 {
     let at = 240 + 6 * i;
     let unit = book[at + 1];
@@ -65,8 +68,11 @@ pub(crate) fn add_period_orders(
     raising: &mut [u64],
     lowering: &mut [u64],
 )
-    requires { ⌜ (Ranged (now book)) × (p < periods (word (now book) 0)) × (length (now last) ≡ 744) × (length (now before) ≡ 256) × (Linked (now book) 3 (now last) (now before)) × (length (now raising) ≡ 64) × (length (now lowering) ≡ 64) × (Below 40000000000 (now raising)) × (Below 40000000000 (now lowering)) ⌝ }
-    ensures { λ _. ⌜ BothAdded (now (raising .entry)) (now (lowering .entry)) (now (raising .exit)) (now (lowering .exit)) (ordersRaise (now (book .entry)) p) (ordersLower (now (book .entry)) p) 1024000000000 ⌝ }
+    requires { ⌜ (Ranged (now book)) × (p < periods (word (now book) 0)) × (length (now last) ≡ 744) × (length (now before) ≡ 256)
+        × (Linked (now book) 3 (now last) (now before)) × (length (now raising) ≡ 64) × (length (now lowering) ≡ 64) × (Below 40000000000 (now raising))
+        × (Below 40000000000 (now lowering)) ⌝ }
+    ensures { λ _. ⌜ BothAdded (now (raising .entry)) (now (lowering .entry)) (now (raising .exit)) (now (lowering .exit))
+        (ordersRaise (now (book .entry)) p) (ordersLower (now (book .entry)) p) 1024000000000 ⌝ }
 {
     let mut at = last[p] as usize;
     while 0 < at {

@@ -25,7 +25,21 @@ ghost use Rattle.book.specs.Refusals.{firstOf};
 ghost use Rattle.book.specs.Layout.{word, amountAt, offerAt, decode};
 ghost use Rattle.book.specs.inner.Readable.{Readable};
 ghost use Rattle.book.specs.Contract.{soundIn};
-ghost use Rattle.book.specs.inner.RowsIn.{Found, takes, partyChecks, TakeFit, TakeChecked, RowsPut, AmountsLess, PartsThere, OfferLessened, PartTaken, WholeTaken, PartsLent, TakeMade};
+ghost use Rattle.book.specs.inner.RowsIn.{
+  Found,
+  takes,
+  partyChecks,
+  TakeFit,
+  TakeChecked,
+  RowsPut,
+  AmountsLess,
+  PartsThere,
+  OfferLessened,
+  PartTaken,
+  WholeTaken,
+  PartsLent,
+  TakeMade,
+};
 
 // The place of the open offer of a number, or 8.
 pub(crate) fn find_offer(book: &[u64], number: u64) -> usize
@@ -45,7 +59,8 @@ pub(crate) fn find_offer(book: &[u64], number: u64) -> usize
 
 // Whether a unit can take a quantity of the offer at place j.
 fn can_take(book: &[u64], j: usize, unit: u64, quantity: u64) -> bool
-    requires { ⌜ (Readable (now book)) × (j < 8) × (1 ≤ word (now book) (201 + 5 * j)) × (word (now book) (201 + 5 * j) ≤ word (now book) 5) × (1 ≤ unit) × (unit ≤ word (now book) 5) × (quantity ≤ mostEnergy) ⌝ }
+    requires { ⌜ (Readable (now book)) × (j < 8) × (1 ≤ word (now book) (201 + 5 * j)) × (word (now book) (201 + 5 * j) ≤ word (now book) 5) × (1 ≤ unit)
+        × (unit ≤ word (now book) 5) × (quantity ≤ mostEnergy) ⌝ }
     ensures { λ r. ⌜ r ≡ takes (now (book .entry)) j unit quantity ⌝ }
 {
     let whole = offer_total(book, j);
@@ -103,7 +118,8 @@ fn take_party(book: &[u64], unit: u64, number: u64, quantity: u64, lent: usize) 
 // The amounts of the offer at place j, by period.
 fn gather(book: &[u64], j: usize, amounts: &mut [u64])
     requires { ⌜ (Readable (now book)) × (j < 8) × (length (now amounts) ≡ 744) ⌝ }
-    ensures { λ _. ⌜ now (amounts .exit) ≡ table (periods (word (now (book .entry)) 0)) (amountAt (now (book .entry)) j) ++ drop (periods (word (now (book .entry)) 0)) (now (amounts .entry)) ⌝ }
+    ensures { λ _. ⌜ now (amounts .exit) ≡ table (periods (word (now (book .entry)) 0)) (amountAt (now (book .entry)) j)
+        ++ drop (periods (word (now (book .entry)) 0)) (now (amounts .entry)) ⌝ }
 {
     let top = 24 * (book[0] as usize);
     let mut p: usize = 0;
@@ -115,7 +131,8 @@ fn gather(book: &[u64], j: usize, amounts: &mut [u64])
 
 // The fit of a take from the offer at place j; its parts go to the lent memory.
 fn take_fit(book: &[u64], unit: u64, j: usize, quantity: u64, parts: &mut [u64]) -> u64
-    requires { ⌜ (soundIn (now book) ≡ true) × (j < word (now book) 6) × (1 ≤ unit) × (unit ≤ word (now book) 5) × (1 ≤ quantity) × (quantity ≤ total (table (periods (word (now book) 0)) (amountAt (now book) j))) × (length (now parts) ≡ 744) ⌝ }
+    requires { ⌜ (soundIn (now book) ≡ true) × (j < word (now book) 6) × (1 ≤ unit) × (unit ≤ word (now book) 5) × (1 ≤ quantity)
+        × (quantity ≤ total (table (periods (word (now book) 0)) (amountAt (now book) j))) × (length (now parts) ≡ 744) ⌝ }
     ensures { λ r. ⌜ TakeFit (now (book .entry)) unit j quantity r (now (parts .entry)) (now (parts .exit)) ⌝ }
 {
     let top = 24 * (book[0] as usize);
@@ -201,7 +218,8 @@ fn take_off(book: &mut [u64], j: usize, parts: &[u64])
 // The parts are taken off the offer at place j, which stays.
 fn lessen_offer(book: &mut [u64], j: usize, parts: &[u64])
     requires { ⌜ (Readable (now book)) × (j < word (now book) 6) × (744 ≤ length (now parts)) × (PartsThere (now book) j (now parts)) ⌝ }
-    ensures { λ _. ⌜ ((ps : List ℕ) → ((p : ℕ) → p < 24 * word (now (book .entry)) 0 → getD (now (parts .entry)) p 0 ≡ getD ps p 0) → OfferLessened (now (book .entry)) (now (book .exit)) j ps) ⌝ }
+    ensures { λ _. ⌜ ((ps : List ℕ) → ((p : ℕ) → p < 24 * word (now (book .entry)) 0 → getD (now (parts .entry)) p 0 ≡ getD ps p 0)
+        → OfferLessened (now (book .entry)) (now (book .exit)) j ps) ⌝ }
 {
     take_off(book, j, parts);
     book[204 + 5 * j] = 1;
@@ -219,8 +237,11 @@ fn way_of(partner: u64) -> u64
 
 // The rows of a take by a unit from the offer at place j.
 fn take_rows(book: &[u64], unit: u64, j: usize, parts: &[u64], rows: &mut [u64]) -> usize
-    requires { ⌜ (Readable (now book)) × (j < 8) × (1 ≤ word (now book) (201 + 5 * j)) × (word (now book) (201 + 5 * j) ≤ word (now book) 5) × (744 ≤ length (now parts)) × (4464 ≤ length (now rows)) ⌝ }
-    ensures { λ r. ⌜ RowsPut (now (rows .entry)) (now (rows .exit)) r (takeRows (decode (now (book .entry))) (offerAt (now (book .entry)) (word (now (book .entry)) 0) j) unit (take (24 * word (now (book .entry)) 0) (now (parts .entry)))) ⌝ }
+    requires { ⌜ (Readable (now book)) × (j < 8) × (1 ≤ word (now book) (201 + 5 * j)) × (word (now book) (201 + 5 * j) ≤ word (now book) 5)
+        × (744 ≤ length (now parts)) × (4464 ≤ length (now rows)) ⌝ }
+    ensures { λ r. ⌜ RowsPut (now (rows .entry)) (now (rows .exit)) r
+        (takeRows (decode (now (book .entry))) (offerAt (now (book .entry)) (word (now (book .entry)) 0) j) unit
+        (take (24 * word (now (book .entry)) 0) (now (parts .entry)))) ⌝ }
 {
     let top = 24 * (book[0] as usize);
     let owner = book[201 + 5 * j];
@@ -234,7 +255,8 @@ fn take_rows(book: &[u64], unit: u64, j: usize, parts: &[u64], rows: &mut [u64])
 
 // A take of parts from the offer at place j, of which some is left.
 fn take_part(book: &mut [u64], unit: u64, j: usize, parts: &[u64], rows: &mut [u64]) -> usize
-    requires { ⌜ (soundIn (now book) ≡ true) × (j < word (now book) 6) × (1 ≤ unit) × (unit ≤ word (now book) 5) × (744 ≤ length (now parts)) × (4464 ≤ length (now rows)) × (PartsThere (now book) j (now parts)) ⌝ }
+    requires { ⌜ (soundIn (now book) ≡ true) × (j < word (now book) 6) × (1 ≤ unit) × (unit ≤ word (now book) 5) × (744 ≤ length (now parts))
+        × (4464 ≤ length (now rows)) × (PartsThere (now book) j (now parts)) ⌝ }
     ensures { λ r. ⌜ PartTaken (now (book .entry)) (now (book .exit)) unit j (now (parts .entry)) (now (rows .entry)) (now (rows .exit)) r ⌝ }
 {
     let count = take_rows(book, unit, j, parts, rows);
@@ -252,7 +274,8 @@ fn take_whole(
     parts: &[u64],
     rows: &mut [u64],
 ) -> usize
-    requires { ⌜ (soundIn (now book) ≡ true) × (j < word (now book) 6) × (1 ≤ unit) × (unit ≤ word (now book) 5) × (744 ≤ length (now parts)) × (4464 ≤ length (now rows)) × (PartsThere (now book) j (now parts)) × (offerOpen (decode (now book)) number ≡ true) ⌝ }
+    requires { ⌜ (soundIn (now book) ≡ true) × (j < word (now book) 6) × (1 ≤ unit) × (unit ≤ word (now book) 5) × (744 ≤ length (now parts))
+        × (4464 ≤ length (now rows)) × (PartsThere (now book) j (now parts)) × (offerOpen (decode (now book)) number ≡ true) ⌝ }
     ensures { λ r. ⌜ WholeTaken (now (book .entry)) (now (book .exit)) unit number j (now (parts .entry)) (now (rows .entry)) (now (rows .exit)) r ⌝ }
 {
     let count = take_rows(book, unit, j, parts, rows);
@@ -270,7 +293,8 @@ pub(crate) fn take_effect(
     parts: &[u64],
     rows: &mut [u64],
 ) -> usize
-    requires { ⌜ (soundIn (now book) ≡ true) × (0 ≡ firstOf (takeChecks (decode (now book)) unit number quantity (length (now rows)))) × (PartsLent (now book) number quantity (now parts)) ⌝ }
+    requires { ⌜ (soundIn (now book) ≡ true) × (0 ≡ firstOf (takeChecks (decode (now book)) unit number quantity (length (now rows))))
+        × (PartsLent (now book) number quantity (now parts)) ⌝ }
     ensures { λ r. ⌜ TakeMade (now (book .entry)) (now (book .exit)) unit number quantity (now (rows .entry)) (now (rows .exit)) r ⌝ }
 {
     let j = find_offer(book, number);

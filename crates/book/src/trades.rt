@@ -61,7 +61,8 @@ pub(crate) fn book_trade(
     quantity: u64,
     unit: u64,
 )
-    requires { ⌜ (Readable (now book)) × (period < 24 * word (now book) 0) × (1 ≤ unit) × (unit ≤ word (now book) 5) × (direction ≤ 1) × (quantity ≤ mostEnergy) × (SmallAt (now book) (unit - 1) period 2000000000000000000) ⌝ }
+    requires { ⌜ (Readable (now book)) × (period < 24 * word (now book) 0) × (1 ≤ unit) × (unit ≤ word (now book) 5) × (direction ≤ 1)
+        × (quantity ≤ mostEnergy) × (SmallAt (now book) (unit - 1) period 2000000000000000000) ⌝ }
     ensures { λ _. ⌜ Traded (now (book .entry)) (now (book .exit)) way direction period quantity unit ⌝ }
 {
     let k = unit as usize - 1;
@@ -79,7 +80,8 @@ pub(crate) fn book_trade(
 
 // The row at place i.
 fn book_row(book: &mut [u64], rows: &[u64], i: usize)
-    requires { ⌜ (Readable (now book)) × (6 * i + 6 ≤ length (now rows)) × (i < 744) × (RowFits (now book) (rowAt (now rows) i)) × (Small (now book) 1900000000000000000) ⌝ }
+    requires { ⌜ (Readable (now book)) × (6 * i + 6 ≤ length (now rows)) × (i < 744) × (RowFits (now book) (rowAt (now rows) i))
+        × (Small (now book) 1900000000000000000) ⌝ }
     ensures { λ _. ⌜ RowTraded (now (book .entry)) (now (book .exit)) (rowAt (now (rows .entry)) i) ⌝ }
 {
     let way = rows[6 * i];
@@ -93,7 +95,8 @@ fn book_row(book: &mut [u64], rows: &[u64], i: usize)
 
 // The first count rows.
 pub(crate) fn book_rows(book: &mut [u64], rows: &[u64], count: usize)
-    requires { ⌜ (Readable (now book)) × (6 * count ≤ length (now rows)) × (count ≤ 744) × (RowsFit (now book) (now rows) count) × (Small (now book) smallFigures) ⌝ }
+    requires { ⌜ (Readable (now book)) × (6 * count ≤ length (now rows)) × (count ≤ 744) × (RowsFit (now book) (now rows) count)
+        × (Small (now book) smallFigures) ⌝ }
     ensures { λ _. ⌜ RowsTraded (now (book .entry)) (now (book .exit)) (now (rows .entry)) count ⌝ }
 {
     let mut i: usize = 0;

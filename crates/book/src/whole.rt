@@ -13,11 +13,27 @@ ghost use Rattle.limits.specs.Units.{periods};
 ghost use Rattle.book.specs.Layout.{word, decode};
 ghost use Rattle.book.specs.inner.Readable.{Ranged, unitsWhole};
 ghost use Rattle.book.specs.inner.Fitting.{Below};
-ghost use Rattle.book.specs.inner.Whole.{Linked, openUp, openDown, CellDone, CellsDone, Waiting, NoneWaits, Settled, Settles, OffersSettled, OrdersSettled, OpenAdded, PeriodsDone, sumsHold};
+ghost use Rattle.book.specs.inner.Whole.{
+  Linked,
+  openUp,
+  openDown,
+  CellDone,
+  CellsDone,
+  Waiting,
+  NoneWaits,
+  Settled,
+  Settles,
+  OffersSettled,
+  OrdersSettled,
+  OpenAdded,
+  PeriodsDone,
+  sumsHold,
+};
 
 // The figures of the unit at place k in period p: whether they pass with nothing open, and if so, they go to the sums.
 fn add_cell(book: &[u64], p: usize, k: usize, whole: &mut [u64], volume: &mut [u64]) -> bool
-    requires { ⌜ (Ranged (now book)) × (p < periods (word (now book) 0)) × (k < word (now book) 5) × (length (now whole) ≡ 64) × (length (now volume) ≡ 64) × (Below 4000000000 (now whole)) × (Below 4000000000000000 (now volume)) ⌝ }
+    requires { ⌜ (Ranged (now book)) × (p < periods (word (now book) 0)) × (k < word (now book) 5) × (length (now whole) ≡ 64) × (length (now volume) ≡ 64)
+        × (Below 4000000000 (now whole)) × (Below 4000000000000000 (now volume)) ⌝ }
     ensures { λ r. ⌜ CellDone (now (book .entry)) p k (now (whole .entry)) (now (volume .entry)) r (now (whole .exit)) (now (volume .exit)) ⌝ }
 {
     if 0 < period_fit(book, k, p, 0, 0) {
@@ -34,8 +50,10 @@ fn add_cell(book: &[u64], p: usize, k: usize, whole: &mut [u64], volume: &mut [u
 
 // The same of all units.
 fn add_idle(book: &[u64], p: usize, whole: &mut [u64], volume: &mut [u64]) -> bool
-    requires { ⌜ (Ranged (now book)) × (p < periods (word (now book) 0)) × (length (now whole) ≡ 64) × (length (now volume) ≡ 64) × (Below 3800000000 (now whole)) × (Below 3800000000000000 (now volume)) ⌝ }
-    ensures { λ r. ⌜ CellsDone (now (book .entry)) p (λ k. 0) (λ k. 0) (now (whole .entry)) (now (volume .entry)) r (now (whole .exit)) (now (volume .exit)) ⌝ }
+    requires { ⌜ (Ranged (now book)) × (p < periods (word (now book) 0)) × (length (now whole) ≡ 64) × (length (now volume) ≡ 64)
+        × (Below 3800000000 (now whole)) × (Below 3800000000000000 (now volume)) ⌝ }
+    ensures { λ r. ⌜ CellsDone (now (book .entry)) p (λ k. 0) (λ k. 0) (now (whole .entry)) (now (volume .entry)) r (now (whole .exit))
+        (now (volume .exit)) ⌝ }
 {
     let n = book[5] as usize;
     let mut k: usize = 0;
@@ -58,8 +76,10 @@ fn settle(
     whole: &mut [u64],
     volume: &mut [u64],
 ) -> bool
-    requires { ⌜ (Ranged (now book)) × (p < periods (word (now book) 0)) × (k < word (now book) 5) × (Waiting (now raising) (now lowering) (now whole) (now volume)) ⌝ }
-    ensures { λ r. ⌜ Settled (now (book .entry)) p k (now (raising .entry)) (now (lowering .entry)) (now (whole .entry)) (now (volume .entry)) r (now (raising .exit)) (now (lowering .exit)) (now (whole .exit)) (now (volume .exit)) ⌝ }
+    requires { ⌜ (Ranged (now book)) × (p < periods (word (now book) 0)) × (k < word (now book) 5)
+        × (Waiting (now raising) (now lowering) (now whole) (now volume)) ⌝ }
+    ensures { λ r. ⌜ Settled (now (book .entry)) p k (now (raising .entry)) (now (lowering .entry)) (now (whole .entry)) (now (volume .entry)) r
+        (now (raising .exit)) (now (lowering .exit)) (now (whole .exit)) (now (volume .exit)) ⌝ }
 {
     let x = raising[k];
     let y = lowering[k];
@@ -83,7 +103,9 @@ fn settle_offers(
     volume: &mut [u64],
 ) -> bool
     requires { ⌜ (Ranged (now book)) × (p < periods (word (now book) 0)) × (Waiting (now raising) (now lowering) (now whole) (now volume)) ⌝ }
-    ensures { λ r. ⌜ Settles (now (book .entry)) p (now (raising .entry)) (now (lowering .entry)) (now (whole .entry)) (now (volume .entry)) r (now (raising .exit)) (now (lowering .exit)) (now (whole .exit)) (now (volume .exit)) × (r ≡ true → OffersSettled (now (book .entry)) (word (now (book .entry)) 6) (now (raising .exit)) (now (lowering .exit))) ⌝ }
+    ensures { λ r. ⌜ Settles (now (book .entry)) p (now (raising .entry)) (now (lowering .entry)) (now (whole .entry)) (now (volume .entry)) r
+        (now (raising .exit)) (now (lowering .exit)) (now (whole .exit)) (now (volume .exit))
+        × (r ≡ true → OffersSettled (now (book .entry)) (word (now (book .entry)) 6) (now (raising .exit)) (now (lowering .exit))) ⌝ }
 {
     let n = book[6] as usize;
     let mut j: usize = 0;
@@ -108,8 +130,11 @@ fn settle_orders(
     whole: &mut [u64],
     volume: &mut [u64],
 ) -> bool
-    requires { ⌜ (Ranged (now book)) × (p < periods (word (now book) 0)) × (length (now last) ≡ 744) × (length (now before) ≡ 256) × (Linked (now book) 3 (now last) (now before)) × (Waiting (now raising) (now lowering) (now whole) (now volume)) ⌝ }
-    ensures { λ r. ⌜ Settles (now (book .entry)) p (now (raising .entry)) (now (lowering .entry)) (now (whole .entry)) (now (volume .entry)) r (now (raising .exit)) (now (lowering .exit)) (now (whole .exit)) (now (volume .exit)) × (r ≡ true → OrdersSettled (now (book .entry)) p 0 (now (raising .exit)) (now (lowering .exit))) ⌝ }
+    requires { ⌜ (Ranged (now book)) × (p < periods (word (now book) 0)) × (length (now last) ≡ 744) × (length (now before) ≡ 256)
+        × (Linked (now book) 3 (now last) (now before)) × (Waiting (now raising) (now lowering) (now whole) (now volume)) ⌝ }
+    ensures { λ r. ⌜ Settles (now (book .entry)) p (now (raising .entry)) (now (lowering .entry)) (now (whole .entry)) (now (volume .entry)) r
+        (now (raising .exit)) (now (lowering .exit)) (now (whole .exit)) (now (volume .exit))
+        × (r ≡ true → OrdersSettled (now (book .entry)) p 0 (now (raising .exit)) (now (lowering .exit))) ⌝ }
 {
     let mut at = last[p] as usize;
     while 0 < at {
@@ -133,8 +158,11 @@ fn add_open(
     whole: &mut [u64],
     volume: &mut [u64],
 ) -> bool
-    requires { ⌜ (Ranged (now book)) × (p < periods (word (now book) 0)) × (length (now last) ≡ 744) × (length (now before) ≡ 256) × (Linked (now book) 3 (now last) (now before)) × (NoneWaits (now raising) (now lowering)) × (length (now whole) ≡ 64) × (length (now volume) ≡ 64) × (Below 4000000000 (now whole)) × (Below 4000000000000000 (now volume)) ⌝ }
-    ensures { λ r. ⌜ OpenAdded (now (book .entry)) p (now (whole .entry)) (now (volume .entry)) r (now (whole .exit)) (now (volume .exit)) × (r ≡ true → NoneWaits (now (raising .exit)) (now (lowering .exit))) ⌝ }
+    requires { ⌜ (Ranged (now book)) × (p < periods (word (now book) 0)) × (length (now last) ≡ 744) × (length (now before) ≡ 256)
+        × (Linked (now book) 3 (now last) (now before)) × (NoneWaits (now raising) (now lowering)) × (length (now whole) ≡ 64) × (length (now volume) ≡ 64)
+        × (Below 4000000000 (now whole)) × (Below 4000000000000000 (now volume)) ⌝ }
+    ensures { λ r. ⌜ OpenAdded (now (book .entry)) p (now (whole .entry)) (now (volume .entry)) r (now (whole .exit)) (now (volume .exit))
+        × (r ≡ true → NoneWaits (now (raising .exit)) (now (lowering .exit))) ⌝ }
 {
     add_period_offers(book, p, raising);
     add_period_orders(book, p, last, before, raising, lowering);
@@ -155,8 +183,11 @@ fn add_period(
     whole: &mut [u64],
     volume: &mut [u64],
 ) -> bool
-    requires { ⌜ (Ranged (now book)) × (p < periods (word (now book) 0)) × (length (now last) ≡ 744) × (length (now before) ≡ 256) × (Linked (now book) 3 (now last) (now before)) × (NoneWaits (now raising) (now lowering)) × (length (now whole) ≡ 64) × (length (now volume) ≡ 64) × (Below 3800000000 (now whole)) × (Below 3800000000000000 (now volume)) ⌝ }
-    ensures { λ r. ⌜ CellsDone (now (book .entry)) p (openUp (now (book .entry)) p) (openDown (now (book .entry)) p) (now (whole .entry)) (now (volume .entry)) r (now (whole .exit)) (now (volume .exit)) × (r ≡ true → NoneWaits (now (raising .exit)) (now (lowering .exit))) ⌝ }
+    requires { ⌜ (Ranged (now book)) × (p < periods (word (now book) 0)) × (length (now last) ≡ 744) × (length (now before) ≡ 256)
+        × (Linked (now book) 3 (now last) (now before)) × (NoneWaits (now raising) (now lowering)) × (length (now whole) ≡ 64) × (length (now volume) ≡ 64)
+        × (Below 3800000000 (now whole)) × (Below 3800000000000000 (now volume)) ⌝ }
+    ensures { λ r. ⌜ CellsDone (now (book .entry)) p (openUp (now (book .entry)) p) (openDown (now (book .entry)) p) (now (whole .entry))
+        (now (volume .entry)) r (now (whole .exit)) (now (volume .exit)) × (r ≡ true → NoneWaits (now (raising .exit)) (now (lowering .exit))) ⌝ }
 {
     if !add_idle(book, p, whole, volume) {
         return false;
@@ -175,8 +206,10 @@ fn add_periods(
     whole: &mut [u64],
     volume: &mut [u64],
 ) -> bool
-    requires { ⌜ (Ranged (now book)) × (length (now last) ≡ 744) × (length (now before) ≡ 256) × (Linked (now book) 3 (now last) (now before)) × (length (now whole) ≡ 64) × (length (now volume) ≡ 64) × (Below 0 (now whole)) × (Below 0 (now volume)) ⌝ }
-    ensures { λ r. ⌜ PeriodsDone (now (book .entry)) (periods (word (now (book .entry)) 0)) (now (whole .entry)) (now (volume .entry)) r (now (whole .exit)) (now (volume .exit)) ⌝ }
+    requires { ⌜ (Ranged (now book)) × (length (now last) ≡ 744) × (length (now before) ≡ 256) × (Linked (now book) 3 (now last) (now before))
+        × (length (now whole) ≡ 64) × (length (now volume) ≡ 64) × (Below 0 (now whole)) × (Below 0 (now volume)) ⌝ }
+    ensures { λ r. ⌜ PeriodsDone (now (book .entry)) (periods (word (now (book .entry)) 0)) (now (whole .entry)) (now (volume .entry)) r (now (whole .exit))
+        (now (volume .exit)) ⌝ }
 {
     let top = 24 * (book[0] as usize);
     let mut raising = [0u64; 64];

@@ -16,7 +16,8 @@ ghost use Rattle.book.specs.Withdraw.{withdrawChecks};
 // The place of the open offer of a number, or how many stand open.
 pub(crate) fn offer_place(book: &[u64], number: u64) -> usize
     requires { ⌜ Readable (now book) ⌝ }
-    ensures { λ r. ⌜ (r ≤ word (now (book .entry)) 6) × ((j : ℕ) → j < r → word (now (book .entry)) (200 + 5 * j) ≡ number → ⊥) × (r < word (now (book .entry)) 6 → word (now (book .entry)) (200 + 5 * r) ≡ number) ⌝ }
+    ensures { λ r. ⌜ (r ≤ word (now (book .entry)) 6) × ((j : ℕ) → j < r → word (now (book .entry)) (200 + 5 * j) ≡ number → ⊥)
+        × (r < word (now (book .entry)) 6 → word (now (book .entry)) (200 + 5 * r) ≡ number) ⌝ }
 {
     let n = book[6] as usize;
     let mut j: usize = 0;
@@ -57,7 +58,10 @@ pub(crate) fn withdraw_checks(book: &[u64], unit: u64, number: u64) -> u64
 // The words from one place up to another become those a step behind them.
 fn shift(book: &mut [u64], start: usize, end: usize, step: usize)
     requires { ⌜ (start ≤ end) × (end + step ≤ length (now book)) ⌝ }
-    ensures { λ _. ⌜ ((i : ℕ) → start ≤ i → i < end → word (now (book .exit)) i ≡ word (now (book .entry)) (i + step)) × ((i : ℕ) → i < start → word (now (book .exit)) i ≡ word (now (book .entry)) i) × ((i : ℕ) → end ≤ i → word (now (book .exit)) i ≡ word (now (book .entry)) i) × ((i : ℕ) → end ≤ i → drop i (now (book .exit)) ≡ drop i (now (book .entry))) ⌝ }
+    ensures { λ _. ⌜ ((i : ℕ) → start ≤ i → i < end → word (now (book .exit)) i ≡ word (now (book .entry)) (i + step))
+        × ((i : ℕ) → i < start → word (now (book .exit)) i ≡ word (now (book .entry)) i)
+        × ((i : ℕ) → end ≤ i → word (now (book .exit)) i ≡ word (now (book .entry)) i)
+        × ((i : ℕ) → end ≤ i → drop i (now (book .exit)) ≡ drop i (now (book .entry))) ⌝ }
 {
     let mut at = start;
     while at < end {
@@ -69,7 +73,11 @@ fn shift(book: &mut [u64], start: usize, end: usize, step: usize)
 // In each period the amounts behind place j, of n, move up by one place.
 fn shift_amounts(book: &mut [u64], n: usize, j: usize)
     requires { ⌜ (Readable (now book)) × (j < n) × (n ≤ 8) ⌝ }
-    ensures { λ _. ⌜ ((p k : ℕ) → p < 24 * word (now (book .entry)) 0 → j ≤ k → k < n - 1 → word (now (book .exit)) (2096 + 328 * p + k) ≡ word (now (book .entry)) (2096 + 328 * p + (k + 1))) × ((i : ℕ) → ((p k : ℕ) → p < 24 * word (now (book .entry)) 0 → j ≤ k → k < n - 1 → i ≡ 2096 + 328 * p + k → ⊥) → word (now (book .exit)) i ≡ word (now (book .entry)) i) × (drop (bookWords (word (now (book .entry)) 0)) (now (book .exit)) ≡ drop (bookWords (word (now (book .entry)) 0)) (now (book .entry))) ⌝ }
+    ensures { λ _. ⌜ ((p k : ℕ) → p < 24 * word (now (book .entry)) 0 → j ≤ k → k < n - 1 → word (now (book .exit)) (2096 + 328 * p + k)
+        ≡ word (now (book .entry)) (2096 + 328 * p + (k + 1)))
+        × ((i : ℕ) → ((p k : ℕ) → p < 24 * word (now (book .entry)) 0 → j ≤ k → k < n - 1 → i ≡ 2096 + 328 * p + k → ⊥) → word (now (book .exit)) i
+        ≡ word (now (book .entry)) i) × (drop (bookWords (word (now (book .entry)) 0)) (now (book .exit))
+        ≡ drop (bookWords (word (now (book .entry)) 0)) (now (book .entry))) ⌝ }
 {
     let top = 24 * (book[0] as usize);
     let mut p: usize = 0;
@@ -82,7 +90,9 @@ fn shift_amounts(book: &mut [u64], n: usize, j: usize)
 // The open offer of a number goes.
 pub(crate) fn withdraw_effect(book: &mut [u64], number: u64)
     requires { ⌜ (soundIn (now book) ≡ true) × (offerOpen (decode (now book)) number ≡ true) ⌝ }
-    ensures { λ _. ⌜ (decode (now (book .exit)) ≡ withOffers (decode (now (book .entry))) (keep (λ o. not (eqb (o .number) number)) (decode (now (book .entry)) .offers))) × (drop (bookWords (word (now (book .entry)) 0)) (now (book .exit)) ≡ drop (bookWords (word (now (book .entry)) 0)) (now (book .entry))) ⌝ }
+    ensures { λ _. ⌜ (decode (now (book .exit)) ≡ withOffers (decode (now (book .entry)))
+        (keep (λ o. not (eqb (o .number) number)) (decode (now (book .entry)) .offers)))
+        × (drop (bookWords (word (now (book .entry)) 0)) (now (book .exit)) ≡ drop (bookWords (word (now (book .entry)) 0)) (now (book .entry))) ⌝ }
 {
     let n = book[6] as usize;
     let j = offer_place(book, number);

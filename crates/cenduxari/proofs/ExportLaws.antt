@@ -18,7 +18,8 @@ module _ (m rows : List ℕ) (c : Call) (r : ℕ) (out m′ rows′ : List ℕ) 
 pub settled-refusal : (m : List ℕ) (c : Call) (r : ℕ) (m′ : List ℕ) → Settled m c r m′ → r ≡ outcomeOn m c .refusal
 settled-refusal m c r m′ k = k .refusal ∙ ap (λ (t : Told). t .refusal) (k .made .answer)
 
-pub opened-refusal : (m : List ℕ) (days floor ceiling r : ℕ) (m′ : List ℕ) → BookOpened m days floor ceiling r m′ → r ≡ openingRefusal (length m) days floor ceiling
+pub opened-refusal : (m : List ℕ) (days floor ceiling r : ℕ) (m′ : List ℕ) → BookOpened m days floor ceiling r m′ → r
+    ≡ openingRefusal (length m) days floor ceiling
 opened-refusal m days floor ceiling r m′ k = k .refusal ∙ ap (λ (t : Told). t .refusal) (k .opened .answer)
 
 pub drawn-refusal : (m pts : List ℕ) (unit day r : ℕ) (pts′ : List ℕ) → CurveDrawn m pts unit day r pts′ → r ≡ curveOn m unit day (length pts) .refusal

@@ -113,7 +113,8 @@ pub extern "C" fn cenduxari_take(
     rows: &mut [u64],
     out: &mut [u64; 2],
 ) -> u64
-    ensures { λ r. ⌜ Called (now (book .entry)) (now (rows .entry)) (take unit number quantity (length (now (rows .entry)))) r (now (out .exit)) (now (book .exit)) (now (rows .exit)) ⌝ }
+    ensures { λ r. ⌜ Called (now (book .entry)) (now (rows .entry)) (take unit number quantity (length (now (rows .entry)))) r (now (out .exit))
+        (now (book .exit)) (now (rows .exit)) ⌝ }
 {
     let answer = book::calls::take(book, unit, number, quantity, rows);
     *out = numbers_of(answer);
@@ -141,7 +142,8 @@ pub extern "C" fn cenduxari_order(
     rows: &mut [u64],
     out: &mut [u64; 2],
 ) -> u64
-    ensures { λ r. ⌜ Called (now (book .entry)) (now (rows .entry)) (order unit direction period price quantity (length (now (rows .entry)))) r (now (out .exit)) (now (book .exit)) (now (rows .exit)) ⌝ }
+    ensures { λ r. ⌜ Called (now (book .entry)) (now (rows .entry)) (order unit direction period price quantity (length (now (rows .entry)))) r
+        (now (out .exit)) (now (book .exit)) (now (rows .exit)) ⌝ }
 {
     let answer = book::calls::order(book, unit, direction, period, price, quantity, rows);
     *out = numbers_of(answer);
@@ -160,7 +162,8 @@ pub extern "C" fn cenduxari_cancel(book: &mut [u64], unit: u64, number: u64) -> 
 // Clears each period of the call phase, and begins the rolling phase.
 #[no_mangle]
 pub extern "C" fn cenduxari_clear(book: &mut [u64], rows: &mut [u64], out: &mut [u64; 2]) -> u64
-    ensures { λ r. ⌜ Called (now (book .entry)) (now (rows .entry)) (clear (length (now (rows .entry)))) r (now (out .exit)) (now (book .exit)) (now (rows .exit)) ⌝ }
+    ensures { λ r. ⌜ Called (now (book .entry)) (now (rows .entry)) (clear (length (now (rows .entry)))) r (now (out .exit)) (now (book .exit))
+        (now (rows .exit)) ⌝ }
 {
     let answer = book::calls::clear(book, rows);
     *out = numbers_of(answer);

@@ -56,11 +56,13 @@ pub record Part (t : Tally) : Type 0 where
 unfoldable pub raisingPart : (t : Tally) → Part t → ℕ → ℕ → ℕ
 raisingPart t x u p =
     sumOf (λ (a : Amounts). cond (eqb (a .unit) u) (x .part (a .number) p) 0) (t .offers)
-    + sumOf (λ (o : OpenOrder). cond (eqb (o .unit) u && eqb (o .period) p && raises (memberOf t u .kind) (o .direction)) (x .part (o .number) p) 0) (t .orders)
+    + sumOf (λ (o : OpenOrder). cond (eqb (o .unit) u && eqb (o .period) p && raises (memberOf t u .kind) (o .direction)) (x .part (o .number) p) 0)
+    (t .orders)
 
 unfoldable pub loweringPart : (t : Tally) → Part t → ℕ → ℕ → ℕ
 loweringPart t x u p =
-    sumOf (λ (o : OpenOrder). cond (eqb (o .unit) u && eqb (o .period) p && lowers (memberOf t u .kind) (o .direction)) (x .part (o .number) p) 0) (t .orders)
+    sumOf (λ (o : OpenOrder). cond (eqb (o .unit) u && eqb (o .period) p && lowers (memberOf t u .kind) (o .direction)) (x .part (o .number) p) 0)
+    (t .orders)
 
 -- the nets of one side in a period
 unfoldable pub netsOf : (ℕ → Bool) → Tally → ℕ → ℕ

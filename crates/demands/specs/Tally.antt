@@ -77,19 +77,54 @@ orderLeft n u d p price q rs =
 unfoldable pub accounted : Tally → Call → Answer → Tally
 -- "Enrol: the next unit, with the fields given."
 accounted t (enrol kind capacity asset) a =
-    record { days = t .days; units = t .units ++ (record { kind = kind; capacity = capacity; asset = asset } ∷ []); rows = t .rows ++ a .rows; offers = t .offers; orders = t .orders }
+    record {
+      days = t .days;
+      units = t .units ++ (record { kind = kind; capacity = capacity; asset = asset } ∷ []);
+      rows = t .rows
+          ++ a .rows;
+      offers = t .offers;
+      orders = t .orders;
+    }
 -- "Offer: its amounts are open under its number."
 accounted t (offer unit partner price amounts) a =
-    record { days = t .days; units = t .units; rows = t .rows ++ a .rows; offers = t .offers ++ (record { number = a .number; unit = unit; amounts = amounts } ∷ []); orders = t .orders }
+    record {
+      days = t .days;
+      units = t .units;
+      rows = t .rows ++ a .rows;
+      offers = t .offers
+          ++ (record { number = a .number; unit = unit; amounts = amounts } ∷ []);
+      orders = t .orders;
+    }
 accounted t (take unit number quantity lent) a =
     record { days = t .days; units = t .units; rows = t .rows ++ a .rows; offers = takeTallied number (a .rows) (t .offers); orders = t .orders }
 -- "Withdraw, cancel: the named number is gone."
 accounted t (withdraw unit number) a =
-    record { days = t .days; units = t .units; rows = t .rows ++ a .rows; offers = keep (λ o. not (eqb (o .number) number)) (t .offers); orders = t .orders }
+    record {
+      days = t .days;
+      units = t .units;
+      rows = t .rows
+          ++ a .rows;
+      offers = keep (λ o. not (eqb (o .number) number)) (t .offers);
+      orders = t .orders;
+    }
 accounted t (order unit direction period price quantity lent) a =
-    record { days = t .days; units = t .units; rows = t .rows ++ a .rows; offers = t .offers; orders = orderTallied direction (a .rows) (t .orders) ++ orderLeft (a .number) unit direction period price quantity (a .rows) }
+    record {
+      days = t .days;
+      units = t .units;
+      rows = t .rows ++ a .rows;
+      offers = t .offers;
+      orders = orderTallied direction (a .rows) (t .orders)
+          ++ orderLeft (a .number) unit direction period price quantity (a .rows);
+    }
 accounted t (cancel unit number) a =
-    record { days = t .days; units = t .units; rows = t .rows ++ a .rows; offers = t .offers; orders = keep (λ o. not (eqb (o .number) number)) (t .orders) }
+    record {
+      days = t .days;
+      units = t .units;
+      rows = t .rows
+          ++ a .rows;
+      offers = t .offers;
+      orders = keep (λ o. not (eqb (o .number) number)) (t .orders);
+    }
 -- "Clear: each open order loses the fill that the rule for clear gives it, worked out from the tally's open orders."
 accounted t (clear lent) a =
     record { days = t .days; units = t .units; rows = t .rows ++ a .rows; offers = t .offers; orders = clearFrom 0 (periods (t .days)) (t .orders) .orders }

@@ -102,8 +102,23 @@ module _ (days kind capacity asset period : ℕ) where
 
   pub no-period : In 1 mostDays days → In 1 4 kind → In 1 mostCapacity capacity → asset ≤ mostEnergy → 24 * days ≤ period → Now (refused 10)
   unfolding limitsAt
-  no-period d k c a p = simp (inside 1 mostDays days d, inside 1 4 kind k, inside 1 mostCapacity capacity c, le-leb asset mostEnergy a, le-ltb period (24 * days) p)
+  no-period d k c a p = simp (
+    inside 1 mostDays days d,
+    inside 1 4 kind k,
+    inside 1 mostCapacity capacity c,
+    le-leb asset mostEnergy a,
+    le-ltb period
+        (24 * days) p,
+  )
 
-  pub all-in : In 1 mostDays days → In 1 4 kind → In 1 mostCapacity capacity → asset ≤ mostEnergy → period < 24 * days → Now (limitsIn days kind capacity asset period)
+  pub all-in : In 1 mostDays days → In 1 4 kind → In 1 mostCapacity capacity → asset ≤ mostEnergy → period < 24 * days
+      → Now (limitsIn days kind capacity asset period)
   unfolding limitsAt
-  all-in d k c a p = simp (inside 1 mostDays days d, inside 1 4 kind k, inside 1 mostCapacity capacity c, le-leb asset mostEnergy a, lt-ltb period (24 * days) p)
+  all-in d k c a p = simp (
+    inside 1 mostDays days d,
+    inside 1 4 kind k,
+    inside 1 mostCapacity capacity c,
+    le-leb asset mostEnergy a,
+    lt-ltb period
+        (24 * days) p,
+  )

@@ -79,7 +79,14 @@ module _ (l n : ℕ) (ns : List ℕ) (e : n ≡ countOf l) (long : length ns ≡
       → f (getD (take n ns) 0 0) (getD (take n ns) 1 0) (getD (take n ns) 2 0) (getD (take n ns) 3 0) (getD (take n ns) 4 0)
       ≡ f (getD ns 0 0) (getD ns 1 0) (getD ns 2 0) (getD ns 3 0) (getD ns 4 0)
   five-kept f h =
-      rw (number-kept 5 0 h (omega arith), number-kept 5 1 h (omega arith), number-kept 5 2 h (omega arith), number-kept 5 3 h (omega arith), number-kept 5 4 h (omega arith))
+      rw (
+        number-kept 5 0 h (omega arith),
+        number-kept 5 1 h (omega arith),
+        number-kept 5 2 h (omega arith),
+        number-kept 5 3 h (omega arith),
+        number-kept 5
+            4 h (omega arith),
+      )
 
   counts : (k : ℕ) → eqb l k ≡ true → countOf l ≡ countOf k
   counts k h = ap countOf (eqb-true l k h)
@@ -138,7 +145,8 @@ count-none l a b c d e f g = rw (ne-eqb l 79 a, ne-eqb l 69 b, ne-eqb l 76 c, ne
 pub call-is : (l k : ℕ) → l ≡ k → isCall k ≡ isCall l
 call-is l k e = ap isCall (sym e)
 
-pub call-none : (l : ℕ) → (l ≡ 69 → ⊥) → (l ≡ 76 → ⊥) → (l ≡ 84 → ⊥) → (l ≡ 87 → ⊥) → (l ≡ 82 → ⊥) → (l ≡ 88 → ⊥) → (l ≡ 67 → ⊥) → (l ≡ 68 → ⊥) → false ≡ isCall l
+pub call-none : (l : ℕ) → (l ≡ 69 → ⊥) → (l ≡ 76 → ⊥) → (l ≡ 84 → ⊥) → (l ≡ 87 → ⊥) → (l ≡ 82 → ⊥) → (l ≡ 88 → ⊥) → (l ≡ 67 → ⊥) → (l ≡ 68 → ⊥) → false
+    ≡ isCall l
 unfolding isCall
 call-none l a b c d e f g h = rw (ne-eqb l 69 a, ne-eqb l 76 b, ne-eqb l 84 c, ne-eqb l 87 d, ne-eqb l 82 e, ne-eqb l 88 f, ne-eqb l 67 g, ne-eqb l 68 h)
 
@@ -148,7 +156,8 @@ module _ (l : ℕ) (ns m rows : List ℕ) (a : Answer) (m′ : List ℕ) where
   unfolding callOf
   made-enrol e f = rw (eq-eqb l 69 e) (made-beside m rows _ a m′ f)
 
-  pub made-offer : (amounts : List ℕ) → l ≡ 76 → amounts ≡ drop 3 ns → Made m [] (offer (getD ns 0 0) (getD ns 1 0) (getD ns 2 0) amounts) a m′ [] → Made m rows (callOf l ns) a m′ rows
+  pub made-offer : (amounts : List ℕ) → l ≡ 76 → amounts ≡ drop 3 ns → Made m [] (offer (getD ns 0 0) (getD ns 1 0) (getD ns 2 0) amounts) a m′ []
+      → Made m rows (callOf l ns) a m′ rows
   unfolding callOf
   made-offer amounts e d f = rw e (made-beside m rows _ a m′ (rw d at f))
 
@@ -160,17 +169,20 @@ module _ (l : ℕ) (ns m rows : List ℕ) (a : Answer) (m′ : List ℕ) where
   unfolding callOf
   made-cancel e f = rw e (made-beside m rows _ a m′ f)
 
-  pub made-close : (l ≡ 69 → ⊥) → (l ≡ 76 → ⊥) → (l ≡ 84 → ⊥) → (l ≡ 87 → ⊥) → (l ≡ 82 → ⊥) → (l ≡ 88 → ⊥) → (l ≡ 67 → ⊥) → Made m [] close a m′ [] → Made m rows (callOf l ns) a m′ rows
+  pub made-close : (l ≡ 69 → ⊥) → (l ≡ 76 → ⊥) → (l ≡ 84 → ⊥) → (l ≡ 87 → ⊥) → (l ≡ 82 → ⊥) → (l ≡ 88 → ⊥) → (l ≡ 67 → ⊥) → Made m [] close a m′ []
+      → Made m rows (callOf l ns) a m′ rows
   unfolding callOf
   made-close e₁ e₂ e₃ e₄ e₅ e₆ e₇ f =
       rw (ne-eqb l 69 e₁, ne-eqb l 76 e₂, ne-eqb l 84 e₃, ne-eqb l 87 e₄, ne-eqb l 82 e₅, ne-eqb l 88 e₆, ne-eqb l 67 e₇) (made-beside m rows close a m′ f)
 
   module _ (rows′ : List ℕ) (lent : length rows ≡ 4_464) where
-    pub made-take : l ≡ 84 → Made m rows (callTake (getD ns 0 0) (getD ns 1 0) (getD ns 2 0) (length rows)) a m′ rows′ → Made m rows (callOf l ns) a m′ rows′
+    pub made-take : l ≡ 84 → Made m rows (callTake (getD ns 0 0) (getD ns 1 0) (getD ns 2 0) (length rows)) a m′ rows′
+        → Made m rows (callOf l ns) a m′ rows′
     unfolding callOf
     made-take e f = rw e (rw lent at f)
 
-    pub made-order : l ≡ 82 → Made m rows (order (getD ns 0 0) (getD ns 1 0) (getD ns 2 0) (getD ns 3 0) (getD ns 4 0) (length rows)) a m′ rows′ → Made m rows (callOf l ns) a m′ rows′
+    pub made-order : l ≡ 82 → Made m rows (order (getD ns 0 0) (getD ns 1 0) (getD ns 2 0) (getD ns 3 0) (getD ns 4 0) (length rows)) a m′ rows′
+        → Made m rows (callOf l ns) a m′ rows′
     unfolding callOf
     made-order e f = rw e (rw lent at f)
 
@@ -236,7 +248,8 @@ module _ (m : List ℕ) (l : ℕ) (ns : List ℕ) where
   within-taken h = rw (enrol-letter l ns, h)
 
 -- the answer's promise, case by case
-pub turned-down : (started : Bool) (m : List ℕ) (line : Line) (started′ : Bool) (text : List ℕ) → saidTo started m line ≡ notTaken → started′ ≡ started → text ≡ printedNo 0 → Answered started m line started′ m text
+pub turned-down : (started : Bool) (m : List ℕ) (line : Line) (started′ : Bool) (text : List ℕ) → saidTo started m line ≡ notTaken → started′ ≡ started
+    → text ≡ printedNo 0 → Answered started m line started′ m text
 unfolding printed accepts
 turned-down started m line started′ text e s t =
     record {
@@ -246,7 +259,8 @@ turned-down started m line started′ text e s t =
     }
 
 module _ (started : Bool) (m : List ℕ) (line : Line) (o : Outcome) (e : saidTo started m line ≡ said o) (m′ text : List ℕ) where
-  pub said-no : (started′ : Bool) → started′ ≡ started → (o .refusal ≡ 0 → ⊥) → m′ ≡ m → text ≡ printedNo (o .refusal) → Answered started m line started′ m′ text
+  pub said-no : (started′ : Bool) → started′ ≡ started → (o .refusal ≡ 0 → ⊥) → m′ ≡ m → text ≡ printedNo (o .refusal)
+      → Answered started m line started′ m′ text
   unfolding printed accepts
   said-no started′ s ne k t =
       let z : eqb (o .refusal) 0 ≡ false = ne-eqb (o .refusal) 0 ne in
@@ -287,16 +301,19 @@ module _ (m rows : List ℕ) (c : Call) (a : Answer) (m′ rows′ : List ℕ) (
       let w = rows-fit rows (outcomeOn m c .rows) rows′ (f .handed (sym told-refusal ∙ sym e ∙ z)) same in
       omega arith
 
-  pub call-no : saidTo true m (calling c) ≡ said (outcomeOn m c) → (r : ℕ) (text : List ℕ) → r ≡ toldBy a .refusal → (r ≡ 0 → ⊥) → text ≡ printedNo r → Answered true m (calling c) true m′ text
+  pub call-no : saidTo true m (calling c) ≡ said (outcomeOn m c) → (r : ℕ) (text : List ℕ) → r ≡ toldBy a .refusal → (r ≡ 0 → ⊥) → text ≡ printedNo r
+      → Answered true m (calling c) true m′ text
   call-no s r text e ne t =
       let ne′ : outcomeOn m c .refusal ≡ 0 → ⊥ = λ z. ne (e ∙ told-refusal ∙ z) in
       said-no true m (calling c) (outcomeOn m c) s m′ text true refl ne′ (f .refused ne′ .0) (t ∙ ap printedNo (e ∙ told-refusal))
 
-  pub call-ok : saidTo true m (calling c) ≡ said (outcomeOn m c) → (r n k : ℕ) (text : List ℕ) → r ≡ toldBy a .refusal → r ≡ 0 → n ≡ toldBy a .number → k ≡ toldBy a .count → text ≡ okText n k rows′ → Answered true m (calling c) true m′ text
+  pub call-ok : saidTo true m (calling c) ≡ said (outcomeOn m c) → (r n k : ℕ) (text : List ℕ) → r ≡ toldBy a .refusal → r ≡ 0 → n ≡ toldBy a .number → k
+      ≡ toldBy a .count → text ≡ okText n k rows′ → Answered true m (calling c) true m′ text
   call-ok s r n k text e z en ek t =
       let y : outcomeOn m c .refusal ≡ 0 = sym told-refusal ∙ sym e ∙ z in
       said-ok true m (calling c) (outcomeOn m c) s m′ text y (f .accepted y)
-      (t ∙ ok-rows n k rows rows′ (outcomeOn m c .rows) (ek ∙ told-count) (f .handed y) ∙ ap (λ (x : ℕ). printedOk x (outcomeOn m c .rows)) (en ∙ told-number))
+      (t ∙ ok-rows n k rows rows′ (outcomeOn m c .rows) (ek ∙ told-count) (f .handed y)
+      ∙ ap (λ (x : ℕ). printedOk x (outcomeOn m c .rows)) (en ∙ told-number))
 
 module _ (started : Bool) (m : List ℕ) (days floor ceiling : ℕ) (a : Answer) (m′ : List ℕ) (f : Opened m days floor ceiling a m′) (up : days ≤ 1) where
   opened-refusal : toldBy a .refusal ≡ openingRefusal (length m) days floor ceiling
@@ -305,19 +322,24 @@ module _ (started : Bool) (m : List ℕ) (days floor ceiling : ℕ) (a : Answer)
   opened-number : toldBy a .number ≡ 0
   opened-number = ap (λ (t : Told). t .number) (f .answer)
 
-  pub opening-no : (r : ℕ) (text : List ℕ) → r ≡ toldBy a .refusal → (r ≡ 0 → ⊥) → text ≡ printedNo r → Answered started m (opening days floor ceiling) started m′ text
+  pub opening-no : (r : ℕ) (text : List ℕ) → r ≡ toldBy a .refusal → (r ≡ 0 → ⊥) → text ≡ printedNo r
+      → Answered started m (opening days floor ceiling) started m′ text
   unfolding openedOn
   opening-no r text e ne t =
       let q : r ≡ openingRefusal (length m) days floor ceiling = e ∙ opened-refusal in
       let ne′ : openingRefusal (length m) days floor ceiling ≡ 0 → ⊥ = λ z. ne (q ∙ z) in
-      let d : openedOn m days floor ceiling ≡ record { refusal = openingRefusal (length m) days floor ceiling; number = 0; rows = []; book = decode m } = rw (ne-eqb (openingRefusal (length m) days floor ceiling) 0 ne′) in
-      said-no started m (opening days floor ceiling) _ (days-taken started m days floor ceiling up ∙ ap said d) m′ text started refl ne′ (f .refused ne′) (t ∙ ap printedNo q)
+      let d : openedOn m days floor ceiling ≡ record { refusal = openingRefusal (length m) days floor ceiling; number = 0; rows = []; book = decode m } = rw
+      (ne-eqb (openingRefusal (length m) days floor ceiling) 0 ne′) in
+      said-no started m (opening days floor ceiling) _ (days-taken started m days floor ceiling up ∙ ap said d) m′ text started refl ne′ (f .refused ne′) (t
+      ∙ ap printedNo q)
 
-  pub opening-ok : (r n : ℕ) (ws text : List ℕ) → r ≡ toldBy a .refusal → r ≡ 0 → n ≡ toldBy a .number → text ≡ okText n 0 ws → Answered started m (opening days floor ceiling) true m′ text
+  pub opening-ok : (r n : ℕ) (ws text : List ℕ) → r ≡ toldBy a .refusal → r ≡ 0 → n ≡ toldBy a .number → text ≡ okText n 0 ws
+      → Answered started m (opening days floor ceiling) true m′ text
   unfolding openedOn okText rowsText printedOk printedRows
   opening-ok r n ws text e z en t =
       let y : openingRefusal (length m) days floor ceiling ≡ 0 = sym opened-refusal ∙ sym e ∙ z in
-      let d : openedOn m days floor ceiling ≡ record { refusal = 0; number = 0; rows = []; book = fresh days floor ceiling } = rw (eq-eqb (openingRefusal (length m) days floor ceiling) 0 y) in
+      let d : openedOn m days floor ceiling ≡ record { refusal = 0; number = 0; rows = []; book = fresh days floor ceiling } = rw
+      (eq-eqb (openingRefusal (length m) days floor ceiling) 0 y) in
       said-ok started m (opening days floor ceiling) _ (days-taken started m days floor ceiling up ∙ ap said d) m′ text refl (f .accepted y)
       (t ∙ ap (λ (x : ℕ). printedOk x []) (en ∙ opened-number))
 
@@ -326,5 +348,6 @@ pub amounts-behind : (ns : List ℕ) → length ns ≡ 27 → take (length ns - 
 amounts-behind ns e = take-all (length ns - 3) (drop 3 ns) (omega (arith, length-drop 3 ns))
 
 -- the same line, said otherwise
-pub answered-as : (started known : Bool) (m : List ℕ) (line same : Line) (started′ : Bool) (m′ text : List ℕ) → started ≡ known → line ≡ same → Answered known m same started′ m′ text → Answered started m line started′ m′ text
+pub answered-as : (started known : Bool) (m : List ℕ) (line same : Line) (started′ : Bool) (m′ text : List ℕ) → started ≡ known → line ≡ same
+    → Answered known m same started′ m′ text → Answered started m line started′ m′ text
 answered-as started known m line same started′ m′ text s e f = rw (s, e) f

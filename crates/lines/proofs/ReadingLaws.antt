@@ -16,7 +16,24 @@ use Rattle.measures.specs.Lists.{every}
 use Rattle.measures.proofs.ListLaws.{and-true, and-left-false, and-right-false, cond-case}
 use Rattle.lines.specs.declared.reading.Reading.{Reading}
 use Rattle.lines.specs.declared.reading.Reading.the-variants.{Start, Letter, Space, Digits, Lost}
-use Rattle.lines.specs.Lines.{Line, unknown, firstField, otherFields, isDigit, valueFrom, goesOn, isNumber, values, countOf, isCall, lineOf, called, numbered, lettered, parse}
+use Rattle.lines.specs.Lines.{
+  Line,
+  unknown,
+  firstField,
+  otherFields,
+  isDigit,
+  valueFrom,
+  goesOn,
+  isNumber,
+  values,
+  countOf,
+  isCall,
+  lineOf,
+  called,
+  numbered,
+  lettered,
+  parse,
+}
 use Rattle.lines.specs.Readings.{restOf, InRange, begun, Reads, Follows, EndsAt}
 
 module _ (ns : List ℕ) (b : ℕ) where
@@ -54,7 +71,9 @@ digit-high b h = and-right-false (leb 48 b) (leb b 57) (lt-leb b 57 h)
 -- no letter has more than 27 numbers
 count-most : (l : ℕ) → countOf l ≤ 27
 unfolding countOf
-count-most l = below (eqb l 79) _ _ (omega arith) (below (eqb l 69) _ _ (omega arith) (below (eqb l 76) _ _ (omega arith) (below (eqb l 84) _ _ (omega arith) (below (eqb l 87) _ _ (omega arith) (below (eqb l 82) _ _ (omega arith) (below (eqb l 88) _ _ (omega arith) (omega arith)))))))
+count-most l = below (eqb l 79) _ _ (omega arith) (below (eqb l 69) _ _ (omega arith)
+    (below (eqb l 76) _ _ (omega arith) (below (eqb l 84) _ _ (omega arith)
+    (below (eqb l 87) _ _ (omega arith) (below (eqb l 82) _ _ (omega arith) (below (eqb l 88) _ _ (omega arith) (omega arith)))))))
   where
     below : (t : Bool) (x y : ℕ) → x ≤ 27 → y ≤ 27 → cond t x y ≤ 27
     below true x y h k = h
@@ -84,7 +103,12 @@ module _ (ns : List ℕ) (b l n : ℕ) where
 
   space-other : isDigit b ≡ false → (b ≡ 32 → ⊥) → Follows (Space l n) ns b Lost ns
   unfolding restOf firstField otherFields isNumber goesOn
-  space-other e ne = record { within = λ w. tt; rest = λ w more. rw (ne-eqb b 32 ne) (space-field (b ∷ firstField more) (otherFields more) (rw e)); begins = refl }
+  space-other e ne = record {
+    within = λ w. tt;
+    rest = λ w more. rw (ne-eqb b 32 ne) (space-field (b ∷ firstField more) (otherFields more) (rw e));
+    begins =
+        refl;
+  }
 
   space-space : b ≡ 32 → Follows (Space l n) ns b Lost ns
   unfolding restOf firstField otherFields isNumber
@@ -136,7 +160,11 @@ module _ (ns : List ℕ) (b l n v : ℕ) where
   pub digit-large : (b ≡ 32 → ⊥) → 4_294_967_296 ≤ v * 10 + (b - 48) → Follows (Digits l n v) ns b Lost ns
   unfolding restOf firstField otherFields
   digit-large ne h =
-      record { within = λ w. tt; rest = λ w more. rw (ne-eqb b 32 ne) (broken (b ∷ firstField more) (otherFields more) (too-large (firstField more) h)); begins = refl }
+      record {
+        within = λ w. tt;
+        rest = λ w more. rw (ne-eqb b 32 ne) (broken (b ∷ firstField more) (otherFields more) (too-large (firstField more) h));
+        begins = refl;
+      }
 
 -- a number ends
 module _ (ns : List ℕ) (l n v : ℕ) where
@@ -145,14 +173,25 @@ module _ (ns : List ℕ) (l n v : ℕ) where
   number-ends h k =
       record {
         within = λ w. omega arith;
-        rest = λ w more. rw (lt-ltb v 4_294_967_296 (w .1), add-one n, take-suc-set ns n v k, append-assoc (take n ns) (v ∷ []) (values (firstField more ∷ otherFields more)));
+        rest = λ w more. rw (
+          lt-ltb v 4_294_967_296 (w .1),
+          add-one n,
+          take-suc-set ns n v k,
+          append-assoc (take n ns) (v
+              ∷ []) (values (firstField more ∷ otherFields more)),
+        );
         begins = refl;
       }
 
   pub number-many : 26 ≤ n → length ns ≡ 27 → Follows (Digits l n v) ns 32 Lost ns
   unfolding restOf firstField otherFields values
   number-many h e =
-      record { within = λ w. tt; rest = λ w more. go (goesOn v [] && every isNumber (firstField more ∷ otherFields more)) (valueFrom 0 (firstField more) ∷ values (otherFields more)) (omega arith) (w .0) (omega arith); begins = refl }
+      record {
+        within = λ w. tt;
+        rest = λ w more. go (goesOn v [] && every isNumber (firstField more ∷ otherFields more)) (valueFrom 0 (firstField more)
+            ∷ values (otherFields more)) (omega arith) (w .0) (omega arith);
+        begins = refl;
+      }
     where
       go : (t : Bool) (vs : List ℕ) → 1 ≤ length vs → n ≤ 26 → 26 ≤ n → cond t (called l (take n ns ++ (valueFrom v [] ∷ vs))) unknown ≡ unknown
       go true vs some up down =
@@ -170,7 +209,8 @@ pub reads-none : (ns : List ℕ) → Reads [] Start ns
 unfolding restOf
 reads-none ns = record { within = tt; rest = λ more. refl; begins = refl }
 
-pub reads-more : (line : List ℕ) (r : Reading) (ns : List ℕ) (b : ℕ) (r′ : Reading) (ns′ : List ℕ) → Reads line r ns → Follows r ns b r′ ns′ → Reads (line ++ (b ∷ [])) r′ ns′
+pub reads-more : (line : List ℕ) (r : Reading) (ns : List ℕ) (b : ℕ) (r′ : Reading) (ns′ : List ℕ) → Reads line r ns → Follows r ns b r′ ns′
+    → Reads (line ++ (b ∷ [])) r′ ns′
 reads-more line r ns b r′ ns′ f g =
     let l = length-append line (b ∷ []) in
     record {
@@ -203,7 +243,8 @@ pub end-letter : (line : List ℕ) (l : ℕ) (ns : List ℕ) → Reads line (Let
 unfolding restOf firstField otherFields lettered numbered values
 end-letter line l ns f = ended line (Letter l) ns f
 
-pub end-number : (line : List ℕ) (l n v : ℕ) (ns : List ℕ) → n < length ns → Reads line (Digits l n v) ns → parse line ≡ called l (take (n + 1) (set ns n v))
+pub end-number : (line : List ℕ) (l n v : ℕ) (ns : List ℕ) → n < length ns → Reads line (Digits l n v) ns → parse line
+    ≡ called l (take (n + 1) (set ns n v))
 unfolding restOf firstField otherFields goesOn valueFrom values
 end-number line l n v ns h f =
     ended line (Digits l n v) ns f ∙ rw (lt-ltb v 4_294_967_296 (f .within .1), add-one n, take-suc-set ns n v h)
@@ -223,10 +264,12 @@ going-more piece r₀ ns₀ i r ns r′ ns′ g h f e =
     record {
       up = omega arith;
       long = e ∙ g .long;
-      reads = λ line s. rw (add-one i, take-suc piece i 0 h, ← append-assoc line (take i piece) (getD piece i 0 ∷ [])) (reads-more (line ++ take i piece) r ns (getD piece i 0) r′ ns′ (g .reads line s) f);
+      reads = λ line s. rw (add-one i, take-suc piece i 0 h, ← append-assoc line (take i piece) (getD piece i 0 ∷ [])) (reads-more (line
+          ++ take i piece) r ns (getD piece i 0) r′ ns′ (g .reads line s) f);
     }
 
-pub going-all : (piece : List ℕ) (r₀ : Reading) (ns₀ : List ℕ) (i : ℕ) (r : Reading) (ns : List ℕ) → Going piece r₀ ns₀ i r ns → length piece ≤ i → (line : List ℕ) → Reads line r₀ ns₀ → Reads (line ++ piece) r ns
+pub going-all : (piece : List ℕ) (r₀ : Reading) (ns₀ : List ℕ) (i : ℕ) (r : Reading) (ns : List ℕ) → Going piece r₀ ns₀ i r ns → length piece ≤ i
+    → (line : List ℕ) → Reads line r₀ ns₀ → Reads (line ++ piece) r ns
 going-all piece r₀ ns₀ i r ns g h line s = rw (take-all i piece h) at (g .reads line s)
 
 -- looking for the next line end: none stands from `from` to i
@@ -239,7 +282,12 @@ pub seeking-none : (piece : List ℕ) (from : ℕ) → Seeking piece from from
 seeking-none piece from = record { after = omega arith; none = λ k h l e. omega arith; within = λ h. h }
 
 pub seeking-more : (piece : List ℕ) (from i : ℕ) → i < length piece → (getD piece i 0 ≡ 10 → ⊥) → Seeking piece from i → Seeking piece from (i + 1)
-seeking-more piece from i h ne s = record { after = let a = s .after in omega arith; none = λ k a l e. go k a e (ℕ-discrete k i) l; within = λ w. omega arith }
+seeking-more piece from i h ne s = record {
+  after = let a = s .after in omega arith;
+  none = λ k a l e. go k a e (ℕ-discrete k i) l;
+  within = λ w. omega
+      arith;
+}
   where
     go : (k : ℕ) → from ≤ k → getD piece k 0 ≡ 10 → Dec (k ≡ i) → k < i + 1 → ⊥
     go k a e (yes q) l = ne (rw q at e)

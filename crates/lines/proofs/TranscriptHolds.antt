@@ -1,7 +1,22 @@
 -- The paper's transcript holds of the definitions.
 use mathlib.Core.Path.{_≡_, refl}
 use mathlib.Core.List.{[], _∷_}
-use Rattle.lines.specs.Lines.{firstField, otherFields, valueFrom, goesOn, isNumber, values, countOf, isCall, callOf, lineOf, called, numbered, lettered, parse}
+use Rattle.lines.specs.Lines.{
+  firstField,
+  otherFields,
+  valueFrom,
+  goesOn,
+  isNumber,
+  values,
+  countOf,
+  isCall,
+  callOf,
+  lineOf,
+  called,
+  numbered,
+  lettered,
+  parse,
+}
 use Rattle.lines.specs.Printed.{digits, decimal, spaced, printedRow, printedRows, printedOk, printedNo}
 use Rattle.lines.specs.Transcript.{transcript, Hold, sixthRow, sixthAnswer, refusal19}
 

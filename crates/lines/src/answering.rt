@@ -56,7 +56,8 @@ pub struct Printed {
 // What a line says at its end.
 fn end_line(reading: Reading, numbers: &mut [u64]) -> Heard
     requires { ⌜ length (now numbers) ≡ 27 ⌝ }
-    ensures { λ r. ⌜ ((line : List ℕ) → Reads line reading (now (numbers .entry)) → parse line ≡ called (r .letter) (take (r .count) (now (numbers .exit)))) ⌝ }
+    ensures { λ r. ⌜ ((line : List ℕ) → Reads line reading (now (numbers .entry)) → parse line
+        ≡ called (r .letter) (take (r .count) (now (numbers .exit)))) ⌝ }
     ensures { λ r. ⌜ r .count ≤ 27 ⌝ }
 {
     match reading {
@@ -184,7 +185,8 @@ fn turn_down(started: bool, out: &mut [u8]) -> Printed
 
 fn answer_opening(started: bool, numbers: &[u64], book: &mut [u64], out: &mut [u8]) -> Printed
     requires { ⌜ (length (now numbers) ≡ 27) × (24 ≤ length (now out)) ⌝ }
-    ensures { λ r. ⌜ Answered started (now (book .entry)) (opening (getD (now (numbers .entry)) 0 0) (getD (now (numbers .entry)) 1 0) (getD (now (numbers .entry)) 2 0)) (r .started) (now (book .exit)) (take (r .length) (now (out .exit))) ⌝ }
+    ensures { λ r. ⌜ Answered started (now (book .entry)) (opening (getD (now (numbers .entry)) 0 0) (getD (now (numbers .entry)) 1 0)
+        (getD (now (numbers .entry)) 2 0)) (r .started) (now (book .exit)) (take (r .length) (now (out .exit))) ⌝ }
     ensures { λ r. ⌜ r .length ≤ 95256 ⌝ }
 {
     let days = numbers[0];
@@ -211,7 +213,8 @@ fn answer_call(
     out: &mut [u8],
 ) -> Printed
     requires { ⌜ (length (now numbers) ≡ 27) × (6 ≤ length (now book)) × (length (now rows) ≡ 4464) × (95256 ≤ length (now out)) ⌝ }
-    ensures { λ r. ⌜ Answered true (now (book .entry)) (calling (callOf letter (now (numbers .entry)))) (r .started) (now (book .exit)) (take (r .length) (now (out .exit))) ⌝ }
+    ensures { λ r. ⌜ Answered true (now (book .entry)) (calling (callOf letter (now (numbers .entry)))) (r .started) (now (book .exit))
+        (take (r .length) (now (out .exit))) ⌝ }
     ensures { λ r. ⌜ r .length ≤ 95256 ⌝ }
 {
     if is_beyond(letter, book) {
@@ -241,7 +244,8 @@ fn answer(
     out: &mut [u8],
 ) -> Printed
     requires { ⌜ (length (now numbers) ≡ 27) × (6 ≤ length (now book)) × (length (now rows) ≡ 4464) × (95256 ≤ length (now out)) ⌝ }
-    ensures { λ r. ⌜ ((line : List ℕ) → Reads line reading (now (numbers .entry)) → Answered started (now (book .entry)) (parse line) (r .started) (now (book .exit)) (take (r .length) (now (out .exit)))) ⌝ }
+    ensures { λ r. ⌜ ((line : List ℕ) → Reads line reading (now (numbers .entry))
+        → Answered started (now (book .entry)) (parse line) (r .started) (now (book .exit)) (take (r .length) (now (out .exit)))) ⌝ }
     ensures { λ r. ⌜ r .length ≤ 95256 ⌝ }
 {
     let heard = end_line(reading, numbers);
@@ -270,7 +274,8 @@ pub fn answer_line(
     rows: &mut RowMemory,
     out: &mut Text,
 ) -> Printed
-    ensures { λ r. ⌜ ((line : List ℕ) → Reads line reading (now (numbers .entry)) → Answered started (now (book .entry)) (parse line) (r .started) (now (book .exit)) (take (r .length) (now (out .exit)))) ⌝ }
+    ensures { λ r. ⌜ ((line : List ℕ) → Reads line reading (now (numbers .entry))
+        → Answered started (now (book .entry)) (parse line) (r .started) (now (book .exit)) (take (r .length) (now (out .exit)))) ⌝ }
     ensures { λ r. ⌜ r .length ≤ 95256 ⌝ }
 {
     answer(reading, numbers, started, book, rows, out)

@@ -19,7 +19,15 @@ rowOf v =
 -- the order at place k
 abbrev pub orderAt : List ℕ → ℕ → Order
 orderAt m k =
-    record { number = getD m (6 * k) 0; unit = getD m (6 * k + 1) 0; direction = getD m (6 * k + 2) 0; period = getD m (6 * k + 3) 0; price = getD m (6 * k + 4) 0; quantity = getD m (6 * k + 5) 0 }
+    record {
+      number = getD m (6 * k) 0;
+      unit = getD m (6 * k + 1) 0;
+      direction = getD m (6 * k + 2) 0;
+      period = getD m (6 * k + 3) 0;
+      price = getD m
+          (6 * k + 4) 0;
+      quantity = getD m (6 * k + 5) 0;
+    }
 
 -- the first n orders
 unfoldable pub ordersIn : List ℕ → ℕ → List Order

@@ -33,7 +33,11 @@ fn trade(
     na: usize,
     rows: &mut [u64],
 ) -> Matched
-    requires { ⌜ (fit (now orders) n (now rows) ≡ true) × (0 < margins .volume) × Stand (now orders) (now bids) n nb (laid (aheadOn 1) (keep (belongs 1 period) (ordersIn (now orders) n))) × Stand (now orders) (now asks) n na (laid (aheadOn 0) (keep (belongs 0 period) (ordersIn (now orders) n))) × AreMargins (ordersAt (now orders) (take nb (now bids))) (ordersAt (now orders) (take na (now asks))) (margins .volume) (margins .bid) (margins .ask) ⌝ }
+    requires { ⌜ (fit (now orders) n (now rows) ≡ true) × (0 < margins .volume)
+        × Stand (now orders) (now bids) n nb (laid (aheadOn 1) (keep (belongs 1 period) (ordersIn (now orders) n)))
+        × Stand (now orders) (now asks) n na (laid (aheadOn 0) (keep (belongs 0 period) (ordersIn (now orders) n)))
+        × AreMargins (ordersAt (now orders) (take nb (now bids))) (ordersAt (now orders) (take na (now asks))) (margins .volume) (margins .bid)
+        (margins .ask) ⌝ }
     ensures { λ r. ⌜ Clears (now (orders .entry)) (now (rows .entry)) n period r (now (orders .exit)) (now (rows .exit)) ⌝ }
 {
     let mut bid_places = [0u64; 256];

@@ -36,8 +36,11 @@ fn pick(
     amounts: &mut [u64],
     first: usize,
 ) -> usize
-    requires { ⌜ (6 * n ≤ length (now orders)) × (n ≤ 256) × Stand (now orders) (now places) n count (ordersAt (now orders) (take count (now places))) × (first + length (picked (now orders) which margin (take count (now places))) ≤ length (now to)) × (first + length (picked (now orders) which margin (take count (now places))) ≤ length (now amounts)) ⌝ }
-    ensures { λ r. ⌜ Picked (now (orders .entry)) (picked (now (orders .entry)) which margin (take count (now (places .entry)))) (now (to .entry)) (now (amounts .entry)) first r (now (to .exit)) (now (amounts .exit)) ⌝ }
+    requires { ⌜ (6 * n ≤ length (now orders)) × (n ≤ 256) × Stand (now orders) (now places) n count (ordersAt (now orders) (take count (now places)))
+        × (first + length (picked (now orders) which margin (take count (now places))) ≤ length (now to))
+        × (first + length (picked (now orders) which margin (take count (now places))) ≤ length (now amounts)) ⌝ }
+    ensures { λ r. ⌜ Picked (now (orders .entry)) (picked (now (orders .entry)) which margin (take count (now (places .entry)))) (now (to .entry))
+        (now (amounts .entry)) first r (now (to .exit)) (now (amounts .exit)) ⌝ }
 {
     let mut r = first;
     let mut i: usize = 0;
@@ -82,8 +85,14 @@ pub(crate) fn fill(
     to: &mut [u64],
     amounts: &mut [u64],
 ) -> usize
-    requires { ⌜ (6 * n ≤ length (now orders)) × (n ≤ 256) × (direction < 2) × (n ≤ length (now to)) × (n ≤ length (now amounts)) × Stand (now orders) (now places) n count (ordersAt (now orders) (take count (now places))) × AtMargin volume (keep (chosen direction margin) (ordersAt (now orders) (take count (now places)))) (keep (chosen 2 margin) (ordersAt (now orders) (take count (now places)))) ⌝ }
-    ensures { λ r. ⌜ (r ≤ count) × Filling (now (to .exit)) (now (amounts .exit)) n r × (fillsAt (now (orders .entry)) (now (to .exit)) (now (amounts .exit)) r ≡ fillsOf volume (keep (chosen direction margin) (ordersAt (now (orders .entry)) (take count (now (places .entry))))) (keep (chosen 2 margin) (ordersAt (now (orders .entry)) (take count (now (places .entry)))))) ⌝ }
+    requires { ⌜ (6 * n ≤ length (now orders)) × (n ≤ 256) × (direction < 2) × (n ≤ length (now to)) × (n ≤ length (now amounts))
+        × Stand (now orders) (now places) n count (ordersAt (now orders) (take count (now places)))
+        × AtMargin volume (keep (chosen direction margin) (ordersAt (now orders) (take count (now places))))
+        (keep (chosen 2 margin) (ordersAt (now orders) (take count (now places)))) ⌝ }
+    ensures { λ r. ⌜ (r ≤ count) × Filling (now (to .exit)) (now (amounts .exit)) n r
+        × (fillsAt (now (orders .entry)) (now (to .exit)) (now (amounts .exit)) r
+        ≡ fillsOf volume (keep (chosen direction margin) (ordersAt (now (orders .entry)) (take count (now (places .entry)))))
+        (keep (chosen 2 margin) (ordersAt (now (orders .entry)) (take count (now (places .entry)))))) ⌝ }
 {
     let better = pick(orders, n, direction, margin, places, count, to, amounts, 0);
     let mut open = [0u64; 256];

@@ -34,7 +34,8 @@ pub(crate) fn find_margins(
     na: usize,
 ) -> Margins
     requires { ⌜ (6 * n ≤ length (now orders)) × (n ≤ 256) × Sides (now orders) (now bids) (now asks) n nb na ⌝ }
-    ensures { λ r. ⌜ AreMargins (ordersAt (now (orders .entry)) (take nb (now (bids .entry)))) (ordersAt (now (orders .entry)) (take na (now (asks .entry)))) (r .volume) (r .bid) (r .ask) ⌝ }
+    ensures { λ r. ⌜ AreMargins (ordersAt (now (orders .entry)) (take nb (now (bids .entry))))
+        (ordersAt (now (orders .entry)) (take na (now (asks .entry)))) (r .volume) (r .bid) (r .ask) ⌝ }
 {
     let mut volume: u64 = 0;
     let mut bid: u64 = 0;

@@ -94,7 +94,8 @@ pub(crate) fn read(orders: &[u64], k: usize) -> Order
 // The order at place k keeps q open.
 pub(crate) fn leave(orders: &mut [u64], n: usize, k: usize, q: Energy)
     requires { ⌜ (6 * n ≤ length (now orders)) × (k < n) × (n ≤ 256) ⌝ }
-    ensures { λ _. ⌜ (ordersIn (now (orders .exit)) n ≡ set (ordersIn (now (orders .entry)) n) k (leaving (orderAt (now (orders .entry)) k) (q .0))) × (drop (6 * n) (now (orders .exit)) ≡ drop (6 * n) (now (orders .entry))) ⌝ }
+    ensures { λ _. ⌜ (ordersIn (now (orders .exit)) n ≡ set (ordersIn (now (orders .entry)) n) k (leaving (orderAt (now (orders .entry)) k) (q .0)))
+        × (drop (6 * n) (now (orders .exit)) ≡ drop (6 * n) (now (orders .entry))) ⌝ }
 {
     orders[6 * k + 5] = q.0;
 }
@@ -102,7 +103,8 @@ pub(crate) fn leave(orders: &mut [u64], n: usize, k: usize, q: Energy)
 // An order takes place k.
 pub fn write(orders: &mut [u64], n: usize, k: usize, o: Order)
     requires { ⌜ (6 * n ≤ length (now orders)) × (k < n) × (n ≤ 256) ⌝ }
-    ensures { λ _. ⌜ (ordersIn (now (orders .exit)) n ≡ set (ordersIn (now (orders .entry)) n) k (orderOf o)) × (drop (6 * n) (now (orders .exit)) ≡ drop (6 * n) (now (orders .entry))) ⌝ }
+    ensures { λ _. ⌜ (ordersIn (now (orders .exit)) n ≡ set (ordersIn (now (orders .entry)) n) k (orderOf o))
+        × (drop (6 * n) (now (orders .exit)) ≡ drop (6 * n) (now (orders .entry))) ⌝ }
 {
     let at = 6 * k;
     orders[at] = o.number;
@@ -116,7 +118,8 @@ pub fn write(orders: &mut [u64], n: usize, k: usize, o: Order)
 // The order at place k goes, and those behind it move up by one place.
 pub fn remove(orders: &mut [u64], n: usize, k: usize)
     requires { ⌜ (6 * n ≤ length (now orders)) × (k < n) × (n ≤ 256) ⌝ }
-    ensures { λ _. ⌜ (ordersIn (now (orders .exit)) (n - 1) ≡ take k (ordersIn (now (orders .entry)) n) ++ drop (k + 1) (ordersIn (now (orders .entry)) n)) × (drop (6 * n) (now (orders .exit)) ≡ drop (6 * n) (now (orders .entry))) ⌝ }
+    ensures { λ _. ⌜ (ordersIn (now (orders .exit)) (n - 1) ≡ take k (ordersIn (now (orders .entry)) n) ++ drop (k + 1) (ordersIn (now (orders .entry)) n))
+        × (drop (6 * n) (now (orders .exit)) ≡ drop (6 * n) (now (orders .entry))) ⌝ }
 {
     let end = 6 * n - 6;
     let mut j = 6 * k;
@@ -129,7 +132,8 @@ pub fn remove(orders: &mut [u64], n: usize, k: usize)
 // Row number n, behind the n rows that stand there.
 pub fn put_row(rows: &mut [u64], n: usize, r: Row)
     requires { ⌜ (6 * n + 6 ≤ length (now rows)) × (n < 1000000) ⌝ }
-    ensures { λ _. ⌜ ((m : List ℕ) (rs : List RowRecord) → length rs ≡ n → now (rows .entry) ≡ written m rs → now (rows .exit) ≡ written m (rs ++ (rowOf r ∷ []))) ⌝ }
+    ensures { λ _. ⌜ ((m : List ℕ) (rs : List RowRecord) → length rs ≡ n → now (rows .entry) ≡ written m rs → now (rows .exit)
+        ≡ written m (rs ++ (rowOf r ∷ []))) ⌝ }
 {
     let at = 6 * n;
     rows[at] = r.way;

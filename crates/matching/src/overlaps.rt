@@ -42,7 +42,9 @@ fn shared(a: u64, x: u64, e: u64, y: u64) -> u64
 // Writes a row behind the count rows that stand, unless its quantity is 0; how many then stand.
 fn put_some(rows: &mut [u64], count: usize, r: Row) -> usize
     requires { ⌜ (6 * count + 6 ≤ length (now rows)) × (count < 1000000) ⌝ }
-    ensures { λ x. ⌜ ((m : List ℕ) (rs : List RowRecord) → length rs ≡ count → now (rows .entry) ≡ written m rs → (now (rows .exit) ≡ written m (rs ++ cond (eqb (r .quantity .0) 0) [] (rowOf r ∷ []))) × (length (rs ++ cond (eqb (r .quantity .0) 0) [] (rowOf r ∷ [])) ≡ x) × (x ≤ count + 1)) ⌝ }
+    ensures { λ x. ⌜ ((m : List ℕ) (rs : List RowRecord) → length rs ≡ count → now (rows .entry) ≡ written m rs
+        → (now (rows .exit) ≡ written m (rs ++ cond (eqb (r .quantity .0) 0) [] (rowOf r ∷ [])))
+        × (length (rs ++ cond (eqb (r .quantity .0) 0) [] (rowOf r ∷ [])) ≡ x) × (x ≤ count + 1)) ⌝ }
 {
     if r.quantity.0 == 0 {
         return count;
@@ -73,8 +75,13 @@ pub(crate) fn put_overlaps(
     na: usize,
     rows: &mut [u64],
 ) -> usize
-    requires { ⌜ (6 * n ≤ length (now orders)) × (n ≤ 256) × (6 * n ≤ length (now rows)) × (nb + na ≤ n) × Filling (now bids) (now bought) n nb × Filling (now asks) (now sold) n na ⌝ }
-    ensures { λ r. ⌜ (now (rows .exit) ≡ written (now (rows .entry)) (overlapRows period (price .0) (endToEnd 0 (fillsAt (now (orders .entry)) (now (bids .entry)) (now (bought .entry)) nb)) (endToEnd 0 (fillsAt (now (orders .entry)) (now (asks .entry)) (now (sold .entry)) na)))) × (r ≡ length (overlapRows period (price .0) (endToEnd 0 (fillsAt (now (orders .entry)) (now (bids .entry)) (now (bought .entry)) nb)) (endToEnd 0 (fillsAt (now (orders .entry)) (now (asks .entry)) (now (sold .entry)) na)))) ⌝ }
+    requires { ⌜ (6 * n ≤ length (now orders)) × (n ≤ 256) × (6 * n ≤ length (now rows)) × (nb + na ≤ n) × Filling (now bids) (now bought) n nb
+        × Filling (now asks) (now sold) n na ⌝ }
+    ensures { λ r. ⌜ (now (rows .exit) ≡ written (now (rows .entry))
+        (overlapRows period (price .0) (endToEnd 0 (fillsAt (now (orders .entry)) (now (bids .entry)) (now (bought .entry)) nb))
+        (endToEnd 0 (fillsAt (now (orders .entry)) (now (asks .entry)) (now (sold .entry)) na))))
+        × (r ≡ length (overlapRows period (price .0) (endToEnd 0 (fillsAt (now (orders .entry)) (now (bids .entry)) (now (bought .entry)) nb))
+        (endToEnd 0 (fillsAt (now (orders .entry)) (now (asks .entry)) (now (sold .entry)) na)))) ⌝ }
 {
     let mut i: usize = 0;
     let mut j: usize = 0;

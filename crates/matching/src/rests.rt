@@ -13,7 +13,9 @@ ghost use Rattle.matching.specs.inner.Places.{standing, fillsAt, Filling
 // Takes x off the order at p; the mark of an emptied order becomes 0.
 fn take_fill(orders: &mut [u64], n: usize, stands: &mut [u64], p: usize, x: u64)
     requires { ⌜ (6 * n ≤ length (now orders)) × (n ≤ 256) × (n ≤ length (now stands)) × (p < n) × (rising (numbers (ordersIn (now orders) n)) ≡ true) ⌝ }
-    ensures { λ _. ⌜ Taken (now (orders .entry)) (now (stands .entry)) n (lessen (orderAt (now (orders .entry)) p .number) x (standing (take n (now (stands .entry))) (ordersIn (now (orders .entry)) n))) (now (orders .exit)) (now (stands .exit)) ⌝ }
+    ensures { λ _. ⌜ Taken (now (orders .entry)) (now (stands .entry)) n
+        (lessen (orderAt (now (orders .entry)) p .number) x (standing (take n (now (stands .entry))) (ordersIn (now (orders .entry)) n)))
+        (now (orders .exit)) (now (stands .exit)) ⌝ }
 {
     let o = crate::orders::read(orders, p);
     let q = o.quantity.0;
@@ -33,8 +35,11 @@ fn take_fills(
     amounts: &[u64],
     count: usize,
 )
-    requires { ⌜ (6 * n ≤ length (now orders)) × (n ≤ 256) × (n ≤ length (now stands)) × (rising (numbers (ordersIn (now orders) n)) ≡ true) × Filling (now places) (now amounts) n count ⌝ }
-    ensures { λ _. ⌜ Taken (now (orders .entry)) (now (stands .entry)) n (afterFills (fillsAt (now (orders .entry)) (now (places .entry)) (now (amounts .entry)) count) (standing (take n (now (stands .entry))) (ordersIn (now (orders .entry)) n))) (now (orders .exit)) (now (stands .exit)) ⌝ }
+    requires { ⌜ (6 * n ≤ length (now orders)) × (n ≤ 256) × (n ≤ length (now stands)) × (rising (numbers (ordersIn (now orders) n)) ≡ true)
+        × Filling (now places) (now amounts) n count ⌝ }
+    ensures { λ _. ⌜ Taken (now (orders .entry)) (now (stands .entry)) n
+        (afterFills (fillsAt (now (orders .entry)) (now (places .entry)) (now (amounts .entry)) count)
+        (standing (take n (now (stands .entry))) (ordersIn (now (orders .entry)) n))) (now (orders .exit)) (now (stands .exit)) ⌝ }
 {
     let mut i: usize = 0;
     while i < count {
@@ -48,7 +53,8 @@ fn take_fills(
 // The orders whose mark is not 0 move up, in their order; how many they are.
 fn close_gaps(orders: &mut [u64], n: usize, stands: &[u64]) -> usize
     requires { ⌜ (6 * n ≤ length (now orders)) × (n ≤ 256) × (n ≤ length (now stands)) ⌝ }
-    ensures { λ r. ⌜ (ordersIn (now (orders .exit)) r ≡ standing (take n (now (stands .entry))) (ordersIn (now (orders .entry)) n)) × (drop (6 * n) (now (orders .exit)) ≡ drop (6 * n) (now (orders .entry))) ⌝ }
+    ensures { λ r. ⌜ (ordersIn (now (orders .exit)) r ≡ standing (take n (now (stands .entry))) (ordersIn (now (orders .entry)) n))
+        × (drop (6 * n) (now (orders .exit)) ≡ drop (6 * n) (now (orders .entry))) ⌝ }
 {
     let mut to: usize = 0;
     let mut k: usize = 0;
@@ -79,8 +85,11 @@ pub(crate) fn leave_rests(
     sold: &[u64],
     na: usize,
 ) -> usize
-    requires { ⌜ (6 * n ≤ length (now orders)) × (n ≤ 256) × (rising (numbers (ordersIn (now orders) n)) ≡ true) × Filling (now bids) (now bought) n nb × Filling (now asks) (now sold) n na ⌝ }
-    ensures { λ r. ⌜ (ordersIn (now (orders .exit)) r ≡ afterFills (fillsAt (now (orders .entry)) (now (asks .entry)) (now (sold .entry)) na) (afterFills (fillsAt (now (orders .entry)) (now (bids .entry)) (now (bought .entry)) nb) (ordersIn (now (orders .entry)) n))) × (drop (6 * n) (now (orders .exit)) ≡ drop (6 * n) (now (orders .entry))) ⌝ }
+    requires { ⌜ (6 * n ≤ length (now orders)) × (n ≤ 256) × (rising (numbers (ordersIn (now orders) n)) ≡ true) × Filling (now bids) (now bought) n nb
+        × Filling (now asks) (now sold) n na ⌝ }
+    ensures { λ r. ⌜ (ordersIn (now (orders .exit)) r ≡ afterFills (fillsAt (now (orders .entry)) (now (asks .entry)) (now (sold .entry)) na)
+        (afterFills (fillsAt (now (orders .entry)) (now (bids .entry)) (now (bought .entry)) nb) (ordersIn (now (orders .entry)) n)))
+        × (drop (6 * n) (now (orders .exit)) ≡ drop (6 * n) (now (orders .entry))) ⌝ }
 {
     let mut stands = [1u64; 256];
     take_fills(orders, n, &mut stands, bids, bought, nb);
@@ -96,8 +105,10 @@ pub(crate) fn leave_rest(
     amounts: &[u64],
     count: usize,
 ) -> usize
-    requires { ⌜ (6 * n ≤ length (now orders)) × (n ≤ 256) × (rising (numbers (ordersIn (now orders) n)) ≡ true) × Filling (now places) (now amounts) n count ⌝ }
-    ensures { λ r. ⌜ (ordersIn (now (orders .exit)) r ≡ afterFills (fillsAt (now (orders .entry)) (now (places .entry)) (now (amounts .entry)) count) (ordersIn (now (orders .entry)) n)) × (drop (6 * n) (now (orders .exit)) ≡ drop (6 * n) (now (orders .entry))) ⌝ }
+    requires { ⌜ (6 * n ≤ length (now orders)) × (n ≤ 256) × (rising (numbers (ordersIn (now orders) n)) ≡ true)
+        × Filling (now places) (now amounts) n count ⌝ }
+    ensures { λ r. ⌜ (ordersIn (now (orders .exit)) r ≡ afterFills (fillsAt (now (orders .entry)) (now (places .entry)) (now (amounts .entry)) count)
+        (ordersIn (now (orders .entry)) n)) × (drop (6 * n) (now (orders .exit)) ≡ drop (6 * n) (now (orders .entry))) ⌝ }
 {
     let mut stands = [1u64; 256];
     take_fills(orders, n, &mut stands, places, amounts, count);

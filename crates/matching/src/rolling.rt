@@ -28,7 +28,8 @@ pub struct Traded {
 // The side that an incoming order meets: opposite, of its period, and at a price that it can take.
 fn side_met(incoming: Order) -> Side
     requires { ⌜ incoming .direction < 2 ⌝ }
-    ensures { λ r. ⌜ (r .direction ≡ 1 - incoming .direction) × (r .period ≡ incoming .period) × (r .limit ≡ keyOf (1 - incoming .direction) (incoming .price .0)) ⌝ }
+    ensures { λ r. ⌜ (r .direction ≡ 1 - incoming .direction) × (r .period ≡ incoming .period)
+        × (r .limit ≡ keyOf (1 - incoming .direction) (incoming .price .0)) ⌝ }
 {
     let direction = 1 - incoming.direction;
     let limit = laying::key_of(direction, incoming.price.0);
@@ -75,7 +76,9 @@ fn match_at(
     count: usize,
 ) -> Energy
     requires { ⌜ (6 * p + 6 ≤ length (now orders)) × (p < 256) × (6 * count + 6 ≤ length (now rows)) × (count < 1000000) ⌝ }
-    ensures { λ x. ⌜ (x .0 ≡ min (left .0) (orderAt (now (orders .entry)) p .quantity)) × ((m : List ℕ) (rs : List RowRecord) → length rs ≡ count → now (rows .entry) ≡ written m rs → now (rows .exit) ≡ written m (rs ++ (matchRow (orderOf incoming) (record { order = orderAt (now (orders .entry)) p; quantity = x .0 }) ∷ []))) ⌝ }
+    ensures { λ x. ⌜ (x .0 ≡ min (left .0) (orderAt (now (orders .entry)) p .quantity))
+        × ((m : List ℕ) (rs : List RowRecord) → length rs ≡ count → now (rows .entry) ≡ written m rs → now (rows .exit)
+        ≡ written m (rs ++ (matchRow (orderOf incoming) (record { order = orderAt (now (orders .entry)) p; quantity = x .0 }) ∷ []))) ⌝ }
 {
     let o = orders::read(orders, p);
     let x = left.least(o.quantity);
@@ -93,8 +96,10 @@ fn meet_in_turn(
     taken: &mut [u64],
     rows: &mut [u64],
 ) -> Traded
-    requires { ⌜ (6 * n ≤ length (now orders)) × (n ≤ 256) × (rising (numbers (ordersIn (now orders) n)) ≡ true) × (incoming .direction < 2) × (n ≤ length (now met)) × (n ≤ length (now taken)) × (6 * n ≤ length (now rows)) ⌝ }
-    ensures { λ r. ⌜ MetInTurn (now (orders .entry)) n (orderOf incoming) (now (rows .entry)) (r .left .0) (r .count) (now (met .exit)) (now (taken .exit)) (now (rows .exit)) ⌝ }
+    requires { ⌜ (6 * n ≤ length (now orders)) × (n ≤ 256) × (rising (numbers (ordersIn (now orders) n)) ≡ true) × (incoming .direction < 2)
+        × (n ≤ length (now met)) × (n ≤ length (now taken)) × (6 * n ≤ length (now rows)) ⌝ }
+    ensures { λ r. ⌜ MetInTurn (now (orders .entry)) n (orderOf incoming) (now (rows .entry)) (r .left .0) (r .count) (now (met .exit)) (now (taken .exit))
+        (now (rows .exit)) ⌝ }
 {
     let mut keys = [0u64; 256];
     let mut places = [0u64; 256];

@@ -128,7 +128,8 @@ module _ {A : Type 0} where
 
   -- one element more
   pub table-more : (n : ℕ) (f : ℕ → A) → table (n + 1) f ≡ table n f ++ (f n ∷ [])
-  table-more n f = table-is (n + 1) f (table n f ++ (f n ∷ [])) (f 0) (length-append (table n f) (f n ∷ []) ∙ ap (λ (x : ℕ). x + 1) (table-length n f)) (λ k hk. at k hk (ℕ-discrete k n))
+  table-more n f = table-is (n + 1) f (table n f ++ (f n ∷ [])) (f 0) (length-append (table n f) (f n ∷ [])
+      ∙ ap (λ (x : ℕ). x + 1) (table-length n f)) (λ k hk. at k hk (ℕ-discrete k n))
     where
       at : (k : ℕ) → k < n + 1 → Dec (k ≡ n) → f k ≡ getD (table n f ++ (f n ∷ [])) k (f 0)
       at k hk (yes e) = rw e (sym (getD-at (table n f) (f n) [] (f 0) n (table-length n f)))
@@ -270,16 +271,19 @@ module _ {A : Type 0} where
     where
       go : (b : Bool) → all n (λ k. f (g k)) ≡ b → every f (table n g) ≡ all n (λ k. f (g k))
       go true e =
-          every-by f (table n g) (g 0) (λ i l. let h : i < n = omega (arith, table-length n g) in rw (table-at n g i (g 0) h) (all-at n (λ k. f (g k)) i e h)) ∙ sym e
+          every-by f (table n g) (g 0) (λ i l. let h : i < n = omega (arith, table-length n g) in rw (table-at n g i (g 0) h)
+          (all-at n (λ k. f (g k)) i e h)) ∙ sym e
       go false e =
           false-by (every f (table n g)) (λ t. not-both (all n (λ k. f (g k)))
-          (all-by n (λ k. f (g k)) (λ i h. let l : i < length (table n g) = rw (table-length n g) h in rw (table-at n g i (g 0) h) at (every-at f (table n g) i (g 0) t l))) e) ∙ sym e
+          (all-by n (λ k. f (g k)) (λ i h. let l : i < length (table n g) = rw (table-length n g) h in rw (table-at n g i (g 0) h) at
+          (every-at f (table n g) i (g 0) t l))) e) ∙ sym e
 
   pub keep-append : (f : A → Bool) (xs ys : List A) → keep f (xs ++ ys) ≡ keep f xs ++ keep f ys
   keep-append f [] ys = refl
   keep-append f (x ∷ xs) ys = go (f x) refl (keep-append f xs ys)
     where
-      go : (b : Bool) → f x ≡ b → keep f (xs ++ ys) ≡ keep f xs ++ keep f ys → cond (f x) (x ∷ keep f (xs ++ ys)) (keep f (xs ++ ys)) ≡ cond (f x) (x ∷ keep f xs) (keep f xs) ++ keep f ys
+      go : (b : Bool) → f x ≡ b → keep f (xs ++ ys) ≡ keep f xs ++ keep f ys → cond (f x) (x ∷ keep f (xs ++ ys)) (keep f (xs ++ ys))
+          ≡ cond (f x) (x ∷ keep f xs) (keep f xs) ++ keep f ys
       go true e ih = rw (e, ih)
       go false e ih = rw (e, ih)
 

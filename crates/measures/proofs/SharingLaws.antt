@@ -2,7 +2,23 @@
 use Prim.Native.Nat.{ℕ, zero, suc, _+_, _-_, _*_, _/_, _^_, _≤_, _<_}
 use mathlib.Core.Path.{_≡_, refl, sym, ap, ap₂, _∙_}
 use mathlib.Core.List.{List, [], _∷_, _++_, append-assoc}
-use native.Mathlib.Nat.{lt-of-le-of-lt, mul-le-mul, mul-le-mul-left, mul-le-mul-right, mul-add, add-zero, zero-add, add-assoc, mul-zero, zero-div, le-trans, div-mul-le-self, le-div-iff-mul-le, add-mul-div-left, mul-div-cancel}
+use native.Mathlib.Nat.{
+  lt-of-le-of-lt,
+  mul-le-mul,
+  mul-le-mul-left,
+  mul-le-mul-right,
+  mul-add,
+  add-zero,
+  zero-add,
+  add-assoc,
+  mul-zero,
+  zero-div,
+  le-trans,
+  div-mul-le-self,
+  le-div-iff-mul-le,
+  add-mul-div-left,
+  mul-div-cancel,
+}
 use native.Mathlib.Omega.{arith}
 use native.Mathlib.Numerals.{add-one}
 use lib.ListN.{length, getD, take, drop, set, drop-of-length-le, take-append-drop}
@@ -21,7 +37,8 @@ pub total-end : (l : List ℕ) (i : ℕ) → length l ≤ i → total (drop i l)
 total-end l i h = ap total (drop-of-length-le l h)
 
 -- a loop that writes v at i of the first n places: v joins what is written, and leaves what is to come
-pub put-next : (m : List ℕ) (i n v : ℕ) (ys : List ℕ) → i < n → n ≤ length m → take (i + 1) (set m i v) ++ (ys ++ drop n (set m i v)) ≡ take i m ++ ((v ∷ ys) ++ drop n m)
+pub put-next : (m : List ℕ) (i n v : ℕ) (ys : List ℕ) → i < n → n ≤ length m → take (i + 1) (set m i v) ++ (ys ++ drop n (set m i v)) ≡ take i m
+    ++ ((v ∷ ys) ++ drop n m)
 put-next m i n v ys h l =
     let h′ : i < length m = omega arith in
     rw (add-one, take-suc-set m i v, drop-set-lt n m i v) (append-assoc (take i m) (v ∷ []) (ys ++ drop n m))
@@ -44,7 +61,8 @@ upTo-step d R s r pos le =
     (div-mono R (d * (s + r)) (d * s + R * r) pos (rw mul-add (omega (arith, mul-le-mul-right r le))))
 
 -- the parts from the amount at i on: that amount's part, and the parts after it
-pub parts-next : (d R s : ℕ) (rs : List ℕ) (i : ℕ) → i < length rs → partsFrom d R s (drop i rs) ≡ (upTo d R (s + getD rs i 0) - upTo d R s) ∷ partsFrom d R (s + getD rs i 0) (drop (i + 1) rs)
+pub parts-next : (d R s : ℕ) (rs : List ℕ) (i : ℕ) → i < length rs → partsFrom d R s (drop i rs) ≡ (upTo d R (s + getD rs i 0) - upTo d R s)
+    ∷ partsFrom d R (s + getD rs i 0) (drop (i + 1) rs)
 parts-next d R s rs i h = rw (add-one, drop-cons rs i 0)
 
 pub parts-end : (d R s : ℕ) (rs : List ℕ) (i : ℕ) → length rs ≤ i → partsFrom d R s (drop i rs) ≡ []
@@ -110,13 +128,15 @@ within-all (p ∷ ps) (r ∷ rs) w e =
 pub parts-of-all : (rs : List ℕ) → 0 < total rs → parts (total rs) rs ≡ rs
 parts-of-all rs pos = within-all (parts (total rs) rs) rs (no-part-exceeds (total rs) rs pos (omega arith)) (parts-sum (total rs) rs pos)
 
-part-from : (d R s : ℕ) (rs : List ℕ) (j : ℕ) → j < length rs → getD (partsFrom d R s rs) j 0 ≡ upTo d R (s + total (take (suc j) rs)) - upTo d R (s + total (take j rs))
+part-from : (d R s : ℕ) (rs : List ℕ) (j : ℕ) → j < length rs → getD (partsFrom d R s rs) j 0
+    ≡ upTo d R (s + total (take (suc j) rs)) - upTo d R (s + total (take j rs))
 part-from d R s [] j h = absurd (omega arith)
 part-from d R s (r ∷ rs) zero h = simp add-zero
 part-from d R s (r ∷ rs) (suc j) h = part-from d R (s + r) rs j (omega arith) ∙ simp add-assoc
 
 -- "Part j is floor(d times Sj / R) less floor(d times Sj-1 / R)", for j from 0
-pub part-formula : (d : ℕ) (rs : List ℕ) (j : ℕ) → j < length rs → getD (parts d rs) j 0 ≡ d * total (take (j + 1) rs) / total rs - d * total (take j rs) / total rs
+pub part-formula : (d : ℕ) (rs : List ℕ) (j : ℕ) → j < length rs → getD (parts d rs) j 0
+    ≡ d * total (take (j + 1) rs) / total rs - d * total (take j rs) / total rs
 unfolding parts
 part-formula d rs j h = rw add-one (part-from d (total rs) 0 rs j h ∙ simp zero-add)
 
@@ -136,11 +156,14 @@ module _ (d : ℕ) (rs m : List ℕ) where
 
   pub is-over : length rs ≤ length m → 0 < d → total rs ≤ mostEnergy → total rs < d → Is (sharing d rs m) 9 m
   unfolding sharing
-  is-over room some small over = simp (le-ltb _ _ room, ne-eqb d 0 (omega arith), le-ltb _ _ small, lt-ltb _ _ over) (record { answer = refl; memory = refl })
+  is-over room some small over = simp (le-ltb _ _ room, ne-eqb d 0 (omega arith), le-ltb _ _ small, lt-ltb _ _ over)
+      (record { answer = refl; memory = refl })
 
-  pub is-shared : length rs ≤ length m → 0 < d → total rs ≤ mostEnergy → d ≤ total rs → {m′ : List ℕ} → m′ ≡ parts d rs ++ drop (length rs) m → Is (sharing d rs m) 0 m′
+  pub is-shared : length rs ≤ length m → 0 < d → total rs ≤ mostEnergy → d ≤ total rs → {m′ : List ℕ} → m′ ≡ parts d rs ++ drop (length rs) m
+      → Is (sharing d rs m) 0 m′
   unfolding sharing
-  is-shared room some small within e = simp (le-ltb _ _ room, ne-eqb d 0 (omega arith), le-ltb _ _ small, le-ltb _ _ within) (record { answer = refl; memory = e })
+  is-shared room some small within e = simp (le-ltb _ _ room, ne-eqb d 0 (omega arith), le-ltb _ _ small, le-ltb _ _ within)
+      (record { answer = refl; memory = e })
 
 -- what an answer of 0 tells
 pub record Accepted (d : ℕ) (rs m : List ℕ) : Type 0 where
@@ -153,7 +176,9 @@ pub accepted : (d : ℕ) (rs m : List ℕ) → 0 ≡ sharing d rs m .answer → 
 unfolding sharing
 accepted d rs m e = go (ltb (length m) (length rs)) (eqb d 0) (ltb mostEnergy (total rs)) (ltb (total rs) d) refl refl refl refl e
   where
-    go : (p q s t : Bool) → ltb (length m) (length rs) ≡ p → eqb d 0 ≡ q → ltb mostEnergy (total rs) ≡ s → ltb (total rs) d ≡ t → 0 ≡ cond p (refused 7 m) (cond q (refused 9 m) (cond s (refused 9 m) (cond t (refused 9 m) (record { answer = 0; memory = parts d rs ++ drop (length rs) m })))) .answer → Accepted d rs m
+    go : (p q s t : Bool) → ltb (length m) (length rs) ≡ p → eqb d 0 ≡ q → ltb mostEnergy (total rs) ≡ s → ltb (total rs) d ≡ t → 0
+        ≡ cond p (refused 7 m) (cond q (refused 9 m) (cond s (refused 9 m)
+        (cond t (refused 9 m) (record { answer = 0; memory = parts d rs ++ drop (length rs) m })))) .answer → Accepted d rs m
     go true q s t hp hq hs ht e = absurd (omega arith)
     go false true s t hp hq hs ht e = absurd (omega arith)
     go false false true t hp hq hs ht e = absurd (omega arith)

@@ -30,7 +30,8 @@ module _ (piece : List ℕ) (from end : ℕ) (e : EndsAt piece from end) where
       let a = e .after in
       let w = e .within in
       let s : from + (end - from) ≡ end = omega arith in
-      run-on (end - from) line (drop from piece) (omega (arith, length-drop from piece)) (λ k l q. e .none (from + k) (omega arith) (omega arith) (sym (getD-drop from piece k 0) ∙ q))
+      run-on (end - from) line (drop from piece) (omega (arith, length-drop from piece))
+      (λ k l q. e .none (from + k) (omega arith) (omega arith) (sym (getD-drop from piece k 0) ∙ q))
       ∙ ap (λ (l : List ℕ). running (line ++ take (end - from) (drop from piece)) l) (drop-drop (end - from) from piece ∙ ap (λ (k : ℕ). drop k piece) s)
 
   -- a line end begins a new line

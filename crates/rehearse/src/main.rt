@@ -53,7 +53,8 @@ fn answer_piece(
     rows: &mut RowMemory,
     out: &mut Text,
 ) -> Desk
-    ensures { λ r. ⌜ ((line : List ℕ) → Reads line (desk .reading) (now (numbers .entry)) → Reads (running line (now (piece .entry))) (r .reading) (now (numbers .exit))) ⌝ }
+    ensures { λ r. ⌜ ((line : List ℕ) → Reads line (desk .reading) (now (numbers .entry))
+        → Reads (running line (now (piece .entry))) (r .reading) (now (numbers .exit))) ⌝ }
 {
     let mut reading = desk.reading;
     let mut started = desk.started;

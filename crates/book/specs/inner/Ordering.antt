@@ -12,7 +12,23 @@ use Rattle.matching.specs.Rolling.{meet}
 use Rattle.book.specs.Book.{Book}
 use Rattle.book.specs.Opening.{bookWords}
 use Rattle.book.specs.Layout.{word, ordersPart, decode}
-use Rattle.book.specs.Refusals.{Check, firstOf, unknownUnit, fewRows, badPrice, badQuantity, badPeriod, badDirection, otherDirection, twoOpen, ordersFull, numbersUsed, hourMisfit, termMisfit, volumeMisfit}
+use Rattle.book.specs.Refusals.{
+  Check,
+  firstOf,
+  unknownUnit,
+  fewRows,
+  badPrice,
+  badQuantity,
+  badPeriod,
+  badDirection,
+  otherDirection,
+  twoOpen,
+  ordersFull,
+  numbersUsed,
+  hourMisfit,
+  termMisfit,
+  volumeMisfit,
+}
 use Rattle.book.specs.Order.{orderDeclares, newOrder, orderedInRolling}
 
 -- the checks of an order in three parts

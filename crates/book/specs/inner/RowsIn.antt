@@ -16,14 +16,34 @@ use Rattle.book.specs.Trades.{booked, rowBooked, rowsBooked}
 use Rattle.book.specs.Fit.{Declaration}
 use Rattle.book.specs.Offer.{raisingAmounts}
 use Rattle.book.specs.Take.{takenParts, takeChecks, takeRows, offerLess, offersLess}
-use Rattle.book.specs.Refusals.{Check, firstOf, unknownUnit, fewRows, badQuantity, noSuchOffer, canTake, cannotTake, hourMisfit, termMisfit, volumeMisfit}
+use Rattle.book.specs.Refusals.{
+  Check,
+  firstOf,
+  unknownUnit,
+  fewRows,
+  badQuantity,
+  noSuchOffer,
+  canTake,
+  cannotTake,
+  hourMisfit,
+  termMisfit,
+  volumeMisfit,
+}
 use Rattle.book.specs.Opening.{bookWords}
 use Rattle.book.specs.Layout.{word, amountAt, offerAt, decode}
 
 -- the row at place k of lent memory, and the first n rows
 abbrev pub rowAt : List ℕ → ℕ → Row
 rowAt m k =
-    record { way = getD m (6 * k) 0; period = getD m (6 * k + 1) 0; seller = getD m (6 * k + 2) 0; buyer = getD m (6 * k + 3) 0; quantity = getD m (6 * k + 4) 0; price = getD m (6 * k + 5) 0 }
+    record {
+      way = getD m (6 * k) 0;
+      period = getD m (6 * k + 1) 0;
+      seller = getD m (6 * k + 2) 0;
+      buyer = getD m (6 * k + 3) 0;
+      quantity = getD m
+          (6 * k + 4) 0;
+      price = getD m (6 * k + 5) 0;
+    }
 
 unfoldable pub rowsIn : List ℕ → ℕ → List Row
 rowsIn m n = table n (rowAt m)
@@ -144,13 +164,15 @@ pub record OfferLessened (m x : List ℕ) (j : ℕ) (ps : List ℕ) : Type 0 whe
 -- x is m after a take by unit u of parts l from the offer at place j, which stays; its rows stand in the lent memory
 pub record PartTaken (m x : List ℕ) (u j : ℕ) (l lent out : List ℕ) (k : ℕ) : Type 0 where
   pub rows : RowsPut lent out k (takeRows (decode m) (offerAt m (word m 0) j) u (take (24 * word m 0) l))
-  pub book : decode x ≡ rowsBooked (takeRows (decode m) (offerAt m (word m 0) j) u (take (24 * word m 0) l)) (withOffers (decode m) (set (decode m .offers) j (offerLess (offerAt m (word m 0) j) (take (24 * word m 0) l))))
+  pub book : decode x ≡ rowsBooked (takeRows (decode m) (offerAt m (word m 0) j) u (take (24 * word m 0) l))
+      (withOffers (decode m) (set (decode m .offers) j (offerLess (offerAt m (word m 0) j) (take (24 * word m 0) l))))
   pub past : drop (bookWords (word m 0)) x ≡ drop (bookWords (word m 0)) m
 
 -- x is m after a take of all that is left of the offer of number n at place j
 pub record WholeTaken (m x : List ℕ) (u n j : ℕ) (l lent out : List ℕ) (k : ℕ) : Type 0 where
   pub rows : RowsPut lent out k (takeRows (decode m) (offerAt m (word m 0) j) u (take (24 * word m 0) l))
-  pub book : decode x ≡ rowsBooked (takeRows (decode m) (offerAt m (word m 0) j) u (take (24 * word m 0) l)) (withOffers (decode m) (keep (λ (o : OpenOffer). not (eqb (o .number) n)) (decode m .offers)))
+  pub book : decode x ≡ rowsBooked (takeRows (decode m) (offerAt m (word m 0) j) u (take (24 * word m 0) l))
+      (withOffers (decode m) (keep (λ (o : OpenOffer). not (eqb (o .number) n)) (decode m .offers)))
   pub past : drop (bookWords (word m 0)) x ≡ drop (bookWords (word m 0)) m
 
 -- the lent parts are those of the take of a quantity of number n, with something behind them
@@ -161,6 +183,7 @@ pub record PartsLent (m : List ℕ) (n q : ℕ) (l : List ℕ) : Type 0 where
 
 -- x is m after the take of a quantity of number n, with its rows
 pub record TakeMade (m x : List ℕ) (u n q : ℕ) (lent out : List ℕ) (k : ℕ) : Type 0 where
-  pub book : decode x ≡ rowsBooked (takeRows (decode m) (offerOf (decode m) n) u (takenParts (decode m) n q)) (withOffers (decode m) (offersLess n (takenParts (decode m) n q) (decode m .offers)))
+  pub book : decode x ≡ rowsBooked (takeRows (decode m) (offerOf (decode m) n) u (takenParts (decode m) n q))
+      (withOffers (decode m) (offersLess n (takenParts (decode m) n q) (decode m .offers)))
   pub rows : RowsPut lent out k (takeRows (decode m) (offerOf (decode m) n) u (takenParts (decode m) n q))
   pub past : drop (bookWords (word m 0)) x ≡ drop (bookWords (word m 0)) m

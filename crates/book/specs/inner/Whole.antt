@@ -46,10 +46,14 @@ lowWith direction p price low = cond (not (eqb direction 1) && ltb price (getD l
 -- of each period and the first k orders: what is above each buy price and not above it needlessly, and what is not above
 -- any sell price and not below it needlessly
 pub record Prices (m : List ℕ) (k : ℕ) (high low : List ℕ) : Type 0 where
-  pub above : (p j : ℕ) → p < periods (word m 0) → j < k → word m (240 + 6 * j + 2) ≡ 1 → word m (240 + 6 * j + 3) ≡ p → word m (240 + 6 * j + 4) < getD high p 0
-  pub least : (p x : ℕ) → p < periods (word m 0) → ((j : ℕ) → j < k → word m (240 + 6 * j + 2) ≡ 1 → word m (240 + 6 * j + 3) ≡ p → word m (240 + 6 * j + 4) < x) → getD high p 0 ≤ x
-  pub below : (p j : ℕ) → p < periods (word m 0) → j < k → word m (240 + 6 * j + 2) ≡ 0 → word m (240 + 6 * j + 3) ≡ p → getD low p 0 ≤ word m (240 + 6 * j + 4)
-  pub most : (p x : ℕ) → p < periods (word m 0) → x ≤ 10_000_000 → ((j : ℕ) → j < k → word m (240 + 6 * j + 2) ≡ 0 → word m (240 + 6 * j + 3) ≡ p → x < word m (240 + 6 * j + 4)) → x < getD low p 0
+  pub above : (p j : ℕ) → p < periods (word m 0) → j < k → word m (240 + 6 * j + 2) ≡ 1 → word m (240 + 6 * j + 3) ≡ p → word m (240 + 6 * j + 4)
+      < getD high p 0
+  pub least : (p x : ℕ) → p < periods (word m 0) → ((j : ℕ) → j < k → word m (240 + 6 * j + 2) ≡ 1 → word m (240 + 6 * j + 3) ≡ p → word m (240 + 6 * j + 4)
+      < x) → getD high p 0 ≤ x
+  pub below : (p j : ℕ) → p < periods (word m 0) → j < k → word m (240 + 6 * j + 2) ≡ 0 → word m (240 + 6 * j + 3) ≡ p → getD low p 0
+      ≤ word m (240 + 6 * j + 4)
+  pub most : (p x : ℕ) → p < periods (word m 0) → x ≤ 10_000_000 → ((j : ℕ) → j < k → word m (240 + 6 * j + 2) ≡ 0 → word m (240 + 6 * j + 3) ≡ p → x
+      < word m (240 + 6 * j + 4)) → x < getD low p 0
 
 -- whether the orders at places k and j do not cross
 abbrev pub crossless : List ℕ → ℕ → ℕ → Bool

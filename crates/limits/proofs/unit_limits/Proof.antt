@@ -16,10 +16,12 @@ use Rattle.limits.proofs.Unit.volume_limit.Reads as volume-limit-reads
 use Rattle.measures.proofs.Energy.in_range.Reads as in-range-reads
 
 -- what `in_range` says of the asset, on either side of its test
-asset-out : (c : tie.Then7) → mostEnergy < c .before .before .before .before .before .before .before .before .before .before .before .before .args .unit .asset .0
+asset-out : (c : tie.Then7) → mostEnergy < c .before .before .before .before .before .before .before .before .before .before .before .before .args .unit
+    .asset .0
 asset-out c = leb-false _ _ (sym (c .before .in-range .ensures) ∙ not-true _ (c .if7 .taken))
 
-asset-in : (c : tie.Else7) → c .before .before .before .before .before .before .before .before .before .before .before .before .args .unit .asset .0 ≤ mostEnergy
+asset-in : (c : tie.Else7) → c .before .before .before .before .before .before .before .before .before .before .before .before .args .unit .asset .0
+    ≤ mostEnergy
 asset-in c = leb-true _ _ (sym (c .before .in-range .ensures) ∙ not-false _ (c .if7 .left))
 
 -- src/lib.rt:98:9

@@ -19,7 +19,8 @@ record Going (d R : ℕ) (rs m₀ m : List ℕ) (sum given i : ℕ) : Type 0 whe
   due : given ≡ upTo d R sum
   memory : take i m ++ (partsFrom d R sum (drop i rs) ++ drop (length rs) m) ≡ partsFrom d R 0 rs ++ drop (length rs) m₀
 
-going-again : (d R : ℕ) (rs m₀ m : List ℕ) (sum given i : ℕ) → Going d R rs m₀ m sum given i → i < length rs → length rs ≤ length m₀ → Going d R rs m₀ (set m i (d * (sum + getD rs i 0) / R - given)) (sum + getD rs i 0) (d * (sum + getD rs i 0) / R) (i + 1)
+going-again : (d R : ℕ) (rs m₀ m : List ℕ) (sum given i : ℕ) → Going d R rs m₀ m sum given i → i < length rs → length rs ≤ length m₀
+    → Going d R rs m₀ (set m i (d * (sum + getD rs i 0) / R - given)) (sum + getD rs i 0) (d * (sum + getD rs i 0) / R) (i + 1)
 going-again d R rs m₀ m sum given i v h l = record {
   at = omega arith;
   long = simp length-set (v .long);
@@ -31,7 +32,8 @@ going-again d R rs m₀ m sum given i v h l = record {
       ∙ (rw (parts-next d R sum rs i) at (v .memory)));
 }
 
-going-end : (d R : ℕ) (rs m₀ m : List ℕ) (sum given i : ℕ) → Going d R rs m₀ m sum given i → length rs ≤ i → R ≡ total rs → m ≡ parts d rs ++ drop (length rs) m₀
+going-end : (d R : ℕ) (rs m₀ m : List ℕ) (sum given i : ℕ) → Going d R rs m₀ m sum given i → length rs ≤ i → R ≡ total rs → m ≡ parts d rs
+    ++ drop (length rs) m₀
 unfolding parts
 going-end d R rs m₀ m sum given i v h e =
     let full : i ≡ length rs = omega arith in

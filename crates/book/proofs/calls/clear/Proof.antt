@@ -30,10 +30,21 @@ same-length-2 : tie.Need-same-length-2
 same-length-2 c = search needs
 
 returns-2 : tie.Need-returns-2
-returns-2 c = made-checked _ _ _ _ (sym (c .before .before .before .before .sound-book .ensures) ∙ not-false _ (c .before .before .before .if1 .left)) (c .before .clear-checks .ensures) (c .if2 .taken)
+returns-2 c =
+    let c3 = c .before .before .before in
+    let c4 = c3 .before in
+    made-checked _ _ _ _ (sym (c4 .sound-book .ensures) ∙ not-false _ (c3 .if1 .left)) (c .before .clear-checks .ensures) (c .if2 .taken)
 
 clear-effect-requires : tie.Need-clear-effect-requires
-clear-effect-requires c κs = ((sym (c .before .before .before .before .before .before .sound-book .ensures) ∙ not-false _ (c .before .before .before .before .before .if1 .left)), clear-passed (c .before .before .before .before .before .before .before .before .before .before .args .book .now) (length (c .before .before .before .before .before .before .before .before .before .before .args .rows .now)) (sym (c .before .before .if2 .left) ∙ c .before .before .before .clear-checks .ensures))
+clear-effect-requires c κs =
+    let c3 = c .before .before .before in
+    let c5 = c3 .before .before in
+    let c6 = c5 .before in
+    let c10 = c6 .before .before .before .before in (
+      (sym (c6 .sound-book .ensures) ∙ not-false _ (c5 .if1 .left)),
+      clear-passed (c10 .args .book .now) (length (c10 .args .rows .now))
+          (sym (c .before .before .if2 .left) ∙ c3 .clear-checks .ensures),
+    )
 
 same-length-3 : tie.Need-same-length-3
 same-length-3 c = search needs
@@ -43,8 +54,16 @@ same-length-4 c = search needs
 
 returns-3 : tie.Need-returns-3
 returns-3 c =
-    let w = c .before .before .before .before .clear-effect in
-    made-done _ _ (callClear (length (c .before .before .before .before .before .before .before .before .before .before .before .before .before .before .before .args .rows .now))) 0 _ _ _ _ _ (sym (c .before .before .before .before .before .before .before .before .before .before .before .sound-book .ensures) ∙ not-false _ (c .before .before .before .before .before .before .before .before .before .before .if1 .left)) (sym (c .before .before .before .before .before .before .before .if2 .left) ∙ c .before .before .before .before .before .before .before .before .clear-checks .ensures) refl (w .ensures .counted) (w .ensures .book) (w .ensures .handed) (w .ensures .past) (w .kept .0)
+    let c4 = c .before .before .before .before in
+    let c7 = c4 .before .before .before in
+    let c8 = c7 .before in
+    let c10 = c8 .before .before in
+    let c11 = c10 .before in
+    let c15 = c11 .before .before .before .before in
+    let w = c4 .clear-effect in
+    made-done _ _ (callClear (length (c15 .args .rows .now))) 0 _ _ _ _ _ (sym (c11 .sound-book .ensures)
+    ∙ not-false _ (c10 .if1 .left)) (sym (c7 .if2 .left) ∙ c8 .clear-checks .ensures) refl (w .ensures .counted) (w .ensures .book) (w .ensures .handed)
+    (w .ensures .past) (w .kept .0)
 
 pub clear-spec : {M : Type 1} → statement M
 clear-spec =

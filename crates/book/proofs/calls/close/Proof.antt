@@ -26,15 +26,19 @@ returns : tie.Need-returns
 returns c = made-unsound _ _ _ (sym (c .before .sound-book .ensures) ∙ not-true _ (c .if1 .taken))
 
 close-day-requires : tie.Need-close-day-requires
-close-day-requires c κs = let s = (sym (c .before .before .sound-book .ensures) ∙ not-false _ (c .before .if1 .left)) in (sound-readable _ s, sound-netting _ s)
+close-day-requires c κs = let s = (sym (c .before .before .sound-book .ensures)
+    ∙ not-false _ (c .before .if1 .left)) in (sound-readable _ s, sound-netting _ s)
 
 same-length-2 : tie.Need-same-length-2
 same-length-2 c = search needs
 
 returns-2 : tie.Need-returns-2
 returns-2 c =
+    let c4 = c .before .before .before .before in
+    let c5 = c4 .before in
     let w = c .before .before .close-day in
-    made-done _ [] callClose 0 [] _ 0 _ [] (sym (c .before .before .before .before .before .sound-book .ensures) ∙ not-false _ (c .before .before .before .before .if1 .left)) no-checks refl refl (w .ensures .0) (written-none []) (w .ensures .1) (w .kept .0)
+    made-done _ [] callClose 0 [] _ 0 _ [] (sym (c5 .sound-book .ensures)
+    ∙ not-false _ (c4 .if1 .left)) no-checks refl refl (w .ensures .0) (written-none []) (w .ensures .1) (w .kept .0)
 
 pub close-spec : {M : Type 1} → statement M
 close-spec =

@@ -20,7 +20,9 @@ use Rattle.book.proofs.calls.curve.Tie as tie
 is-sound : (c : tie.Else1) → soundIn (c .before .before .before .before .args .book .now) ≡ true
 is-sound c = sym (c .before .sound-book .ensures) ∙ not-false _ (c .if1 .left)
 
-passed : (c : tie.Else2) → (In 1 (word (c .before .before .before .before .before .before .args .book .now) 5) (c .before .before .before .before .before .before .args .unit)) × (48 ≤ length (c .before .before .before .before .before .before .args .points .now)) × (c .before .before .before .before .before .before .args .day < word (c .before .before .before .before .before .before .args .book .now) 0)
+passed : (c : tie.Else2) → (In 1 (word (c .before .before .before .before .before .before .args .book .now) 5)
+    (c .before .before .before .before .before .before .args .unit)) × (48 ≤ length (c .before .before .before .before .before .before .args .points .now))
+    × (c .before .before .before .before .before .before .args .day < word (c .before .before .before .before .before .before .args .book .now) 0)
 passed c = curve-passed _ _ _ _ (sym (c .if2 .left) ∙ c .before .curve-checks .ensures)
 
 sound-book-requires : tie.Need-sound-book-requires
@@ -49,10 +51,15 @@ same-length c = search needs
 
 returns-3 : tie.Need-returns-3
 returns-3 c =
-    let p = passed (c .before .before .before .before) in
-    let e : c .before .before .before .before .before .before .before .before .before .before .args .unit - 1 + 1 ≡ c .before .before .before .before .before .before .before .before .before .before .args .unit = omega arith in
-    curved-drawn _ _ _ _ _ (is-sound (c .before .before .before .before .before .before)) (sym (c .before .before .before .before .if2 .left) ∙ c .before .before .before .before .before .curve-checks .ensures)
-    (c .before .before .write-points .ensures ∙ ap (λ (u : ℕ). points (decode (c .before .before .before .before .before .before .before .before .before .before .args .book .now)) u (c .before .before .before .before .before .before .before .before .before .before .args .day) ++ drop 48 (c .before .before .before .before .before .before .before .before .before .before .args .points .now)) e)
+    let c4 = c .before .before .before .before in
+    let c5 = c4 .before in
+    let c6 = c5 .before in
+    let c10 = c6 .before .before .before .before in
+    let p = passed c4 in
+    let e : c10 .args .unit - 1 + 1 ≡ c10 .args .unit = omega arith in
+    curved-drawn _ _ _ _ _ (is-sound c6) (sym (c4 .if2 .left) ∙ c5 .curve-checks .ensures)
+    (c .before .before .write-points .ensures ∙ ap (λ (u : ℕ). points (decode (c10 .args .book .now)) u (c10 .args .day)
+    ++ drop 48 (c10 .args .points .now)) e)
 
 pub curve-spec : {M : Type 1} → statement M
 curve-spec =

@@ -32,31 +32,72 @@ same-length-2 : tie.Need-same-length-2
 same-length-2 c = search needs
 
 returns-2 : tie.Need-returns-2
-returns-2 c = made-checked _ _ _ _ (sym (c .before .before .before .before .sound-book .ensures) ∙ not-false _ (c .before .before .before .if1 .left)) (c .before .order-checks .ensures) (c .if2 .taken)
+returns-2 c =
+    let c3 = c .before .before .before in
+    let c4 = c3 .before in
+    made-checked _ _ _ _ (sym (c4 .sound-book .ensures) ∙ not-false _ (c3 .if1 .left)) (c .before .order-checks .ensures) (c .if2 .taken)
 
 slice-read-number : tie.Need-slice-read-number
-slice-read-number c = let r = sound-readable (c .before .before .before .before .before .before .before .before .before .args .book .now) (sym (c .before .before .before .before .before .sound-book .ensures) ∙ not-false _ (c .before .before .before .before .if1 .left)) in omega arith
+slice-read-number c =
+    let c4 = c .before .before .before .before in
+    let c5 = c4 .before in
+    let c9 = c5 .before .before .before .before in
+    let r = sound-readable (c9 .args .book .now) (sym (c5 .sound-book .ensures) ∙ not-false _ (c4 .if1 .left)) in omega arith
 
 add-number : tie.Need-add-number
-add-number c = let h = sound-head (c .before .before .before .before .before .before .before .before .before .args .book .now) (sym (c .before .before .before .before .before .sound-book .ensures) ∙ not-false _ (c .before .before .before .before .if1 .left)) in omega arith
+add-number c =
+    let c4 = c .before .before .before .before in
+    let c5 = c4 .before in
+    let c9 = c5 .before .before .before .before in
+    let h = sound-head (c9 .args .book .now) (sym (c5 .sound-book .ensures) ∙ not-false _ (c4 .if1 .left)) in omega arith
 
 slice-read-if3 : tie.Need-slice-read-if3
-slice-read-if3 c = let r = sound-readable (c .before .before .before .before .before .before .before .before .before .before .args .book .now) (sym (c .before .before .before .before .before .before .sound-book .ensures) ∙ not-false _ (c .before .before .before .before .before .if1 .left)) in omega arith
+slice-read-if3 c =
+    let c5 = c .before .before .before .before .before in
+    let c6 = c5 .before in
+    let c10 = c6 .before .before .before .before in
+    let r = sound-readable (c10 .args .book .now) (sym (c6 .sound-book .ensures) ∙ not-false _ (c5 .if1 .left)) in omega arith
 
 order-in-call-requires : tie.Need-order-in-call-requires
 order-in-call-requires c κs =
-    ((sym (c .before .before .before .before .before .before .before .before .sound-book .ensures) ∙ not-false _ (c .before .before .before .before .before .before .before .if1 .left)), orders-left (c .before .before .before .before .before .before .before .before .before .before .before .before .args .book .now) (c .before .before .before .before .before .before .before .before .before .before .before .before .args .rows .now) (c .before .before .before .before .before .before .before .before .before .before .before .before .args .unit) (c .before .before .before .before .before .before .before .before .before .before .before .before .args .direction) (c .before .before .before .before .before .before .before .before .before .before .before .before .args .period) (c .before .before .before .before .before .before .before .before .before .before .before .before .args .price) (c .before .before .before .before .before .before .before .before .before .before .before .before .args .quantity) (sym (c .before .before .before .before .before .before .before .before .sound-book .ensures) ∙ not-false _ (c .before .before .before .before .before .before .before .if1 .left)) (sym (c .before .before .before .before .if2 .left) ∙ c .before .before .before .before .before .order-checks .ensures), number-left (c .before .before .before .before .before .before .before .before .before .before .before .before .args .book .now) (c .before .before .before .before .before .before .before .before .before .before .before .before .args .rows .now) (c .before .before .before .before .before .before .before .before .before .before .before .before .args .unit) (c .before .before .before .before .before .before .before .before .before .before .before .before .args .direction) (c .before .before .before .before .before .before .before .before .before .before .before .before .args .period) (c .before .before .before .before .before .before .before .before .before .before .before .before .args .price) (c .before .before .before .before .before .before .before .before .before .before .before .before .args .quantity) (sym (c .before .before .before .before .before .before .before .before .sound-book .ensures) ∙ not-false _ (c .before .before .before .before .before .before .before .if1 .left)) (sym (c .before .before .before .before .if2 .left) ∙ c .before .before .before .before .before .order-checks .ensures))
+    let c4 = c .before .before .before .before in
+    let c5 = c4 .before in
+    let c7 = c5 .before .before in
+    let c8 = c7 .before in
+    let c12 = c8 .before .before .before .before in (
+      (sym (c8 .sound-book .ensures) ∙ not-false _ (c7 .if1 .left)),
+      orders-left (c12 .args .book .now) (c12 .args .rows .now) (c12 .args .unit)
+          (c12 .args .direction) (c12 .args .period) (c12 .args .price) (c12 .args .quantity) (sym (c8 .sound-book .ensures)
+          ∙ not-false _ (c7 .if1 .left)) (sym (c4 .if2 .left) ∙ c5 .order-checks .ensures),
+      number-left (c12 .args .book .now) (c12 .args .rows .now)
+          (c12 .args .unit) (c12 .args .direction) (c12 .args .period) (c12 .args .price) (c12 .args .quantity) (sym (c8 .sound-book .ensures)
+          ∙ not-false _ (c7 .if1 .left)) (sym (c4 .if2 .left) ∙ c5 .order-checks .ensures),
+    )
 
 same-length-3 : tie.Need-same-length-3
 same-length-3 c = search needs
 
 returns-3 : tie.Need-returns-3
 returns-3 c =
+    let c4 = c .before .before .before .before in
+    let c7 = c4 .before .before .before in
+    let c8 = c7 .before in
+    let c10 = c8 .before .before in
+    let c11 = c10 .before in
+    let c15 = c11 .before .before .before .before in
     let w = c .before .before .order-in-call in
-    made-done _ _ (callOrder (c .before .before .before .before .before .before .before .before .before .before .before .before .before .before .before .args .unit) (c .before .before .before .before .before .before .before .before .before .before .before .before .before .before .before .args .direction) (c .before .before .before .before .before .before .before .before .before .before .before .before .before .before .before .args .period) (c .before .before .before .before .before .before .before .before .before .before .before .before .before .before .before .args .price) (c .before .before .before .before .before .before .before .before .before .before .before .before .before .before .before .args .quantity) (length (c .before .before .before .before .before .before .before .before .before .before .before .before .before .before .before .args .rows .now))) _ [] _ 0 _ _ (sym (c .before .before .before .before .before .before .before .before .before .before .before .sound-book .ensures) ∙ not-false _ (c .before .before .before .before .before .before .before .before .before .before .if1 .left)) (sym (c .before .before .before .before .before .before .before .if2 .left) ∙ c .before .before .before .before .before .before .before .before .order-checks .ensures) (order-called _ (c .before .before .before .before .before .before .before .before .before .before .before .before .before .before .before .args .unit) (c .before .before .before .before .before .before .before .before .before .before .before .before .before .before .before .args .direction) (c .before .before .before .before .before .before .before .before .before .before .before .before .before .before .before .args .period) (c .before .before .before .before .before .before .before .before .before .before .before .before .before .before .before .args .price) (c .before .before .before .before .before .before .before .before .before .before .before .before .before .before .before .args .quantity) (length (c .before .before .before .before .before .before .before .before .before .before .before .before .before .before .before .args .rows .now)) (c .before .before .before .before .if3 .taken)) refl (w .ensures .0) (written-none _) (w .ensures .1) (w .kept .0)
+    made-done _ _ (callOrder (c15 .args .unit) (c15 .args .direction) (c15 .args .period) (c15 .args .price) (c15 .args .quantity)
+    (length (c15 .args .rows .now))) _ [] _ 0 _ _ (sym (c11 .sound-book .ensures) ∙ not-false _ (c10 .if1 .left)) (sym (c7 .if2 .left)
+    ∙ c8 .order-checks .ensures) (order-called _ (c15 .args .unit) (c15 .args .direction) (c15 .args .period) (c15 .args .price) (c15 .args .quantity)
+    (length (c15 .args .rows .now)) (c4 .if3 .taken)) refl (w .ensures .0) (written-none _) (w .ensures .1) (w .kept .0)
 
 order-in-rolling-requires : tie.Need-order-in-rolling-requires
-order-in-rolling-requires c κs = ((sym (c .before .before .before .before .before .before .before .before .before .sound-book .ensures) ∙ not-false _ (c .before .before .before .before .before .before .before .before .if1 .left)), (sym (c .before .before .before .before .before .if2 .left) ∙ c .before .before .before .before .before .before .order-checks .ensures))
+order-in-rolling-requires c κs =
+    let c5 = c .before .before .before .before .before in
+    let c6 = c5 .before in
+    let c8 = c6 .before .before in
+    let c9 = c8 .before in
+    ((sym (c9 .sound-book .ensures) ∙ not-false _ (c8 .if1 .left)), (sym (c5 .if2 .left) ∙ c6 .order-checks .ensures))
 
 same-length-4 : tie.Need-same-length-4
 same-length-4 c = search needs
@@ -66,8 +107,18 @@ same-length-5 c = search needs
 
 returns-4 : tie.Need-returns-4
 returns-4 c =
-    let w = c .before .before .before .before .order-in-rolling in
-    made-done _ _ (callOrder (c .before .before .before .before .before .before .before .before .before .before .before .before .before .before .before .before .before .before .args .unit) (c .before .before .before .before .before .before .before .before .before .before .before .before .before .before .before .before .before .before .args .direction) (c .before .before .before .before .before .before .before .before .before .before .before .before .before .before .before .before .before .before .args .period) (c .before .before .before .before .before .before .before .before .before .before .before .before .before .before .before .before .before .before .args .price) (c .before .before .before .before .before .before .before .before .before .before .before .before .before .before .before .before .before .before .args .quantity) (length (c .before .before .before .before .before .before .before .before .before .before .before .before .before .before .before .before .before .before .args .rows .now))) _ _ _ _ _ _ (sym (c .before .before .before .before .before .before .before .before .before .before .before .before .before .before .sound-book .ensures) ∙ not-false _ (c .before .before .before .before .before .before .before .before .before .before .before .before .before .if1 .left)) (sym (c .before .before .before .before .before .before .before .before .before .before .if2 .left) ∙ c .before .before .before .before .before .before .before .before .before .before .before .order-checks .ensures) (order-rolled _ (c .before .before .before .before .before .before .before .before .before .before .before .before .before .before .before .before .before .before .args .unit) (c .before .before .before .before .before .before .before .before .before .before .before .before .before .before .before .before .before .before .args .direction) (c .before .before .before .before .before .before .before .before .before .before .before .before .before .before .before .before .before .before .args .period) (c .before .before .before .before .before .before .before .before .before .before .before .before .before .before .before .before .before .before .args .price) (c .before .before .before .before .before .before .before .before .before .before .before .before .before .before .before .before .before .before .args .quantity) (length (c .before .before .before .before .before .before .before .before .before .before .before .before .before .before .before .before .before .before .args .rows .now)) (c .before .before .before .before .before .before .before .if3 .left)) (w .ensures .count) (w .ensures .book) (w .ensures .handed) (w .ensures .past) (w .kept .0)
+    let c4 = c .before .before .before .before in
+    let c7 = c4 .before .before .before in
+    let c10 = c7 .before .before .before in
+    let c11 = c10 .before in
+    let c13 = c11 .before .before in
+    let c14 = c13 .before in
+    let c18 = c14 .before .before .before .before in
+    let w = c4 .order-in-rolling in
+    made-done _ _ (callOrder (c18 .args .unit) (c18 .args .direction) (c18 .args .period) (c18 .args .price) (c18 .args .quantity)
+    (length (c18 .args .rows .now))) _ _ _ _ _ _ (sym (c14 .sound-book .ensures) ∙ not-false _ (c13 .if1 .left)) (sym (c10 .if2 .left)
+    ∙ c11 .order-checks .ensures) (order-rolled _ (c18 .args .unit) (c18 .args .direction) (c18 .args .period) (c18 .args .price) (c18 .args .quantity)
+    (length (c18 .args .rows .now)) (c7 .if3 .left)) (w .ensures .count) (w .ensures .book) (w .ensures .handed) (w .ensures .past) (w .kept .0)
 
 pub order-spec : {M : Type 1} → statement M
 order-spec =

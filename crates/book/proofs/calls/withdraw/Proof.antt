@@ -32,18 +32,35 @@ same-length-2 : tie.Need-same-length-2
 same-length-2 c = search needs
 
 returns-2 : tie.Need-returns-2
-returns-2 c = made-checked _ _ _ _ (sym (c .before .before .before .before .sound-book .ensures) ∙ not-false _ (c .before .before .before .if1 .left)) (c .before .withdraw-checks .ensures) (c .if2 .taken)
+returns-2 c =
+    let c3 = c .before .before .before in
+    let c4 = c3 .before in
+    made-checked _ _ _ _ (sym (c4 .sound-book .ensures) ∙ not-false _ (c3 .if1 .left)) (c .before .withdraw-checks .ensures) (c .if2 .taken)
 
 withdraw-effect-requires : tie.Need-withdraw-effect-requires
-withdraw-effect-requires c κs = ((sym (c .before .before .before .before .before .sound-book .ensures) ∙ not-false _ (c .before .before .before .before .if1 .left)), withdraw-open (decode (c .before .before .before .before .before .before .before .before .args .book .now)) (c .before .before .before .before .before .before .before .before .args .unit) (c .before .before .before .before .before .before .before .before .args .number) (sym (c .before .if2 .left) ∙ c .before .before .withdraw-checks .ensures))
+withdraw-effect-requires c κs =
+    let c4 = c .before .before .before .before in
+    let c5 = c4 .before in
+    let c8 = c5 .before .before .before in (
+      (sym (c5 .sound-book .ensures) ∙ not-false _ (c4 .if1 .left)),
+      withdraw-open (decode (c8 .args .book .now)) (c8 .args .unit) (c8 .args .number)
+          (sym (c .before .if2 .left) ∙ c .before .before .withdraw-checks .ensures),
+    )
 
 same-length-3 : tie.Need-same-length-3
 same-length-3 c = search needs
 
 returns-3 : tie.Need-returns-3
 returns-3 c =
+    let c4 = c .before .before .before .before in
+    let c5 = c4 .before in
+    let c7 = c5 .before .before in
+    let c8 = c7 .before in
+    let c11 = c8 .before .before .before in
     let w = c .before .before .withdraw-effect in
-    made-done _ [] (callWithdraw (c .before .before .before .before .before .before .before .before .before .before .before .args .unit) (c .before .before .before .before .before .before .before .before .before .before .before .args .number)) 0 [] _ 0 _ [] (sym (c .before .before .before .before .before .before .before .before .sound-book .ensures) ∙ not-false _ (c .before .before .before .before .before .before .before .if1 .left)) (sym (c .before .before .before .before .if2 .left) ∙ c .before .before .before .before .before .withdraw-checks .ensures) refl refl (w .ensures .0) (written-none []) (w .ensures .1) (w .kept .0)
+    made-done _ [] (callWithdraw (c11 .args .unit) (c11 .args .number)) 0 [] _ 0 _ [] (sym (c8 .sound-book .ensures)
+    ∙ not-false _ (c7 .if1 .left)) (sym (c4 .if2 .left) ∙ c5 .withdraw-checks .ensures) refl refl (w .ensures .0) (written-none []) (w .ensures .1)
+    (w .kept .0)
 
 pub withdraw-spec : {M : Type 1} → statement M
 withdraw-spec =

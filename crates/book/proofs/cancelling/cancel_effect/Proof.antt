@@ -16,10 +16,14 @@ ok : (c : tie.Start) → Readable (c .args .book .now)
 ok c = sound-readable _ (c .pre .0)
 
 found : (c : tie.After-order-place) → c .order-place .result < word (c .before .before .before .before .args .book .now) 7
-found c = order-placed _ (c .before .before .before .before .pre .0) _ (c .before .before .before .before .pre .1) (c .order-place .result) (c .order-place .ensures .0) (c .order-place .ensures .1)
+found c =
+    let c4 = c .before .before .before .before in
+    order-placed _ (c4 .pre .0) _ (c4 .pre .1) (c .order-place .result) (c .order-place .ensures .0) (c .order-place .ensures .1)
 
 long : (c : tie.After-slice-known3) → length (c .before .before .remove .last .0) ≡ 1536
-long c = let r = ok (c .before .before .before .before .before .before .before .before) in c .before .before .remove .kept .0 ∙ mid-len 240 1776 (c .before .before .before .before .before .before .before .before .args .book .now) (omega arith)
+long c =
+    let c8 = c .before .before .before .before .before .before .before .before in
+    let r = ok c8 in c .before .before .remove .kept .0 ∙ mid-len 240 1776 (c8 .args .book .now) (omega arith)
 
 slice-read-n : tie.Need-slice-read-n
 slice-read-n c = let r = ok (c .before .before) in omega arith
@@ -37,24 +41,31 @@ part-remove-end : tie.Need-part-remove-end
 part-remove-end c = let r = ok (c .before .before .before .before) in omega arith
 
 remove-requires : tie.Need-remove-requires
-remove-requires c κs = let r = ok (c .before .before .before .before .before) in let f = found (c .before) in (simp (length-take, length-drop) (omega arith), f, r .ordersTo)
+remove-requires c κs =
+    let c5 = c .before .before .before .before .before in
+    let r = ok c5 in let f = found (c .before) in (simp (length-take, length-drop) (omega arith), f, r .ordersTo)
 
 sub-book : tie.Need-sub-book
 sub-book c = let f = found (c .before .before .before .before) in omega arith
 
 slice-write-book : tie.Need-slice-write-book
-slice-write-book c = let r = ok (c .before .before .before .before .before .before .before .before) in omega arith
+slice-write-book c =
+    let c8 = c .before .before .before .before .before .before .before .before in
+    let r = ok c8 in omega arith
 
 same-length : tie.Need-same-length
 same-length c = search needs
 
 returns : tie.Need-returns
 returns c =
+    let c4 = c .before .before .before .before in
     let s = c .before .before .before .before .before .before .before .before in
-    let f = found (c .before .before .before .before) in
-    let w = c .before .before .before .before .order-place in (
-      cancelled (s .args .book .now) (c .before .before .remove .last .0) (s .args .number) (w .result) (s .pre .0) f (w .ensures .2 f) (long c) (c .before .before .remove .ensures .0),
-      cancelled-past (s .args .book .now) (c .before .before .remove .last .0) (s .args .number) (w .result) (s .pre .0) f (w .ensures .2 f) (long c) (c .before .before .remove .ensures .0),
+    let f = found c4 in
+    let w = c4 .order-place in (
+      cancelled (s .args .book .now) (c .before .before .remove .last .0) (s .args .number) (w .result) (s .pre .0) f (w .ensures .2 f) (long c)
+          (c .before .before .remove .ensures .0),
+      cancelled-past (s .args .book .now) (c .before .before .remove .last .0) (s .args .number) (w .result) (s .pre .0) f (w .ensures .2 f) (long c)
+          (c .before .before .remove .ensures .0),
     )
 
 pub cancel-effect-spec : {M : Type 1} → statement M

@@ -26,7 +26,9 @@ same-length : tie.Need-same-length
 same-length c = search needs
 
 returns : tie.Need-returns
-returns c = (closed-book _ _ (c .before .before .before .before .before .pre .0) (c .before .before .close-figures .ensures), closed-past _ _ (c .before .before .before .before .before .pre .0) (c .before .before .close-figures .ensures))
+returns c =
+    let c5 = c .before .before .before .before .before in
+    (closed-book _ _ (c5 .pre .0) (c .before .before .close-figures .ensures), closed-past _ _ (c5 .pre .0) (c .before .before .close-figures .ensures))
 
 pub close-day-spec : {M : Type 1} → statement M
 close-day-spec =

@@ -39,8 +39,9 @@ loop-less c = search needs
 
 loop-again : tie.Need-loop-again Inv-loop μ-loop
 loop-again c =
+    let c5 = c .before .before .before .before .before in
     let s = c .before .before .before .before .before .before .before .before in
-    let l = c .before .before .before .before .before .loop in
+    let l = c5 .loop in
     (omega arith, days-more _ _ _ _ (s .pre .0 .unitsTo) (l .inv .1) (c .before .before .close-period .ensures))
 
 same-length : tie.Need-same-length Inv-loop μ-loop

@@ -36,8 +36,9 @@ loop-less c = search needs
 
 loop-again : tie.Need-loop-again Inv-loop μ-loop
 loop-again c =
+    let c5 = c .before .before .before .before .before in
     let s = c .before .before .before .before .before .before .before .before in
-    let l = c .before .before .before .before .before .loop in
+    let l = c5 .loop in
     (omega arith, rw (c .before .before .close-cell .ensures) (over-more _ _ _ _ (omega arith) (l .inv .1)))
 
 same-length : tie.Need-same-length Inv-loop μ-loop

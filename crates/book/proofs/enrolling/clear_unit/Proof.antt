@@ -31,7 +31,10 @@ loop-less : tie.Need-loop-less Inv-loop μ-loop
 loop-less c = search needs
 
 loop-again : tie.Need-loop-again Inv-loop μ-loop
-loop-again c = rw (c .before .before .clear-cell .ensures) (clearing-more _ _ _ _ (c .before .before .before .before .before .before .before .before .pre .0) (c .before .before .before .before .before .before .before .before .pre .1) (omega arith) (c .before .before .before .before .before .loop .inv))
+loop-again c =
+    let c5 = c .before .before .before .before .before in
+    let c8 = c5 .before .before .before in
+    rw (c .before .before .clear-cell .ensures) (clearing-more _ _ _ _ (c8 .pre .0) (c8 .pre .1) (omega arith) (c5 .loop .inv))
 
 same-length : tie.Need-same-length Inv-loop μ-loop
 same-length c = search needs

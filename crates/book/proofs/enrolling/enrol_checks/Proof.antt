@@ -15,19 +15,29 @@ returns-3 : tie.Need-returns-3
 returns-3 c = let a = c .before .before .before .args in enrol-capacity (a .book .now) (a .kind) (a .capacity) (a .asset) (omega arith) (omega arith)
 
 returns-4 : tie.Need-returns-4
-returns-4 c = let a = c .before .before .before .before .args in enrol-capacity (a .book .now) (a .kind) (a .capacity) (a .asset) (omega arith) (omega arith)
+returns-4 c =
+    let c4 = c .before .before .before .before in
+    let a = c4 .args in enrol-capacity (a .book .now) (a .kind) (a .capacity) (a .asset) (omega arith) (omega arith)
 
 returns-5 : tie.Need-returns-5
-returns-5 c = let a = c .before .before .before .before .before .args in enrol-asset (a .book .now) (a .kind) (a .capacity) (a .asset) (omega arith) (omega arith) (omega arith)
+returns-5 c =
+    let c5 = c .before .before .before .before .before in
+    let a = c5 .args in enrol-asset (a .book .now) (a .kind) (a .capacity) (a .asset) (omega arith) (omega arith) (omega arith)
 
 shared-slice-read-if6 : tie.Need-shared-slice-read-if6
-shared-slice-read-if6 c = let r = sound-readable (c .before .before .before .before .before .before .args .book .now) (c .before .before .before .before .before .before .pre) in omega arith
+shared-slice-read-if6 c =
+    let c6 = c .before .before .before .before .before .before in
+    let r = sound-readable (c6 .args .book .now) (c6 .pre) in omega arith
 
 returns-6 : tie.Need-returns-6
-returns-6 c = let a = c .before .before .before .before .before .before .before .args in enrol-full (a .book .now) (a .kind) (a .capacity) (a .asset) (omega arith) (omega arith) (omega arith) (omega arith)
+returns-6 c =
+    let c7 = c .before .before .before .before .before .before .before in
+    let a = c7 .args in enrol-full (a .book .now) (a .kind) (a .capacity) (a .asset) (omega arith) (omega arith) (omega arith) (omega arith)
 
 returns-7 : tie.Need-returns-7
-returns-7 c = let a = c .before .before .before .before .before .before .before .args in enrol-passes (a .book .now) (a .kind) (a .capacity) (a .asset) (omega arith) (omega arith) (omega arith) (omega arith)
+returns-7 c =
+    let c7 = c .before .before .before .before .before .before .before in
+    let a = c7 .args in enrol-passes (a .book .now) (a .kind) (a .capacity) (a .asset) (omega arith) (omega arith) (omega arith) (omega arith)
 
 pub enrol-checks-spec : {M : Type 1} → statement M
 enrol-checks-spec =

@@ -27,7 +27,9 @@ mul-book-2 : tie.Need-mul-book-2
 mul-book-2 c = search needs
 
 slice-write-book : tie.Need-slice-write-book
-slice-write-book c = let r = ok (c .before .before .before .before .before .before) in omega arith
+slice-write-book c =
+    let c6 = c .before .before .before .before .before .before in
+    let r = ok c6 in omega arith
 
 mul-book-3 : tie.Need-mul-book-3
 mul-book-3 c = search needs
@@ -39,7 +41,9 @@ mul-book-4 : tie.Need-mul-book-4
 mul-book-4 c = search needs
 
 slice-write-book-2 : tie.Need-slice-write-book-2
-slice-write-book-2 c = let r = ok (c .before .before .before .before .before .before) in simp length-set (omega arith)
+slice-write-book-2 c =
+    let c6 = c .before .before .before .before .before .before in
+    let r = ok c6 in simp length-set (omega arith)
 
 mul-book-5 : tie.Need-mul-book-5
 mul-book-5 c = search needs
@@ -51,13 +55,17 @@ mul-book-6 : tie.Need-mul-book-6
 mul-book-6 c = search needs
 
 slice-write-book-3 : tie.Need-slice-write-book-3
-slice-write-book-3 c = let r = ok (c .before .before .before .before .before .before) in simp length-set (omega arith)
+slice-write-book-3 c =
+    let c6 = c .before .before .before .before .before .before in
+    let r = ok c6 in simp length-set (omega arith)
 
 add-book-4 : tie.Need-add-book-4
 add-book-4 c = search needs
 
 slice-write-book-4 : tie.Need-slice-write-book-4
-slice-write-book-4 c = let r = ok (c .before .before .before .before .before .before) in simp length-set (omega arith)
+slice-write-book-4 c =
+    let c6 = c .before .before .before .before .before .before in
+    let r = ok c6 in simp length-set (omega arith)
 
 same-length : tie.Need-same-length
 same-length c = simp length-set (c .before .before .clear-unit .kept .0)
@@ -67,8 +75,10 @@ returns c =
     let s = c .before .before .before .before .before .before in
     let a = s .args in
     let w = c .before .before .clear-unit in (
-      enrolled-in (a .book .now) (w .last .0) (a .kind) (a .capacity) (a .asset) (ok s) (s .pre .1) (w .kept .0) (w .ensures .0) (w .ensures .1) (w .ensures .2),
-      enrolled-past (a .book .now) (w .last .0) (a .kind) (a .capacity) (a .asset) (ok s) (s .pre .1) (w .kept .0) (w .ensures .0) (w .ensures .1) (w .ensures .2),
+      enrolled-in (a .book .now) (w .last .0) (a .kind) (a .capacity) (a .asset) (ok s) (s .pre .1) (w .kept .0) (w .ensures .0) (w .ensures .1)
+          (w .ensures .2),
+      enrolled-past (a .book .now) (w .last .0) (a .kind) (a .capacity) (a .asset) (ok s) (s .pre .1) (w .kept .0) (w .ensures .0) (w .ensures .1)
+          (w .ensures .2),
     )
 
 pub enrol-effect-spec : {M : Type 1} → statement M

@@ -62,7 +62,13 @@ add-totals-3 : tie.Need-add-totals-3 Inv-loop μ-loop
 add-totals-3 c =
     let l = c .before .before .before in
     let s = c .before .before .before .before .before .before .before in
-    omega (arith, l .loop .inv .1 .still (l .loop .p) (omega arith), s .pre .1 .1 (l .loop .p), amount-small (s .args .book .now) (s .args .j) (l .loop .p) (s .pre .0 .0) (s .pre .0 .1) (omega arith))
+    omega (
+      arith,
+      l .loop .inv .1 .still (l .loop .p) (omega arith),
+      s .pre .1 .1 (l .loop .p),
+      amount-small (s .args .book .now) (s .args .j) (l .loop .p)
+          (s .pre .0 .0) (s .pre .0 .1) (omega arith),
+    )
 
 mul-totals-4 : tie.Need-mul-totals-4 Inv-loop μ-loop
 mul-totals-4 c = search needs
@@ -84,8 +90,10 @@ same-length c = search needs
 
 returns-2 : tie.Need-returns-2 Inv-loop μ-loop
 returns-2 c =
+    let c3 = c .before .before .before in
     let s = c .before .before .before .before .before in
-    adding-ends _ _ _ _ _ (c .before .loop .p) _ (omega arith) (c .before .loop .inv .1) (λ i h. amount-small _ _ i (s .pre .0 .0) (s .pre .0 .1) h) (λ i. offer-own _ _ _ (c .before .before .before .if1 .left) i)
+    adding-ends _ _ _ _ _ (c .before .loop .p) _ (omega arith) (c .before .loop .inv .1) (λ i h. amount-small _ _ i (s .pre .0 .0) (s .pre .0 .1) h)
+    (λ i. offer-own _ _ _ (c3 .if1 .left) i)
 
 pub add-offer-spec : {M : Type 1} → statement M
 add-offer-spec =

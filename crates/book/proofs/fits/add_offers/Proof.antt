@@ -12,7 +12,8 @@ use Rattle.book.proofs.fits.add_offers.Statement.{statement}
 use Rattle.book.proofs.fits.add_offers.Tie as tie
 
 abbrev Inv-loop : tie.InvT-loop
-Inv-loop book unit totals₀ n j₀ totals j = (j ≤ word book 6) × (Added (periods (word book 0)) totals₀ totals (λ p. sum j (λ i. offerShare book unit i p)) (mostEnergy * j))
+Inv-loop book unit totals₀ n j₀ totals j = (j ≤ word book 6)
+    × (Added (periods (word book 0)) totals₀ totals (λ p. sum j (λ i. offerShare book unit i p)) (mostEnergy * j))
 
 abbrev μ-loop : tie.MeasureT-loop
 μ-loop book unit totals₀ n j₀ totals j = word book 6 - j
@@ -24,7 +25,9 @@ loop-holds : tie.Need-loop-holds Inv-loop μ-loop
 loop-holds c = (search needs, shares-none _ _ _)
 
 add-offer-requires : tie.Need-add-offer-requires Inv-loop μ-loop
-add-offer-requires c κs = ((search needs, search needs), (omega arith, λ i. omega (arith, c .before .before .loop .inv .1 .grown i, c .before .before .before .before .before .before .pre .1 .1 i)))
+add-offer-requires c κs =
+    let c6 = c .before .before .before .before .before .before in
+    ((search needs, search needs), (omega arith, λ i. omega (arith, c .before .before .loop .inv .1 .grown i, c6 .pre .1 .1 i)))
 
 add-j : tie.Need-add-j Inv-loop μ-loop
 add-j c = search needs
@@ -33,7 +36,9 @@ loop-less : tie.Need-loop-less Inv-loop μ-loop
 loop-less c = search needs
 
 loop-again : tie.Need-loop-again Inv-loop μ-loop
-loop-again c = (search needs, shares-more _ _ _ _ _ _ (c .before .before .before .before .before .loop .inv .1) (c .before .before .add-offer .ensures))
+loop-again c =
+    let c5 = c .before .before .before .before .before in
+    (search needs, shares-more _ _ _ _ _ _ (c5 .loop .inv .1) (c .before .before .add-offer .ensures))
 
 same-length : tie.Need-same-length Inv-loop μ-loop
 same-length c = search needs

@@ -51,10 +51,14 @@ shared-slice-read-p : tie.Need-shared-slice-read-p
 shared-slice-read-p c = search needs
 
 mul-totals : tie.Need-mul-totals
-mul-totals c = omega (arith, facts (c .before .before .before .before .before))
+mul-totals c =
+    let c5 = c .before .before .before .before .before in
+    omega (arith, facts c5)
 
 slice-read-totals : tie.Need-slice-read-totals
-slice-read-totals c = omega (arith, facts (c .before .before .before .before .before .before))
+slice-read-totals c =
+    let c6 = c .before .before .before .before .before .before in
+    omega (arith, facts c6)
 
 add-totals : tie.Need-add-totals
 add-totals c = search needs
@@ -71,18 +75,24 @@ add-totals-2 c =
     omega (arith, facts s, s .pre .1 .1 (word (s .args .book .now) (240 + 6 * s .args .k + 3)))
 
 mul-totals-3 : tie.Need-mul-totals-3
-mul-totals-3 c = omega (arith, facts (c .before .before .before .before .before .before .before))
+mul-totals-3 c =
+    let c7 = c .before .before .before .before .before .before .before in
+    omega (arith, facts c7)
 
 slice-write-totals : tie.Need-slice-write-totals
-slice-write-totals c = omega (arith, facts (c .before .before .before .before .before .before .before))
+slice-write-totals c =
+    let c7 = c .before .before .before .before .before .before .before in
+    omega (arith, facts c7)
 
 same-length : tie.Need-same-length
 same-length c = search needs
 
 returns-3 : tie.Need-returns-3
 returns-3 c =
+    let c3 = c .before .before .before in
+    let c5 = c3 .before .before in
     let s = c .before .before .before .before .before .before .before in
-    order-added _ _ _ _ (c .before .before .before .before .before .if1 .left) (c .before .before .before .if2 .left) _ _ (omega (arith, facts s)) (facts s .quantity .1)
+    order-added _ _ _ _ (c5 .if1 .left) (c3 .if2 .left) _ _ (omega (arith, facts s)) (facts s .quantity .1)
 
 pub add-order-spec : {M : Type 1} → statement M
 add-order-spec =

@@ -12,7 +12,8 @@ use Rattle.book.proofs.fits.add_orders.Statement.{statement}
 use Rattle.book.proofs.fits.add_orders.Tie as tie
 
 abbrev Inv-loop : tie.InvT-loop
-Inv-loop book unit way totals₀ n k₀ totals k = (k ≤ word book 7) × (Added (periods (word book 0)) totals₀ totals (λ p. sum k (λ i. orderShare book unit way i p)) (mostEnergy * k))
+Inv-loop book unit way totals₀ n k₀ totals k = (k ≤ word book 7)
+    × (Added (periods (word book 0)) totals₀ totals (λ p. sum k (λ i. orderShare book unit way i p)) (mostEnergy * k))
 
 abbrev μ-loop : tie.MeasureT-loop
 μ-loop book unit way totals₀ n k₀ totals k = word book 7 - k
@@ -25,8 +26,9 @@ loop-holds c = (search needs, shares-none _ _ _)
 
 add-order-requires : tie.Need-add-order-requires Inv-loop μ-loop
 add-order-requires c κs =
+    let c6 = c .before .before .before .before .before .before in
     let l = c .before .before in
-    ((search needs, search needs), (omega arith, λ i. omega (arith, l .loop .inv .1 .grown i, c .before .before .before .before .before .before .pre .1 .1 i)))
+    ((search needs, search needs), (omega arith, λ i. omega (arith, l .loop .inv .1 .grown i, c6 .pre .1 .1 i)))
 
 add-k : tie.Need-add-k Inv-loop μ-loop
 add-k c = search needs
@@ -35,7 +37,9 @@ loop-less : tie.Need-loop-less Inv-loop μ-loop
 loop-less c = search needs
 
 loop-again : tie.Need-loop-again Inv-loop μ-loop
-loop-again c = (search needs, shares-more _ _ _ _ _ _ (c .before .before .before .before .before .loop .inv .1) (c .before .before .add-order .ensures))
+loop-again c =
+    let c5 = c .before .before .before .before .before in
+    (search needs, shares-more _ _ _ _ _ _ (c5 .loop .inv .1) (c .before .before .add-order .ensures))
 
 same-length : tie.Need-same-length Inv-loop μ-loop
 same-length c = search needs

@@ -6,7 +6,18 @@ use native.Mathlib.Omega.{arith}
 use lib.ListN.{getD}
 use Rattle.book.specs.Layout.{word}
 use Rattle.book.specs.inner.Fitting.{wayHolds, hourHolds, termPart, volumePart}
-use Rattle.book.proofs.laws.check.PeriodLaws.{Passing, passing-none, passing-more, period-passed, hour-small, volume-at-most, came-early, came-term, came-volume, came-fits}
+use Rattle.book.proofs.laws.check.PeriodLaws.{
+  Passing,
+  passing-none,
+  passing-more,
+  period-passed,
+  hour-small,
+  volume-at-most,
+  came-early,
+  came-term,
+  came-volume,
+  came-fits,
+}
 use borrow.Author.Needs.{needs}
 use Rattle.book.proofs.fits.fit_of.Statement.{statement}
 use Rattle.book.proofs.fits.fit_of.Tie as tie
@@ -25,10 +36,14 @@ abbrev μ-loop : tie.MeasureT-loop
 μ-loop book k raising lowering most top whole₀ volume₀ p₀ whole volume p = 24 * word book 0 - p
 
 abbrev turn : tie.Else1 Inv-loop μ-loop → tie.At-loop Inv-loop μ-loop
-turn c = c .before .before .before .before .before
+turn c =
+    let c5 = c .before .before .before .before .before in
+    c5
 
 abbrev start : tie.Else1 Inv-loop μ-loop → tie.Start Inv-loop μ-loop
-start c = turn c .before .before .before .before .before .before
+start c =
+    let c6 = c .before .before .before .before .before .before in
+    turn c6
 
 -- what a period that passed says
 passed : (c : tie.Else1 Inv-loop μ-loop)
@@ -41,7 +56,8 @@ passed c = period-passed _ _ _ (c .before .period-fit .ensures) (c .if1 .left)
 
 little : (c : tie.Else1 Inv-loop μ-loop)
     → word (start c .args .book .now) (1776 + 328 * turn c .loop .p + 5 * start c .args .k)
-    + (word (start c .args .book .now) (1777 + 328 * turn c .loop .p + 5 * start c .args .k) + getD (start c .args .raising .now) (turn c .loop .p) 0) ≤ 5_000_000
+    + (word (start c .args .book .now) (1777 + 328 * turn c .loop .p + 5 * start c .args .k) + getD (start c .args .raising .now) (turn c .loop .p) 0)
+    ≤ 5_000_000
 little c = hour-small _ _ (start c .pre .0 .0) (start c .pre .0 .1) _ _ _ (passed c .1)
 
 bounds-of-requires : tie.Need-bounds-of-requires Inv-loop μ-loop
@@ -72,7 +88,9 @@ period-fit-requires : tie.Need-period-fit-requires Inv-loop μ-loop
 period-fit-requires c κs = search needs
 
 returns : tie.Need-returns Inv-loop μ-loop
-returns c = came-early _ _ _ _ _ _ _ (c .before .before .before .before .before .loop .p) _ (omega arith) (c .before .period-fit .ensures) (c .if1 .taken)
+returns c =
+    let c5 = c .before .before .before .before .before in
+    came-early _ _ _ _ _ _ _ (c5 .loop .p) _ (omega arith) (c .before .period-fit .ensures) (c .if1 .taken)
 
 mul-whole : tie.Need-mul-whole Inv-loop μ-loop
 mul-whole c = search needs
@@ -167,12 +185,15 @@ returns-2 : tie.Need-returns-2 Inv-loop μ-loop
 returns-2 c = came-term _ _ _ _ _ _ _ _ _ _ (c .before .before .before .loop .inv .1) (omega arith) (omega arith)
 
 returns-3 : tie.Need-returns-3 Inv-loop μ-loop
-returns-3 c = came-volume _ _ _ _ _ _ _ _ _ _ (c .before .before .before .before .before .loop .inv .1) (omega arith) (omega arith) (omega arith)
+returns-3 c =
+    let c5 = c .before .before .before .before .before in
+    came-volume _ _ _ _ _ _ _ _ _ _ (c5 .loop .inv .1) (omega arith) (omega arith) (omega arith)
 
 returns-4 : tie.Need-returns-4 Inv-loop μ-loop
 returns-4 c =
+    let c5 = c .before .before .before .before .before in
     let s = c .before .before .before .before .before .before .before .before .before .before .before in
-    came-fits _ _ _ _ _ _ _ _ _ _ (c .before .before .before .before .before .loop .inv .1) (omega arith) (omega arith) (omega arith) (volume-at-most _ _ (s .pre .0 .0) (s .pre .0 .1))
+    came-fits _ _ _ _ _ _ _ _ _ _ (c5 .loop .inv .1) (omega arith) (omega arith) (omega arith) (volume-at-most _ _ (s .pre .0 .0) (s .pre .0 .1))
 
 pub fit-of-spec : {M : Type 1} → statement M
 fit-of-spec =

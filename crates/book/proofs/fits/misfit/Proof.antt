@@ -30,10 +30,13 @@ sub-fit-of c = search needs
 
 fit-of-requires : tie.Need-fit-of-requires
 fit-of-requires c κs =
-    let s = c .before .before .before .before .before .before .before .before .before .before .before .before .before .before .before .before .before .before in
-    let a = c .before .before .before .before .before .before .before .before .before .before .before .before .add-offers .ensures in
-    let b = c .before .before .before .before .before .before .before .before .add-orders .ensures in
-    let d = c .before .before .before .before .add-orders2 .ensures in (
+    let c4 = c .before .before .before .before in
+    let c8 = c4 .before .before .before .before in
+    let c12 = c8 .before .before .before .before in
+    let s = c12 .before .before .before .before .before .before in
+    let a = c12 .add-offers .ensures in
+    let b = c8 .add-orders .ensures in
+    let d = c4 .add-orders2 .ensures in (
       (s .pre .0 .0, omega arith),
       (
         omega arith,

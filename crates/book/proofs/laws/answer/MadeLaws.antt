@@ -75,7 +75,8 @@ unfolding outcomeOn
 outcome-sound m c e = cond-true (enough m) (outcome (decode m) c) _ (sound-enough m e) refl
 
 -- the contract of a refused call, from what its outcome is
-pub made-refused : (m rows : List ℕ) (c : Call) (r : ℕ) → outcomeOn m c ≡ record { refusal = r; number = 0; rows = []; book = decode m } → (r ≡ 0 → ⊥) → Made m rows c (Refused r) m rows
+pub made-refused : (m rows : List ℕ) (c : Call) (r : ℕ) → outcomeOn m c ≡ record { refusal = r; number = 0; rows = []; book = decode m } → (r ≡ 0 → ⊥)
+    → Made m rows c (Refused r) m rows
 made-refused m rows c r e n = record {
   answer = rw e refl;
   refused = λ h. (refl, refl);
@@ -114,7 +115,8 @@ effectOf b (enrol kind capacity asset) = accepted (length (enrolled b kind capac
 effectOf b (offer unit partner price amounts) = accepted (nextNumber b) [] (offered b unit partner price amounts)
 effectOf b (take unit number quantity lent) =
     accepted 0 (takeRows b (offerOf b number) unit (takenParts b number quantity))
-    (rowsBooked (takeRows b (offerOf b number) unit (takenParts b number quantity)) (withOffers b (offersLess number (takenParts b number quantity) (b .offers))))
+    (rowsBooked (takeRows b (offerOf b number) unit (takenParts b number quantity))
+    (withOffers b (offersLess number (takenParts b number quantity) (b .offers))))
 effectOf b (withdraw unit number) = accepted 0 [] (withOffers b (keep (λ o. not (eqb (o .number) number)) (b .offers)))
 effectOf b (order unit direction period price quantity lent) =
     cond (eqb (b .phase) callPhase)
@@ -123,11 +125,13 @@ effectOf b (order unit direction period price quantity lent) =
 effectOf b (cancel unit number) = accepted 0 [] (withOrders b (keep (λ o. not (eqb (o .number) number)) (b .orders)))
 effectOf b (clear lent) =
     accepted 0 (clearFrom 0 (periods (b .days)) (b .orders) .rows)
-    (inPhase (rowsBooked (clearFrom 0 (periods (b .days)) (b .orders) .rows) (withOrders b (clearFrom 0 (periods (b .days)) (b .orders) .orders))) rollingPhase)
+    (inPhase (rowsBooked (clearFrom 0 (periods (b .days)) (b .orders) .rows) (withOrders b (clearFrom 0 (periods (b .days)) (b .orders) .orders)))
+    rollingPhase)
 effectOf b close = accepted 0 [] (dayClosed b)
 
 pub outcome-is : (b : Book) (c : Call) → outcome b c ≡ decided (firstOf (unsound b ∷ checksOf b c)) b (effectOf b c)
-unfolding enrolment enrolRefusal offering offerRefusal taking takeRefusal withdrawal withdrawRefusal ordering orderRefusal cancellation cancelRefusal clearing clearRefusal closing
+unfolding enrolment enrolRefusal offering offerRefusal taking takeRefusal withdrawal withdrawRefusal ordering orderRefusal cancellation cancelRefusal
+    clearing clearRefusal closing
 outcome-is b (enrol kind capacity asset) = refl
 outcome-is b (offer unit partner price amounts) = refl
 outcome-is b (take unit number quantity lent) = refl
@@ -152,7 +156,8 @@ made-unsound m rows c e = made-refused m rows c 1 (go (enough m) (sound (decode 
         and-true′ : enough m ≡ true → sound (decode m) ≡ true → (enough m && sound (decode m)) ≡ true
         and-true′ x y = rw (x, y) refl
 
-pub made-checked : (m rows : List ℕ) (c : Call) (r : ℕ) → soundIn m ≡ true → r ≡ firstOf (checksOf (decode m) c) → (r ≡ 0 → ⊥) → Made m rows c (Refused r) m rows
+pub made-checked : (m rows : List ℕ) (c : Call) (r : ℕ) → soundIn m ≡ true → r ≡ firstOf (checksOf (decode m) c) → (r ≡ 0 → ⊥)
+    → Made m rows c (Refused r) m rows
 made-checked m rows c r e f n =
     made-refused m rows c r
     (outcome-sound m c e ∙ outcome-is (decode m) c
@@ -171,12 +176,14 @@ made-done m rows c n rs b k m′ rows′ e f g =
     ∙ decided-accepted 0 (decode m) (effectOf (decode m) c) refl ∙ g)
 
 -- the numbers that enrol and offer return, in memory
-pub enrol-number : (m : List ℕ) (kind capacity asset : ℕ) → effectOf (decode m) (enrol kind capacity asset) ≡ accepted (word m 5 + 1) [] (enrolled (decode m) kind capacity asset)
+pub enrol-number : (m : List ℕ) (kind capacity asset : ℕ) → effectOf (decode m) (enrol kind capacity asset)
+    ≡ accepted (word m 5 + 1) [] (enrolled (decode m) kind capacity asset)
 enrol-number m kind capacity asset =
     ap (λ (n : ℕ). accepted n [] (enrolled (decode m) kind capacity asset))
     (length-append (decode m .units) _ ∙ ap (λ (n : ℕ). n + 1) (units-held m))
 
-pub offer-number : (m : List ℕ) (unit partner price : ℕ) (amounts : List ℕ) → effectOf (decode m) (offer unit partner price amounts) ≡ accepted (word m 4 + 1) [] (offered (decode m) unit partner price amounts)
+pub offer-number : (m : List ℕ) (unit partner price : ℕ) (amounts : List ℕ) → effectOf (decode m) (offer unit partner price amounts)
+    ≡ accepted (word m 4 + 1) [] (offered (decode m) unit partner price amounts)
 unfolding decode
 offer-number m unit partner price amounts = refl
 
@@ -193,10 +200,13 @@ clear-passed m lent e =
 
 -- the effect of an order in either phase
 module _ (m : List ℕ) (u d p price q lent : ℕ) where
-  pub order-called : word m 3 ≡ 0 → effectOf (decode m) (order u d p price q lent) ≡ accepted (word m 4 + 1) [] (orderedInCall (decode m) (newOrder (decode m) u d p price q) .book)
+  pub order-called : word m 3 ≡ 0 → effectOf (decode m) (order u d p price q lent)
+      ≡ accepted (word m 4 + 1) [] (orderedInCall (decode m) (newOrder (decode m) u d p price q) .book)
   unfolding decode
   order-called e = cond-true (eqb (word m 3) 0) _ _ (eq-eqb (word m 3) 0 e) refl
 
-  pub order-rolled : (word m 3 ≡ 0 → ⊥) → effectOf (decode m) (order u d p price q lent) ≡ accepted (word m 4 + 1) (meet (newOrder (decode m) u d p price q) (decode m .orders) .rows) (orderedInRolling (decode m) (newOrder (decode m) u d p price q) .book)
+  pub order-rolled : (word m 3 ≡ 0 → ⊥) → effectOf (decode m) (order u d p price q lent)
+      ≡ accepted (word m 4 + 1) (meet (newOrder (decode m) u d p price q) (decode m .orders) .rows)
+      (orderedInRolling (decode m) (newOrder (decode m) u d p price q) .book)
   unfolding decode
   order-rolled n = cond-false (eqb (word m 3) 0) _ _ (ne-eqb (word m 3) 0 n) refl

@@ -79,13 +79,15 @@ module _ (m : List ℕ) (s : soundIn m ≡ true) (n : ℕ) where
     unfolding firstOf
     cancel-absent h a = rw (units-held m) (rw (inside 1 (word m 5) u h, order-absent a) refl)
 
-    pub cancel-other : In 1 (word m 5) u → (k : ℕ) → k < word m 7 → word m (240 + 6 * k) ≡ n → (word m (241 + 6 * k) ≡ u → ⊥) → 11 ≡ firstOf (cancelChecks (decode m) u n)
+    pub cancel-other : In 1 (word m 5) u → (k : ℕ) → k < word m 7 → word m (240 + 6 * k) ≡ n → (word m (241 + 6 * k) ≡ u → ⊥) → 11
+        ≡ firstOf (cancelChecks (decode m) u n)
     unfolding firstOf
     cancel-other h k hk e ne =
         let w : getD (ordersPart m) (6 * k + 1) 0 ≡ word m (241 + 6 * k) = order-word m (6 * k + 1) (omega (arith, few)) ∙ ap (word m) (omega arith) in
         rw (units-held m) (rw (inside 1 (word m 5) u h, order-found k hk e, w, ne-eqb (word m (241 + 6 * k)) u ne) refl)
 
-    pub cancel-passes : In 1 (word m 5) u → (k : ℕ) → k < word m 7 → word m (240 + 6 * k) ≡ n → word m (241 + 6 * k) ≡ u → 0 ≡ firstOf (cancelChecks (decode m) u n)
+    pub cancel-passes : In 1 (word m 5) u → (k : ℕ) → k < word m 7 → word m (240 + 6 * k) ≡ n → word m (241 + 6 * k) ≡ u → 0
+        ≡ firstOf (cancelChecks (decode m) u n)
     unfolding firstOf
     cancel-passes h k hk e g =
         let w : getD (ordersPart m) (6 * k + 1) 0 ≡ word m (241 + 6 * k) = order-word m (6 * k + 1) (omega (arith, few)) ∙ ap (word m) (omega arith) in
@@ -102,7 +104,8 @@ pub cancel-open : (b : Book) (u n : ℕ) → 0 ≡ firstOf (cancelChecks b u n) 
 unfolding firstOf
 cancel-open b u n e = go (not (known b u)) (orderOpen b n) (eqb (orderOf b n .unit) u) refl refl refl e
   where
-    go : (p q r : Bool) → not (known b u) ≡ p → orderOpen b n ≡ q → eqb (orderOf b n .unit) u ≡ r → _≡_ {A = ℕ} 0 (cond p 6 (cond (not (q && r)) 11 0)) → orderOpen b n ≡ true
+    go : (p q r : Bool) → not (known b u) ≡ p → orderOpen b n ≡ q → eqb (orderOf b n .unit) u ≡ r → _≡_ {A = ℕ} 0 (cond p 6 (cond (not (q && r)) 11 0))
+        → orderOpen b n ≡ true
     go true q r ep eq er h = absurd (omega arith)
     go false false r ep eq er h = absurd (omega arith)
     go false true r ep eq er h = eq
@@ -125,10 +128,12 @@ module _ (m ys : List ℕ) (n k : ℕ) (s : soundIn m ≡ true) (hk : k < word m
   part : ordersPart (set (putMid 240 1536 m ys) 7 (word m 7 - 1)) ≡ ys
   part = ap (take 1536) (drop-set-lt 240 (putMid 240 1536 m ys) 7 (word m 7 - 1) (omega arith)) ∙ part-back 240 1776 m ys (omega arith) long same
 
-  pub cancelled : decode (set (putMid 240 1536 m ys) 7 (word m 7 - 1)) ≡ withOrders (decode m) (keep (λ (o : OpenOrder). not (eqb (o .number) n)) (decode m .orders))
+  pub cancelled : decode (set (putMid 240 1536 m ys) 7 (word m 7 - 1))
+      ≡ withOrders (decode m) (keep (λ (o : OpenOrder). not (eqb (o .number) n)) (decode m .orders))
   cancelled =
       let r = sound-readable m s in
-      orders-changed (set (putMid 240 1536 m ys) 7 (word m 7 - 1)) m (keep (λ (o : OpenOrder). not (eqb (o .number) n)) (decode m .orders)) (r .unitsTo) (r .offersTo) low high
+      orders-changed (set (putMid 240 1536 m ys) 7 (word m 7 - 1)) m (keep (λ (o : OpenOrder). not (eqb (o .number) n)) (decode m .orders)) (r .unitsTo)
+      (r .offersTo) low high
       (rw (count, part) (gone ∙ sym (order-gone m s n k hk e ∙ rw (orders-from m) refl)))
 
   pub cancelled-past : drop (bookWords (word m 0)) (set (putMid 240 1536 m ys) 7 (word m 7 - 1)) ≡ drop (bookWords (word m 0)) m
@@ -137,7 +142,8 @@ module _ (m ys : List ℕ) (n k : ℕ) (s : soundIn m ≡ true) (hk : k < word m
       ∙ drop-behind 240 1776 m ys (omega arith) long same (bookWords (word m 0)) (omega arith)
 
 -- the place that the search gives is an order's
-pub order-placed : (m : List ℕ) → soundIn m ≡ true → (n : ℕ) → orderOpen (decode m) n ≡ true → (k : ℕ) → k ≤ word m 7 → ((i : ℕ) → i < k → word m (240 + 6 * i) ≡ n → ⊥) → k < word m 7
+pub order-placed : (m : List ℕ) → soundIn m ≡ true → (n : ℕ) → orderOpen (decode m) n ≡ true → (k : ℕ) → k ≤ word m 7
+    → ((i : ℕ) → i < k → word m (240 + 6 * i) ≡ n → ⊥) → k < word m 7
 order-placed m s n o k le h = go (decLt k (word m 7))
   where
     go : Dec (k < word m 7) → k < word m 7

@@ -15,7 +15,21 @@ use Rattle.matching.specs.Orders.{Order as OpenOrder}
 use Rattle.matching.specs.Memory.{orderAt, ordersIn}
 use Rattle.book.specs.Book.{Figures, noFigures, Unit, OpenOffer, unitOf, figuresOf}
 use Rattle.book.specs.Trades.{raises, lowers}
-use Rattle.book.specs.Fit.{Declaration, nothing, unitFits, openOrders, openOffers, openRaising, openLowering, raisingToday, loweringToday, hourFits, termOf, termFits, volumeFits}
+use Rattle.book.specs.Fit.{
+  Declaration,
+  nothing,
+  unitFits,
+  openOrders,
+  openOffers,
+  openRaising,
+  openLowering,
+  raisingToday,
+  loweringToday,
+  hourFits,
+  termOf,
+  termFits,
+  volumeFits,
+}
 use Rattle.book.specs.Layout.{word, figuresAt, amountAt, offerAt, decode, ordersPart}
 use Rattle.book.specs.inner.Readable.{waysIn, unitWhole, declared, misfitOf, Fitted}
 use Rattle.book.specs.inner.Fitting.{Added, orderShare, offerShare, wayHolds, hourHolds, termPart, volumePart, termAt, volumeAt, UnitCame}
@@ -39,7 +53,8 @@ lowers-by kind d = go (generator kind)
 -- what is open, by places
 module _ (m : List ℕ) (u p : ℕ) where
   order-is : (f : ℕ → Bool) (way k : ℕ) → ((d : ℕ) → f d ≡ eqb d way) → k < 256
-      → cond (eqb (orderAt (ordersPart m) k .unit) u && eqb (orderAt (ordersPart m) k .period) p && f (orderAt (ordersPart m) k .direction)) (orderAt (ordersPart m) k .quantity) 0
+      → cond (eqb (orderAt (ordersPart m) k .unit) u && eqb (orderAt (ordersPart m) k .period) p
+      && f (orderAt (ordersPart m) k .direction)) (orderAt (ordersPart m) k .quantity) 0
       ≡ orderShare m u way k p
   unfolding orderShare
   order-is f way k e h = rw (e (orderAt (ordersPart m) k .direction), at 1 (omega arith), at 2 (omega arith), at 3 (omega arith), at 5 (omega arith))
@@ -79,7 +94,8 @@ tests-same a b c d x y z w e f g h = rw (e, f, g, h)
 module _ (m : List ℕ) (u : ℕ) (h : In 1 (word m 5) u) (d : Declaration) (up down : List ℕ)
     (ups : (p : ℕ) → p < periods (word m 0) → getD up p 0 ≡ d .raising p + openRaising (decode m) u p)
     (downs : (p : ℕ) → p < periods (word m 0) → getD down p 0 ≡ d .lowering p + openLowering (decode m) u p) where
-  term-same : (p : ℕ) → p < periods (word m 0) → termPart m (u - 1) p (getD up p 0) ≡ figuresOf (decode m) u p .held + (raisingToday (decode m) u p + d .raising p)
+  term-same : (p : ℕ) → p < periods (word m 0) → termPart m (u - 1) p (getD up p 0)
+      ≡ figuresOf (decode m) u p .held + (raisingToday (decode m) u p + d .raising p)
   unfolding termPart
   term-same p l =
       let f = figures-at m u h p l in
@@ -139,7 +155,8 @@ module _ (m : List ℕ) (u : ℕ) (h : In 1 (word m 5) u) (d : Declaration) (up 
 
 -- a unit that fits with nothing declared, by the totals of what is open
 pub whole-is : (m : List ℕ) (u : ℕ) → In 1 (word m 5) u → (up down : List ℕ)
-    → ((p : ℕ) → p < periods (word m 0) → getD up p 0 ≡ openRaising (decode m) u p) → ((p : ℕ) → p < periods (word m 0) → getD down p 0 ≡ openLowering (decode m) u p)
+    → ((p : ℕ) → p < periods (word m 0) → getD up p 0 ≡ openRaising (decode m) u p)
+    → ((p : ℕ) → p < periods (word m 0) → getD down p 0 ≡ openLowering (decode m) u p)
     → unitWhole (decode m) u
     ≡ (all (periods (word m 0)) (wayHolds m (u - 1))
     && holds
@@ -188,7 +205,8 @@ way-other true way e = omega arith
 way-other false way e = omega arith
 
 -- the passes over offers and orders, and then over the periods
-pub fitted-all : (m : List ℕ) (u way : ℕ) (l x y k z : List ℕ) (g e f r : ℕ) → In 1 (word m 5) u → word m 7 ≤ 256 → way ≡ cond (generator (unitOf (decode m) u .kind)) 0 1
+pub fitted-all : (m : List ℕ) (u way : ℕ) (l x y k z : List ℕ) (g e f r : ℕ) → In 1 (word m 5) u → word m 7 ≤ 256 → way
+    ≡ cond (generator (unitOf (decode m) u .kind)) 0 1
     → Added (periods (word m 0)) l x (λ p. sum (word m 6) (λ j. offerShare m u j p)) g
     → Added (periods (word m 0)) x y (λ p. sum (word m 7) (λ i. orderShare m u way i p)) e
     → Added (periods (word m 0)) k z (λ p. sum (word m 7) (λ i. orderShare m u (1 - way) i p)) f

@@ -22,7 +22,20 @@ use Rattle.book.specs.inner.Readable.{Ranged}
 use Rattle.book.specs.inner.Fitting.{Below, Added, orderShare, offerShare}
 use Rattle.book.specs.inner.Whole.{Latest, Linked, raisingWay, orderRaises, orderLowers, offersRaise, ordersRaise, ordersLower, BothAdded}
 use Rattle.book.proofs.laws.memory.RangeFacts.{OrderWords, kind-at}
-use Rattle.book.proofs.laws.check.ShareLaws.{order-words, offer-words, amount-small, added-none, placed, share-other, share-against, share-there, offer-other, offer-own, shares-more, shares-end}
+use Rattle.book.proofs.laws.check.ShareLaws.{
+  order-words,
+  offer-words,
+  amount-small,
+  added-none,
+  placed,
+  share-other,
+  share-against,
+  share-there,
+  offer-other,
+  offer-own,
+  shares-more,
+  shares-end,
+}
 use Rattle.book.proofs.laws.check.JoinLaws.{raises-by}
 
 -- the last order of a value: among none, with one more of the value, and with one more of another
@@ -62,7 +75,8 @@ linking-none m f last before k z =
       ofOrder = λ i l. absurd (omega arith);
     }
 
-pub linking-more : (m : List ℕ) (f : ℕ) (start last before : List ℕ) (k : ℕ) → Ranged m → k < word m 7 → word m (240 + 6 * k + f) < length start → Linking m f start last before k
+pub linking-more : (m : List ℕ) (f : ℕ) (start last before : List ℕ) (k : ℕ) → Ranged m → k < word m 7 → word m (240 + 6 * k + f) < length start
+    → Linking m f start last before k
     → Linking m f start (set last (word m (240 + 6 * k + f)) (k + 1)) (set before k (getD last (word m (240 + 6 * k + f)) 0)) (k + 1)
 linking-more m f start last before k r h in-start g =
     record {
@@ -125,7 +139,8 @@ offers-more m p l x j r hp hj n a = shares-more 64 l x _ (λ i k. offerShare m (
     other : (k : ℕ) → (k ≡ word m (201 + 5 * j) - 1 → ⊥) → offerShare m (k + 1) j p ≡ 0
     other k w = offer-other m _ j (λ e. w (omega arith)) p
 
-pub offers-end : (m : List ℕ) (p : ℕ) (l x : List ℕ) (j : ℕ) → Ranged m → j ≤ word m 6 → word m 6 ≤ j → OffersAdded m p l x j → Added 64 l x (offersRaise m p) 32_000_000_000
+pub offers-end : (m : List ℕ) (p : ℕ) (l x : List ℕ) (j : ℕ) → Ranged m → j ≤ word m 6 → word m 6 ≤ j → OffersAdded m p l x j
+    → Added 64 l x (offersRaise m p) 32_000_000_000
 unfolding offersRaise
 offers-end m p l x j r h k a =
     let t = r .readable .offersTo in
@@ -177,7 +192,8 @@ module _ (m : List ℕ) (i p : ℕ) (r : Ranged m) (h : i < word m 7) (e : word 
   back : word m (240 + 6 * i + 1) ≡ word m (240 + 6 * i + 1) - 1 + 1
   back = let u = facts .unit in omega arith
 
-  raises-there : word m (240 + 6 * i + 2) ≡ raisingWay m (word m (240 + 6 * i + 1) - 1) → orderRaises m i p (word m (240 + 6 * i + 1) - 1) ≡ word m (240 + 6 * i + 5)
+  raises-there : word m (240 + 6 * i + 2) ≡ raisingWay m (word m (240 + 6 * i + 1) - 1) → orderRaises m i p (word m (240 + 6 * i + 1) - 1)
+      ≡ word m (240 + 6 * i + 5)
   unfolding orderRaises
   raises-there w = share-there m _ _ i back w p e
 
@@ -185,7 +201,8 @@ module _ (m : List ℕ) (i p : ℕ) (r : Ranged m) (h : i < word m 7) (e : word 
   unfolding orderRaises
   raises-against w = share-against m _ _ i w p
 
-  lowers-there : (word m (240 + 6 * i + 2) ≡ raisingWay m (word m (240 + 6 * i + 1) - 1) → ⊥) → orderLowers m i p (word m (240 + 6 * i + 1) - 1) ≡ word m (240 + 6 * i + 5)
+  lowers-there : (word m (240 + 6 * i + 2) ≡ raisingWay m (word m (240 + 6 * i + 1) - 1) → ⊥) → orderLowers m i p (word m (240 + 6 * i + 1) - 1)
+      ≡ word m (240 + 6 * i + 5)
   unfolding orderLowers
   lowers-there w =
       let s = way-small m (word m (240 + 6 * i + 1) - 1) in
@@ -199,32 +216,38 @@ module _ (m : List ℕ) (i p : ℕ) (r : Ranged m) (h : i < word m 7) (e : word 
       share-against m _ _ i (λ z. omega arith) p
 
   -- nothing, where the unit's own place gets nothing
-  nothing-at : (l : List ℕ) (f : ℕ → ℕ) → f (word m (240 + 6 * i + 1) - 1) ≡ 0 → ((k : ℕ) → (word m (240 + 6 * i + 1) ≡ k + 1 → ⊥) → f k ≡ 0) → Added 64 l l f mostEnergy
+  nothing-at : (l : List ℕ) (f : ℕ → ℕ) → f (word m (240 + 6 * i + 1) - 1) ≡ 0 → ((k : ℕ) → (word m (240 + 6 * i + 1) ≡ k + 1 → ⊥) → f k ≡ 0)
+      → Added 64 l l f mostEnergy
   nothing-at l f z o = added-none 64 l f _ (λ k b. go k (ℕ-discrete k (word m (240 + 6 * i + 1) - 1)))
     where
       go : (k : ℕ) → Dec (k ≡ word m (240 + 6 * i + 1) - 1) → f k ≡ 0
       go k (yes w) = rw w z
       go k (no w) = o k (λ q. w (omega arith))
 
-  there-at : (l : List ℕ) (f : ℕ → ℕ) → length l ≡ 64 → f (word m (240 + 6 * i + 1) - 1) ≡ word m (240 + 6 * i + 5) → ((k : ℕ) → (word m (240 + 6 * i + 1) ≡ k + 1 → ⊥) → f k ≡ 0)
+  there-at : (l : List ℕ) (f : ℕ → ℕ) → length l ≡ 64 → f (word m (240 + 6 * i + 1) - 1) ≡ word m (240 + 6 * i + 5)
+      → ((k : ℕ) → (word m (240 + 6 * i + 1) ≡ k + 1 → ⊥) → f k ≡ 0)
       → Added 64 l (set l (word m (240 + 6 * i + 1) - 1) (getD l (word m (240 + 6 * i + 1) - 1) 0 + word m (240 + 6 * i + 5))) f mostEnergy
   there-at l f n z o =
       placed 64 l (word m (240 + 6 * i + 1) - 1) (word m (240 + 6 * i + 5)) f (room l n) (facts .quantity .1) z (λ k w. o k (λ q. w (omega arith)))
 
   module _ (x y : List ℕ) (b : Bool) (s : b ≡ raises (unitOf (decode m) (word m (240 + 6 * i + 1)) .kind) (word m (240 + 6 * i + 2))) where
     pub order-raised : length x ≡ 64 → b ≡ true
-        → BothAdded x y (set x (word m (240 + 6 * i + 1) - 1) (getD x (word m (240 + 6 * i + 1) - 1) 0 + word m (240 + 6 * i + 5))) y (orderRaises m i p) (orderLowers m i p) mostEnergy
+        → BothAdded x y (set x (word m (240 + 6 * i + 1) - 1) (getD x (word m (240 + 6 * i + 1) - 1) 0 + word m (240 + 6 * i + 5))) y (orderRaises m i p)
+        (orderLowers m i p) mostEnergy
     order-raised n t =
-        let w : word m (240 + 6 * i + 2) ≡ raisingWay m (word m (240 + 6 * i + 1) - 1) = eqb-true _ _ (sym (raises-way m (word m (240 + 6 * i + 1)) _ (facts .unit)) ∙ sym s ∙ t) in
+        let w : word m (240 + 6 * i + 2) ≡ raisingWay m (word m (240 + 6 * i + 1) - 1) = eqb-true _ _
+        (sym (raises-way m (word m (240 + 6 * i + 1)) _ (facts .unit)) ∙ sym s ∙ t) in
         record {
           raising = there-at x (orderRaises m i p) n (raises-there w) (raises-other m i p);
           lowering = nothing-at y (orderLowers m i p) (lowers-against w) (lowers-other m i p);
         }
 
     pub order-lowered : length y ≡ 64 → b ≡ false
-        → BothAdded x y x (set y (word m (240 + 6 * i + 1) - 1) (getD y (word m (240 + 6 * i + 1) - 1) 0 + word m (240 + 6 * i + 5))) (orderRaises m i p) (orderLowers m i p) mostEnergy
+        → BothAdded x y x (set y (word m (240 + 6 * i + 1) - 1) (getD y (word m (240 + 6 * i + 1) - 1) 0 + word m (240 + 6 * i + 5))) (orderRaises m i p)
+        (orderLowers m i p) mostEnergy
     order-lowered n t =
-        let w : (word m (240 + 6 * i + 2) ≡ raisingWay m (word m (240 + 6 * i + 1) - 1) → ⊥) = eqb-false _ _ (sym (raises-way m (word m (240 + 6 * i + 1)) _ (facts .unit)) ∙ sym s ∙ t) in
+        let w : (word m (240 + 6 * i + 2) ≡ raisingWay m (word m (240 + 6 * i + 1) - 1)
+        → ⊥) = eqb-false _ _ (sym (raises-way m (word m (240 + 6 * i + 1)) _ (facts .unit)) ∙ sym s ∙ t) in
         record {
           raising = nothing-at x (orderRaises m i p) (raises-against w) (raises-other m i p);
           lowering = there-at y (orderLowers m i p) n (lowers-there w) (lowers-other m i p);
@@ -261,7 +284,8 @@ walked-none f n l at h z =
       grown = λ k. omega arith;
     }
 
-walked-more : (f : ℕ → ℕ → ℕ) (n : ℕ) (l x y : List ℕ) (j t : ℕ) → j < 256 → t ≤ j → ((i k : ℕ) → t ≤ i → i < j → f i k ≡ 0) → Walked f n l x (j + 1) → Added 64 x y (f j) mostEnergy
+walked-more : (f : ℕ → ℕ → ℕ) (n : ℕ) (l x y : List ℕ) (j t : ℕ) → j < 256 → t ≤ j → ((i k : ℕ) → t ≤ i → i < j → f i k ≡ 0) → Walked f n l x (j + 1)
+    → Added 64 x y (f j) mostEnergy
     → Walked f n l y t
 walked-more f n l x y j t few h z w a =
     record {
@@ -270,11 +294,13 @@ walked-more f n l x y j t few h z w a =
       grown = λ k. grown k (a .grown k) (w .grown k);
     }
   where
-    each : (k : ℕ) → getD y k 0 ≡ getD x k 0 + f j k → getD x k 0 + sum (j + 1) (λ i. f i k) ≡ getD l k 0 + sum n (λ i. f i k) → sum (j + 1) (λ i. f i k) ≡ sum j (λ i. f i k) + f j k
+    each : (k : ℕ) → getD y k 0 ≡ getD x k 0 + f j k → getD x k 0 + sum (j + 1) (λ i. f i k) ≡ getD l k 0 + sum n (λ i. f i k) → sum (j + 1) (λ i. f i k)
+        ≡ sum j (λ i. f i k) + f j k
         → sum j (λ i. f i k) ≡ sum t (λ i. f i k) → getD y k 0 + sum t (λ i. f i k) ≡ getD l k 0 + sum n (λ i. f i k)
     each k u v s q = omega arith
 
-    grown : (k : ℕ) → getD y k 0 ≤ getD x k 0 + mostEnergy → getD x k 0 ≤ getD l k 0 + mostEnergy * (256 - (j + 1)) → getD y k 0 ≤ getD l k 0 + mostEnergy * (256 - t)
+    grown : (k : ℕ) → getD y k 0 ≤ getD x k 0 + mostEnergy → getD x k 0 ≤ getD l k 0 + mostEnergy * (256 - (j + 1)) → getD y k 0
+        ≤ getD l k 0 + mostEnergy * (256 - t)
     grown k u v = omega arith
 
 walked-ends : (f : ℕ → ℕ → ℕ) (n : ℕ) (l x : List ℕ) → Walked f n l x 0 → Added 64 l x (λ k. sum n (λ i. f i k)) 1_024_000_000_000
@@ -315,7 +341,8 @@ walking-more m p x₀ y₀ x y x′ y′ at t r h g a b = go (rw (g .own h) at a
         let o = r .readable .ordersTo in
         omega arith
 
-    go : Latest m 3 p t (at - 1) → Walked (λ i. orderRaises m i p) (word m 7) x₀ x (at - 1 + 1) → Walked (λ i. orderLowers m i p) (word m 7) y₀ y (at - 1 + 1) → Walking m p x₀ y₀ x′ y′ t
+    go : Latest m 3 p t (at - 1) → Walked (λ i. orderRaises m i p) (word m 7) x₀ x (at - 1 + 1)
+        → Walked (λ i. orderLowers m i p) (word m 7) y₀ y (at - 1 + 1) → Walking m p x₀ y₀ x′ y′ t
     go w u v =
         record {
           few = let q = w .to in let f = g .few in omega arith;
@@ -324,7 +351,8 @@ walking-more m p x₀ y₀ x y x′ y′ at t r h g a b = go (rw (g .own h) at a
           lowering = walked-more _ _ y₀ y y′ (at - 1) t small (w .to) (λ i k c d. lowers-apart m i p k (w .none i c d)) v (b .lowering);
         }
 
-pub walking-ends : (m : List ℕ) (p : ℕ) (x₀ y₀ x y : List ℕ) (at : ℕ) → at ≤ 0 → Walking m p x₀ y₀ x y at → BothAdded x₀ y₀ x y (ordersRaise m p) (ordersLower m p) 1_024_000_000_000
+pub walking-ends : (m : List ℕ) (p : ℕ) (x₀ y₀ x y : List ℕ) (at : ℕ) → at ≤ 0 → Walking m p x₀ y₀ x y at
+    → BothAdded x₀ y₀ x y (ordersRaise m p) (ordersLower m p) 1_024_000_000_000
 unfolding ordersRaise ordersLower
 walking-ends m p x₀ y₀ x y at h g =
     let e : at ≡ 0 = omega arith in

@@ -27,7 +27,8 @@ module _ (b : Book) (u : ℕ) where
   unfolding hourFits
   hour-ext d e p f g = rw (f, g)
 
-  pub misfit-ext : (d e : Declaration) → ((p : ℕ) → d .raising p ≡ e .raising p) → ((p : ℕ) → d .lowering p ≡ e .lowering p) → misfitOf b u d ≡ misfitOf b u e
+  pub misfit-ext : (d e : Declaration) → ((p : ℕ) → d .raising p ≡ e .raising p) → ((p : ℕ) → d .lowering p ≡ e .lowering p) → misfitOf b u d
+      ≡ misfitOf b u e
   unfolding misfitOf termFits volumeFits
   misfit-ext d e f g =
       let n = periods (b .days) in
@@ -46,7 +47,8 @@ module _ (b : Book) (u : ℕ) where
       volume p = rw (f p, g p)
 
   -- an hour without energy fits where the unit does
-  hour-alone : (d : Declaration) → unitFits b u ≡ true → (p : ℕ) → p < periods (b .days) → hourFits b u d p ≡ (eqb (d .raising p + d .lowering p) 0 || hourFits b u d p)
+  hour-alone : (d : Declaration) → unitFits b u ≡ true → (p : ℕ) → p < periods (b .days) → hourFits b u d p
+      ≡ (eqb (d .raising p + d .lowering p) 0 || hourFits b u d p)
   unfolding unitFits
   hour-alone d e p h = go (eqb (d .raising p + d .lowering p) 0) refl
     where

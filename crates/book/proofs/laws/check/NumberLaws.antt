@@ -53,11 +53,13 @@ climbing-rises m j h c = sym (rising-by (offerNumbers (decode m)) at)
         let t = c i (omega arith) in
         omega arith
 
-pub climbing-fails : (m : List ℕ) (j : ℕ) → 1 ≤ j → j < word m 6 → word m (200 + 5 * j) ≤ word m (200 + 5 * (j - 1)) → false ≡ rising (offerNumbers (decode m))
+pub climbing-fails : (m : List ℕ) (j : ℕ) → 1 ≤ j → j < word m 6 → word m (200 + 5 * j) ≤ word m (200 + 5 * (j - 1)) → false
+    ≡ rising (offerNumbers (decode m))
 climbing-fails m j one l h =
     let e : suc (j - 1) ≡ j = omega arith in
     let a = offer-number m (j - 1) (omega arith) in
-    let b : getD (offerNumbers (decode m)) (suc (j - 1)) 0 ≡ word m (200 + 5 * j) = ap (λ (x : ℕ). getD (offerNumbers (decode m)) x 0) e ∙ offer-number m j l in
+    let b : getD (offerNumbers (decode m)) (suc (j - 1)) 0 ≡ word m (200 + 5 * j) = ap (λ (x : ℕ). getD (offerNumbers (decode m)) x 0) e
+    ∙ offer-number m j l in
     sym (rising-fails (offerNumbers (decode m)) (j - 1) (omega (arith, offer-numbers-length m)) (omega arith))
 
 -- a number that no order has, by places
@@ -73,11 +75,13 @@ numbers-by-places m = every-table (λ (f : OpenOffer). numberFree (decode m) (f 
 
 -- the three tests together
 module _ (m : List ℕ) where
-  differ-facts : numbersDiffer (decode m) ≡ true → (rising (offerNumbers (decode m)) ≡ true) × (rising (numbers (decode m .orders)) ≡ true) × (numbersFree (decode m) ≡ true)
+  differ-facts : numbersDiffer (decode m) ≡ true → (rising (offerNumbers (decode m)) ≡ true) × (rising (numbers (decode m .orders)) ≡ true)
+      × (numbersFree (decode m) ≡ true)
   unfolding numbersDiffer numbersFree numberFree
   differ-facts e = let t = all-true _ e in (t .0, t .1 .0, t .1 .1 .0)
 
-  differ-holds : rising (offerNumbers (decode m)) ≡ true → rising (numbers (decode m .orders)) ≡ true → numbersFree (decode m) ≡ true → numbersDiffer (decode m) ≡ true
+  differ-holds : rising (offerNumbers (decode m)) ≡ true → rising (numbers (decode m .orders)) ≡ true → numbersFree (decode m) ≡ true
+      → numbersDiffer (decode m) ≡ true
   unfolding numbersDiffer numbersFree numberFree
   differ-holds e f g = holds-all _ (e, (f, (g, tt)))
 

@@ -9,7 +9,21 @@ use borrow.Author.Tests.{eq-eqb, ne-eqb, eqb-true, ltb-true, lt-ltb}
 use lib.ListN.{length, getD}
 use lib.Dec.{eqb, ltb}
 use Rattle.measures.specs.Lists.{every, all}
-use Rattle.measures.proofs.ListLaws.{and-true, and-left, and-right, or-left, or-right, or-other, not-both, not-fails, false-by, all-at, all-by, every-at, every-by}
+use Rattle.measures.proofs.ListLaws.{
+  and-true,
+  and-left,
+  and-right,
+  or-left,
+  or-right,
+  or-other,
+  not-both,
+  not-fails,
+  false-by,
+  all-at,
+  all-by,
+  every-at,
+  every-by,
+}
 use Rattle.matching.specs.Orders.{Order as OpenOrder, buys, sells}
 use Rattle.matching.specs.Memory.{orderAt, ordersIn, noOrder}
 use Rattle.matching.proofs.laws.orders.OrderLaws.{orders-length, orders-at}
@@ -27,7 +41,8 @@ one-way-holds a b h = go (ℕ-discrete (a .unit) (b .unit)) (ℕ-discrete (a .pe
     same : Bool
     same = eqb (a .unit) (b .unit) && eqb (a .period) (b .period)
 
-    go : Dec (a .unit ≡ b .unit) → Dec (a .period ≡ b .period) → (not (eqb (a .unit) (b .unit) && eqb (a .period) (b .period)) || eqb (a .direction) (b .direction)) ≡ true
+    go : Dec (a .unit ≡ b .unit) → Dec (a .period ≡ b .period)
+        → (not (eqb (a .unit) (b .unit) && eqb (a .period) (b .period)) || eqb (a .direction) (b .direction)) ≡ true
     go (yes u) (yes p) = or-right (not (eqb (a .unit) (b .unit) && eqb (a .period) (b .period))) _ (eq-eqb _ _ (h u p))
     go (yes u) (no p) = rw (ne-eqb (a .period) (b .period) p, eq-eqb (a .unit) (b .unit) u)
     go (no u) p = rw (ne-eqb (a .unit) (b .unit) u)
@@ -91,24 +106,34 @@ module _ (phase : ℕ) (os : List OpenOrder) where
   unfolding pairsFit eachTwo
   pairs-hold h =
       and-true (every (λ (a : OpenOrder). every (oneWay a) os) os) _
-      (every-by (λ (a : OpenOrder). every (oneWay a) os) os noOrder (λ k l. every-by (oneWay (getD os k noOrder)) os noOrder (λ j m. one-way-holds (getD os k noOrder) (getD os j noOrder) (h k j l m .way))))
+      (every-by (λ (a : OpenOrder). every (oneWay a) os) os noOrder
+      (λ k l. every-by (oneWay (getD os k noOrder)) os noOrder (λ j m. one-way-holds (getD os k noOrder) (getD os j noOrder) (h k j l m .way))))
       (go (ℕ-discrete phase 1))
     where
       go : Dec (phase ≡ 1) → (not (eqb phase 1) || every (λ (a : OpenOrder). every (apart a) os) os) ≡ true
       go (yes e) =
           or-right (not (eqb phase 1)) _
-          (every-by (λ (a : OpenOrder). every (apart a) os) os noOrder (λ k l. every-by (apart (getD os k noOrder)) os noOrder (λ j m. apart-holds (getD os k noOrder) (getD os j noOrder) (h k j l m .buy e))))
+          (every-by (λ (a : OpenOrder). every (apart a) os) os noOrder
+          (λ k l. every-by (apart (getD os k noOrder)) os noOrder (λ j m. apart-holds (getD os k noOrder) (getD os j noOrder) (h k j l m .buy e))))
       go (no e) = rw (ne-eqb phase 1 e)
 
   pub pairs-fact : pairsFit phase os ≡ true → Together
   unfolding pairsFit eachTwo
   pairs-fact e k j l m =
-      let w : every (λ (a : OpenOrder). every (oneWay a) os) os ≡ true = and-left (every (λ (a : OpenOrder). every (oneWay a) os) os) (not (eqb phase 1) || every (λ (a : OpenOrder). every (apart a) os) os) e in
-      let r : (not (eqb phase 1) || every (λ (a : OpenOrder). every (apart a) os) os) ≡ true = and-right (every (λ (a : OpenOrder). every (oneWay a) os) os) (not (eqb phase 1) || every (λ (a : OpenOrder). every (apart a) os) os) e in
+      let w : every (λ (a : OpenOrder). every (oneWay a) os) os ≡ true = and-left (every (λ (a : OpenOrder). every (oneWay a) os) os) (not (eqb phase 1)
+      || every (λ (a : OpenOrder). every (apart a) os) os) e in
+      let r : (not (eqb phase 1) || every (λ (a : OpenOrder). every (apart a) os) os)
+      ≡ true = and-right (every (λ (a : OpenOrder). every (oneWay a) os) os) (not (eqb phase 1)
+      || every (λ (a : OpenOrder). every (apart a) os) os) e in
       record {
-        way = one-way-fact (getD os k noOrder) (getD os j noOrder) (every-at (oneWay (getD os k noOrder)) os j noOrder (every-at (λ (a : OpenOrder). every (oneWay a) os) os k noOrder w l) m);
-        buy = λ z. apart-fact (getD os k noOrder) (getD os j noOrder) (every-at (apart (getD os k noOrder)) os j noOrder (every-at (λ (a : OpenOrder). every (apart a) os) os k noOrder (rw (eq-eqb phase 1 z) at r) l) m);
-        sale = λ z. apart-fact (getD os j noOrder) (getD os k noOrder) (every-at (apart (getD os j noOrder)) os k noOrder (every-at (λ (a : OpenOrder). every (apart a) os) os j noOrder (rw (eq-eqb phase 1 z) at r) m) l);
+        way = one-way-fact (getD os k noOrder) (getD os j noOrder)
+            (every-at (oneWay (getD os k noOrder)) os j noOrder (every-at (λ (a : OpenOrder). every (oneWay a) os) os k noOrder w l) m);
+        buy = λ z. apart-fact (getD os k noOrder) (getD os j noOrder)
+            (every-at (apart (getD os k noOrder)) os j noOrder
+            (every-at (λ (a : OpenOrder). every (apart a) os) os k noOrder (rw (eq-eqb phase 1 z) at r) l) m);
+        sale = λ z. apart-fact (getD os j noOrder) (getD os k noOrder)
+            (every-at (apart (getD os j noOrder)) os k noOrder
+            (every-at (λ (a : OpenOrder). every (apart a) os) os j noOrder (rw (eq-eqb phase 1 z) at r) m) l);
       }
 
 -- each with those before it is enough

@@ -37,7 +37,8 @@ module _ (m : List ℕ) (k p x y : ℕ) where
   pub hour-facts : hourHolds m k p x y ≡ true → HourFacts
   unfolding hourHolds
   hour-facts t =
-      let a = leb (word m (1776 + 328 * p + 5 * k) + (word m (1777 + 328 * p + 5 * k) + x)) (hourLimit (word m (8 + 3 * k)) (word m (9 + 3 * k)) (hourOf p)) in
+      let a = leb (word m (1776 + 328 * p + 5 * k) + (word m (1777 + 328 * p + 5 * k) + x))
+      (hourLimit (word m (8 + 3 * k)) (word m (9 + 3 * k)) (hourOf p)) in
       let b = leb (word m (1778 + 328 * p + 5 * k) + y) (word m (1776 + 328 * p + 5 * k)) in
       (leb-true _ _ (and-left a b t), leb-true _ _ (and-right a b t))
 
@@ -71,7 +72,8 @@ module _ (m : List ℕ) (k : ℕ) (r : Ranged m) (h : k < word m 5) where
   bounds-given kind capacity asset e f g l a =
       let u = unit-words m k r h in
       let d = r .readable in
-      (rw (e, f, g) at a) ∙ sym (all-in (word m 0) (word m (8 + 3 * k)) (word m (9 + 3 * k)) (word m (10 + 3 * k)) 0 (omega arith) (u .kind) (u .capacity) (u .asset) (omega arith))
+      (rw (e, f, g) at a) ∙ sym (all-in (word m 0) (word m (8 + 3 * k)) (word m (9 + 3 * k)) (word m (10 + 3 * k)) 0 (omega arith) (u .kind) (u .capacity)
+      (u .asset) (omega arith))
 
   pub hour-small : (p x y : ℕ) → hourHolds m k p x y ≡ true → word m (1776 + 328 * p + 5 * k) + (word m (1777 + 328 * p + 5 * k) + x) ≤ 5_000_000
   hour-small p x y t =
@@ -111,7 +113,14 @@ pub record Passing (ways hours : ℕ → Bool) (term volume : ℕ → ℕ) (p t 
 module _ (ways hours : ℕ → Bool) (term volume : ℕ → ℕ) where
   pub passing-none : Passing ways hours term volume 0 0 0
   passing-none =
-      record { waysSo = all-none ways; hoursSo = all-none hours; whole = sym (sum-none term); little = omega arith; traded = let s = sum-none volume in omega arith }
+      record {
+        waysSo = all-none ways;
+        hoursSo = all-none hours;
+        whole = sym (sum-none term);
+        little = omega arith;
+        traded = let s = sum-none volume in
+            omega arith;
+      }
 
   pub passing-more : (p t v s w : ℕ) → Passing ways hours term volume p t v → ways p ≡ true → hours p ≡ true → s ≡ t + term p → term p ≤ 5_000_000
       → w ≡ min (v + volume p) 4_800_000_001 → Passing ways hours term volume (p + 1) s w
@@ -121,7 +130,14 @@ module _ (ways hours : ℕ → Bool) (term volume : ℕ → ℕ) where
       let z = g .whole in
       let i = g .little in
       let q = g .traded in
-      record { waysSo = all-more p ways (g .waysSo) a; hoursSo = all-more p hours (g .hoursSo) b; whole = omega arith; little = omega arith; traded = omega arith }
+      record {
+        waysSo = all-more p ways (g .waysSo) a;
+        hoursSo = all-more p hours (g .hoursSo) b;
+        whole = omega arith;
+        little = omega arith;
+        traded = omega
+            arith;
+      }
 
   module _ (n termMost volumeMost : ℕ) where
     -- a period that does not fit

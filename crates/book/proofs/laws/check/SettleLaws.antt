@@ -15,7 +15,27 @@ use Rattle.limits.specs.Limits.{hourOf, hourLimit}
 use Rattle.book.specs.Layout.{word}
 use Rattle.book.specs.inner.Readable.{Ranged}
 use Rattle.book.specs.inner.Fitting.{Below, Added, orderShare, offerShare, wayHolds, hourHolds, termPart, volumePart, periodMisfit}
-use Rattle.book.specs.inner.Whole.{Latest, raisingWay, orderRaises, orderLowers, offersRaise, ordersRaise, ordersLower, cellHolds, CellsDone, openUp, openDown, Waiting, NoneWaits, Settled, Settling, Settles, OffersSettled, OrdersSettled, OpenAdded}
+use Rattle.book.specs.inner.Whole.{
+  Latest,
+  raisingWay,
+  orderRaises,
+  orderLowers,
+  offersRaise,
+  ordersRaise,
+  ordersLower,
+  cellHolds,
+  CellsDone,
+  openUp,
+  openDown,
+  Waiting,
+  NoneWaits,
+  Settled,
+  Settling,
+  Settles,
+  OffersSettled,
+  OrdersSettled,
+  OpenAdded,
+}
 use Rattle.book.proofs.laws.check.ShareLaws.{getD-past, share-other, offer-other}
 use Rattle.book.proofs.laws.check.PeriodLaws.{hour-facts, period-passed, period-failed}
 use Rattle.book.proofs.laws.check.LinkedLaws.{share-apart}
@@ -28,7 +48,8 @@ module _ (m : List ℕ) (p k x y : ℕ) where
   hour-idle t =
       let f = hour-facts m k p x y t in
       and-true _ _
-      (le-leb (word m (1776 + 328 * p + 5 * k) + (word m (1777 + 328 * p + 5 * k) + 0)) (hourLimit (word m (8 + 3 * k)) (word m (9 + 3 * k)) (hourOf p)) (omega arith))
+      (le-leb (word m (1776 + 328 * p + 5 * k) + (word m (1777 + 328 * p + 5 * k) + 0)) (hourLimit (word m (8 + 3 * k)) (word m (9 + 3 * k)) (hourOf p))
+      (omega arith))
       (le-leb (word m (1778 + 328 * p + 5 * k) + 0) (word m (1776 + 328 * p + 5 * k)) (omega arith))
 
   cell-idle : cellHolds m p k x y ≡ true → cellHolds m p k 0 0 ≡ true
@@ -54,7 +75,8 @@ module _ (m : List ℕ) (p k : ℕ) (x y w v : List ℕ) (r : ℕ) (e : r ≡ pe
   pub settle-fails : 0 < r → (x′ y′ w′ v′ : List ℕ) → Settled m p k x y w v false x′ y′ w′ v′
   settle-fails h x′ y′ w′ v′ =
       record {
-        answer = sym (false-by _ (λ t. let u = all-true (wayHolds m k p ∷ hourHolds m k p (getD x k 0) (getD y k 0) ∷ []) t in period-failed _ _ r e h (u .0) (u .1 .0)));
+        answer = sym (false-by _ (λ t. let u = all-true (wayHolds m k p ∷ hourHolds m k p (getD x k 0) (getD y k 0)
+            ∷ []) t in period-failed _ _ r e h (u .0) (u .1 .0)));
         up = λ z. both-ways (sym z);
         down = λ z. both-ways (sym z);
         whole = λ z. both-ways (sym z);
@@ -93,7 +115,8 @@ module _ (m : List ℕ) (p : ℕ) (x y w v x′ y′ w′ v′ : List ℕ) (s : 
         all-fails (word m 5) (λ i. cellHolds m p i (getD x i 0) (getD y i 0)) k h
         (false-by _ (λ c.
         let n = cell-now k c in
-        not-both _ (holds-all (wayHolds m k p ∷ hourHolds m k p (getD x′ k 0) (getD y′ k 0) ∷ []) (cell-way m p k _ _ n, (cell-hour m p k _ _ n, tt))) (sym (d .answer) ∙ f)))
+        not-both _ (holds-all (wayHolds m k p ∷ hourHolds m k p (getD x′ k 0) (getD y′ k 0) ∷ []) (cell-way m p k _ _ n, (cell-hour m p k _ _ n, tt)))
+        (sym (d .answer) ∙ f)))
 
     module _ (t : r ≡ true) where
       up-here : getD x″ k 0 ≡ 0
@@ -180,7 +203,8 @@ module _ (m : List ℕ) (p : ℕ) (x y w v x′ y′ w′ v′ : List ℕ) (s : 
               (h, rw (u .0, u .1) at c)
           here z (no l) = s .passed k (omega arith) z
 
-          passed : (i : ℕ) → getD x″ i 0 + getD y″ i 0 ≡ 0 → 0 < getD x i 0 + getD y i 0 → Dec (i ≡ k) → (i < word m 5) × (hourHolds m i p (getD x i 0) (getD y i 0) ≡ true)
+          passed : (i : ℕ) → getD x″ i 0 + getD y″ i 0 ≡ 0 → 0 < getD x i 0 + getD y i 0 → Dec (i ≡ k) → (i < word m 5)
+              × (hourHolds m i p (getD x i 0) (getD y i 0) ≡ true)
           passed i e z (yes q) = rw q (here (rw q at z) (decLt 0 (getD x′ k 0 + getD y′ k 0)))
           passed i e z (no n) = s .passed i (omega (arith, up-there i n, down-there i n)) z
 
@@ -204,7 +228,8 @@ module _ (m : List ℕ) (p : ℕ) (x y w v x′ y′ w′ v′ : List ℕ) (s : 
           passed = λ i e z. passed i e z (decLt 0 (getD x′ i 0 + getD y′ i 0));
         }
       where
-        passed : (i : ℕ) → getD x″ i 0 + getD y″ i 0 ≡ 0 → 0 < getD x i 0 + getD y i 0 → Dec (0 < getD x′ i 0 + getD y′ i 0) → (i < word m 5) × (hourHolds m i p (getD x i 0) (getD y i 0) ≡ true)
+        passed : (i : ℕ) → getD x″ i 0 + getD y″ i 0 ≡ 0 → 0 < getD x i 0 + getD y i 0 → Dec (0 < getD x′ i 0 + getD y′ i 0) → (i < word m 5)
+            × (hourHolds m i p (getD x i 0) (getD y i 0) ≡ true)
         passed i e z (yes h) =
             let u = s .waits i h in
             let q = a .settled t .passed i e h in
@@ -215,10 +240,12 @@ module _ (m : List ℕ) (p : ℕ) (x y w v x′ y′ w′ v′ : List ℕ) (s : 
     settles-both =
         record {
           settled = both-settle;
-          failed = λ f. false-by _ (λ c. not-both _ (all-by (word m 5) (λ k. cellHolds m p k (getD x′ k 0) (getD y′ k 0)) (λ k l. cell-now k (all-at (word m 5) (λ i. cellHolds m p i (getD x i 0) (getD y i 0)) k c l))) (a .failed f));
+          failed = λ f. false-by _ (λ c. not-both _ (all-by (word m 5) (λ k. cellHolds m p k (getD x′ k 0) (getD y′ k 0))
+              (λ k l. cell-now k (all-at (word m 5) (λ i. cellHolds m p i (getD x i 0) (getD y i 0)) k c l))) (a .failed f));
         }
 
-pub settles-fails : (m : List ℕ) (p : ℕ) (x y w v x′ y′ w′ v′ : List ℕ) → all (word m 5) (λ i. cellHolds m p i (getD x i 0) (getD y i 0)) ≡ false → Settles m p x y w v false x′ y′ w′ v′
+pub settles-fails : (m : List ℕ) (p : ℕ) (x y w v x′ y′ w′ v′ : List ℕ) → all (word m 5) (λ i. cellHolds m p i (getD x i 0) (getD y i 0)) ≡ false
+    → Settles m p x y w v false x′ y′ w′ v′
 settles-fails m p x y w v x′ y′ w′ v′ f = record { settled = λ t. both-ways (sym t); failed = λ _. f }
 
 pub settles-ends : (m : List ℕ) (p : ℕ) (x y w v x′ y′ w′ v′ : List ℕ) → Settling m p x y w v x′ y′ w′ v′ → Settles m p x y w v true x′ y′ w′ v′
@@ -269,7 +296,8 @@ module _ (m : List ℕ) (p k : ℕ) where
 pub none-zeros : NoneWaits (replicate 64 0) (replicate 64 0)
 none-zeros = record { raising = refl; lowering = refl; up = zeros-below 64 0; down = zeros-below 64 0 }
 
-pub open-waits : (x y w v : List ℕ) → length x ≡ 64 → length y ≡ 64 → length w ≡ 64 → length v ≡ 64 → Below 2_000_000_000_000 x → Below 2_000_000_000_000 y → Below 4_000_000_000 w → Below 4_000_000_000_000_000 v → Waiting x y w v
+pub open-waits : (x y w v : List ℕ) → length x ≡ 64 → length y ≡ 64 → length w ≡ 64 → length v ≡ 64 → Below 2_000_000_000_000 x → Below 2_000_000_000_000 y
+    → Below 4_000_000_000 w → Below 4_000_000_000_000_000 v → Waiting x y w v
 open-waits x y w v lx ly lw lv bx by bw bv =
     record {
       raising = lx;
@@ -283,7 +311,8 @@ open-waits x y w v lx ly lw lv bx by bw bv =
     }
 
 -- what is open, settled
-module _ (m : List ℕ) (p : ℕ) (x y w v : List ℕ) (few : word m 5 ≤ 64) (up : (k : ℕ) → k < 64 → getD x k 0 ≡ openUp m p k) (down : (k : ℕ) → k < 64 → getD y k 0 ≡ openDown m p k) (first : Waiting x y w v) where
+module _ (m : List ℕ) (p : ℕ) (x y w v : List ℕ) (few : word m 5 ≤ 64) (up : (k : ℕ) → k < 64 → getD x k 0 ≡ openUp m p k) (down : (k : ℕ) → k < 64
+    → getD y k 0 ≡ openDown m p k) (first : Waiting x y w v) where
   pub open-fails : (r : Bool) (x′ y′ w′ v′ w″ v″ : List ℕ) → r ≡ false → Settles m p x y w v r x′ y′ w′ v′ → OpenAdded m p w v false w″ v″
   open-fails r x′ y′ w′ v′ w″ v″ f a =
       record {
@@ -295,66 +324,79 @@ module _ (m : List ℕ) (p : ℕ) (x y w v : List ℕ) (few : word m 5 ≤ 64) (
         small = λ z. both-ways (sym z);
       }
 
-  module _ (x′ y′ w′ v′ : List ℕ) (a : Settling m p x y w v x′ y′ w′ v′) (offers : OffersSettled m (word m 6) x′ y′) (orders : OrdersSettled m p 0 x′ y′) where
-    none-waits : (k : ℕ) → getD x′ k 0 + getD y′ k 0 ≡ 0
-    unfolding openUp openDown
-    none-waits k = go (decLt 0 (getD x′ k 0 + getD y′ k 0)) (decLt k 64)
-      where
-        go : Dec (0 < getD x′ k 0 + getD y′ k 0) → Dec (k < 64) → getD x′ k 0 + getD y′ k 0 ≡ 0
-        go (no h) l = omega arith
-        go (yes h) (no l) = let b = a .waiting in omega (arith, getD-past x′ k (omega (arith, b .raising)), getD-past y′ k (omega (arith, b .lowering)))
-        go (yes h) (yes l) =
-            let q = a .waits k h in
-            let here : (u : ℕ) → u ≡ k + 1 → getD x′ (u - 1) 0 + getD y′ (u - 1) 0 ≡ getD x′ k 0 + getD y′ k 0 = λ u e. let z : u - 1 ≡ k = omega arith in ap (λ (i : ℕ). getD x′ i 0 + getD y′ i 0) z in
-            let n = no-offers m p k (λ j b e. omega (arith, here _ e, offers j b)) in
-            let apart : (i : ℕ) → i < word m 7 → word m (240 + 6 * i + 3) ≡ p → word m (240 + 6 * i + 1) ≡ k + 1 → ⊥ = λ i b e f. omega (arith, here _ f, orders i (omega arith) b e) in
-            zero-open (no-raising m p k apart) (no-lowering m p k apart) n (q .0) (q .1) (up k l) (down k l)
-          where
-            zero-open : ordersRaise m p k ≡ 0 → ordersLower m p k ≡ 0 → offersRaise m p k ≡ 0 → getD x′ k 0 ≡ getD x k 0 → getD y′ k 0 ≡ getD y k 0 → getD x k 0 ≡ openUp m p k → getD y k 0 ≡ openDown m p k → getD x′ k 0 + getD y′ k 0 ≡ 0
-            zero-open e f g u s t z = omega arith
+  module _ (x′ y′ w′ v′ : List ℕ) (a : Settling m p x y w v x′ y′ w′ v′) (offers : OffersSettled m (word m 6) x′ y′) (orders : OrdersSettled m p 0 x′ y′)
+    where
+      none-waits : (k : ℕ) → getD x′ k 0 + getD y′ k 0 ≡ 0
+      unfolding openUp openDown
+      none-waits k = go (decLt 0 (getD x′ k 0 + getD y′ k 0)) (decLt k 64)
+        where
+          go : Dec (0 < getD x′ k 0 + getD y′ k 0) → Dec (k < 64) → getD x′ k 0 + getD y′ k 0 ≡ 0
+          go (no h) l = omega arith
+          go (yes h) (no l) = let b = a .waiting in omega (arith, getD-past x′ k (omega (arith, b .raising)), getD-past y′ k (omega (arith, b .lowering)))
+          go (yes h) (yes l) =
+              let q = a .waits k h in
+              let here : (u : ℕ) → u ≡ k + 1 → getD x′ (u - 1) 0 + getD y′ (u - 1) 0 ≡ getD x′ k 0 + getD y′ k 0 = λ u e. let z : u - 1
+              ≡ k = omega arith in ap (λ (i : ℕ). getD x′ i 0 + getD y′ i 0) z in
+              let n = no-offers m p k (λ j b e. omega (arith, here _ e, offers j b)) in
+              let apart : (i : ℕ) → i < word m 7 → word m (240 + 6 * i + 3) ≡ p → word m (240 + 6 * i + 1) ≡ k + 1
+              → ⊥ = λ i b e f. omega (arith, here _ f, orders i (omega arith) b e) in
+              zero-open (no-raising m p k apart) (no-lowering m p k apart) n (q .0) (q .1) (up k l) (down k l)
+            where
+              zero-open : ordersRaise m p k ≡ 0 → ordersLower m p k ≡ 0 → offersRaise m p k ≡ 0 → getD x′ k 0 ≡ getD x k 0 → getD y′ k 0 ≡ getD y k 0
+                  → getD x k 0 ≡ openUp m p k → getD y k 0 ≡ openDown m p k → getD x′ k 0 + getD y′ k 0 ≡ 0
+              zero-open e f g u s t z = omega arith
 
-    pub none-left : NoneWaits x′ y′
-    none-left =
-        record {
-          raising = a .waiting .raising;
-          lowering = a .waiting .lowering;
-          up = λ k. omega (arith, none-waits k);
-          down = λ k. omega (arith, none-waits k);
-        }
+      pub none-left : NoneWaits x′ y′
+      none-left =
+          record {
+            raising = a .waiting .raising;
+            lowering = a .waiting .lowering;
+            up = λ k. omega (arith, none-waits k);
+            down = λ k. omega (arith, none-waits k);
+          }
 
-    pub open-added : (r : Bool) → r ≡ true → OpenAdded m p w v r w′ v′
-    open-added r t =
-        record {
-          answer = λ i. t ∙ sym (all-by (word m 5) _ (λ k h. cell k h (all-at (word m 5) (λ j. cellHolds m p j 0 0) k i h) (decLt 0 (getD x k 0 + getD y k 0))));
-          long = λ z. (a .waiting .whole ∙ sym (first .whole), a .waiting .volume ∙ sym (first .volume));
-          whole = λ z k h. omega (arith, a .whole k, none-waits k, up k (omega arith));
-          volume = λ z k h. omega (arith, a .volume k, none-waits k, up k (omega arith), down k (omega arith));
-          past = λ z k h. past k h (decLt 0 (getD x k 0 + getD y k 0));
-          small = λ z k h. (omega (arith, up k (omega arith), first .up k), omega (arith, down k (omega arith), first .down k));
-        }
-      where
-        cell : (k : ℕ) → k < word m 5 → cellHolds m p k 0 0 ≡ true → Dec (0 < getD x k 0 + getD y k 0) → cellHolds m p k (openUp m p k) (openDown m p k) ≡ true
-        cell k h c (yes z) = rw (← up k (omega arith), ← down k (omega arith)) (cell-open m p k (getD x k 0) (getD y k 0) c (a .passed k (none-waits k) z .1))
-        cell k h c (no z) =
-            let u : openUp m p k ≡ 0 = omega (arith, up k (omega arith)) in
-            let d : openDown m p k ≡ 0 = omega (arith, down k (omega arith)) in
-            rw (u, d) c
+      pub open-added : (r : Bool) → r ≡ true → OpenAdded m p w v r w′ v′
+      open-added r t =
+          record {
+            answer = λ i. t ∙ sym (all-by (word m 5) _ (λ k h. cell k h (all-at (word m 5) (λ j. cellHolds m p j 0 0) k i h)
+                (decLt 0 (getD x k 0 + getD y k 0))));
+            long = λ z. (a .waiting .whole ∙ sym (first .whole), a .waiting .volume ∙ sym (first .volume));
+            whole = λ z k h. omega (arith, a .whole k, none-waits k, up k (omega arith));
+            volume = λ z k h. omega (arith, a .volume k, none-waits k, up k (omega arith), down k (omega arith));
+            past = λ z k h. past k h (decLt 0 (getD x k 0 + getD y k 0));
+            small = λ z k h. (omega (arith, up k (omega arith), first .up k), omega (arith, down k (omega arith), first .down k));
+          }
+        where
+          cell : (k : ℕ) → k < word m 5 → cellHolds m p k 0 0 ≡ true → Dec (0 < getD x k 0 + getD y k 0) → cellHolds m p k (openUp m p k) (openDown m p k)
+              ≡ true
+          cell k h c (yes z) = rw (← up k (omega arith), ← down k (omega arith))
+              (cell-open m p k (getD x k 0) (getD y k 0) c (a .passed k (none-waits k) z .1))
+          cell k h c (no z) =
+              let u : openUp m p k ≡ 0 = omega (arith, up k (omega arith)) in
+              let d : openDown m p k ≡ 0 = omega (arith, down k (omega arith)) in
+              rw (u, d) c
 
-        past : (k : ℕ) → word m 5 ≤ k → Dec (0 < getD x k 0 + getD y k 0) → (getD w′ k 0 ≡ getD w k 0) × (getD v′ k 0 ≡ getD v k 0)
-        past k h (yes z) = absurd (omega (arith, a .passed k (none-waits k) z .0))
-        past k h (no z) = (omega (arith, a .whole k, none-waits k), omega (arith, a .volume k, none-waits k))
+          past : (k : ℕ) → word m 5 ≤ k → Dec (0 < getD x k 0 + getD y k 0) → (getD w′ k 0 ≡ getD w k 0) × (getD v′ k 0 ≡ getD v k 0)
+          past k h (yes z) = absurd (omega (arith, a .passed k (none-waits k) z .0))
+          past k h (no z) = (omega (arith, a .whole k, none-waits k), omega (arith, a .volume k, none-waits k))
 
-  pub open-ends : (r : Bool) (x′ y′ w′ v′ : List ℕ) → Settles m p x y w v r x′ y′ w′ v′ → (r ≡ true → OffersSettled m (word m 6) x′ y′) → (r ≡ true → OrdersSettled m p 0 x′ y′)
+  pub open-ends : (r : Bool) (x′ y′ w′ v′ : List ℕ) → Settles m p x y w v r x′ y′ w′ v′ → (r ≡ true → OffersSettled m (word m 6) x′ y′)
+      → (r ≡ true → OrdersSettled m p 0 x′ y′)
       → (OpenAdded m p w v r w′ v′) × (r ≡ true → NoneWaits x′ y′)
-  open-ends true x′ y′ w′ v′ a o i = (open-added x′ y′ w′ v′ (a .settled refl) (o refl) (i refl) true refl, (λ z. none-left x′ y′ w′ v′ (a .settled refl) (o refl) (i refl)))
+  open-ends true x′ y′ w′ v′ a o i = (
+    open-added x′ y′ w′ v′ (a .settled refl) (o refl) (i refl) true refl,
+    (λ z. none-left x′ y′ w′ v′ (a .settled refl) (o refl) (i refl)),
+  )
   open-ends false x′ y′ w′ v′ a o i = (open-fails false x′ y′ w′ v′ w′ v′ refl a, (λ z. both-ways (sym z)))
 
 -- the figures of a period, and then what is open
 module _ (m : List ℕ) (g : Ranged m) (p : ℕ) (w v w′ v′ : List ℕ) where
-  pub period-fails : (r : Bool) → r ≡ false → CellsDone m p (λ k. 0) (λ k. 0) w v r w′ v′ → (w″ v″ : List ℕ) → CellsDone m p (openUp m p) (openDown m p) w v false w″ v″
+  pub period-fails : (r : Bool) → r ≡ false → CellsDone m p (λ k. 0) (λ k. 0) w v r w′ v′ → (w″ v″ : List ℕ)
+      → CellsDone m p (openUp m p) (openDown m p) w v false w″ v″
   period-fails r f d w″ v″ =
       record {
-        answer = sym (false-by _ (λ c. not-both _ (all-by (word m 5) (λ k. cellHolds m p k 0 0) (λ k l. cell-idle m p k _ _ (all-at (word m 5) (λ i. cellHolds m p i (openUp m p i) (openDown m p i)) k c l))) (sym (d .answer) ∙ f)));
+        answer = sym (false-by _ (λ c. not-both _ (all-by (word m 5) (λ k. cellHolds m p k 0 0)
+            (λ k l. cell-idle m p k _ _ (all-at (word m 5) (λ i. cellHolds m p i (openUp m p i) (openDown m p i)) k c l))) (sym (d .answer) ∙ f)));
         whole = λ z. both-ways (sym z);
         volume = λ z. both-ways (sym z);
       }

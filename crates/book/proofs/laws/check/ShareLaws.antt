@@ -89,7 +89,8 @@ module _ (m : List ℕ) (u way k : ℕ) where
 
     pub order-added : (n : ℕ) (l : List ℕ) → word m (240 + 6 * k + 3) < length l → word m (240 + 6 * k + 5) ≤ mostEnergy
         → Added n l (set l (word m (240 + 6 * k + 3)) (getD l (word m (240 + 6 * k + 3)) 0 + word m (240 + 6 * k + 5))) (orderShare m u way k) mostEnergy
-    order-added n l h s = placed n l (word m (240 + 6 * k + 3)) (word m (240 + 6 * k + 5)) (orderShare m u way k) h s (share-there _ refl) (λ p w. share-elsewhere p (λ z. w (sym z)))
+    order-added n l h s = placed n l (word m (240 + 6 * k + 3)) (word m (240 + 6 * k + 5)) (orderShare m u way k) h s (share-there _ refl)
+        (λ p w. share-elsewhere p (λ z. w (sym z)))
 
 -- the periods below p have f added, the others not yet
 pub record Adding (l x : List ℕ) (f : ℕ → ℕ) (p : ℕ) : Type 0 where
@@ -116,7 +117,8 @@ adding-more l x f p h a =
         rw e (getD-set-same x p _ 0 (omega arith) ∙ ap (λ (y : ℕ). y + f p) s)
     go i k (no ne) = getD-set-other x p i _ 0 ne ∙ a .passed i (omega arith)
 
-pub adding-ends : (n : ℕ) (l x : List ℕ) (f s : ℕ → ℕ) (p g : ℕ) → p ≡ n → Adding l x f p → ((i : ℕ) → i < n → f i ≤ g) → ((i : ℕ) → s i ≡ f i) → Added n l x s g
+pub adding-ends : (n : ℕ) (l x : List ℕ) (f s : ℕ → ℕ) (p g : ℕ) → p ≡ n → Adding l x f p → ((i : ℕ) → i < n → f i ≤ g) → ((i : ℕ) → s i ≡ f i)
+    → Added n l x s g
 adding-ends n l x f s p g e a b q =
     record {
       long = a .long;

@@ -37,7 +37,19 @@ module _ (m : List ℕ) (k : ℕ) (h : k < word m 5) where
   unfolding unitIn unitFieldsIn waysIn
   unit-joined e w =
       let t = all-true _ e in
-      holds-all _ (t .0, (t .1 .0, (t .1 .1 .0, (eq-eqb _ _ (table-length _ _), (sym (ap (λ (u : Unit). every (λ (f : Figures). leb (f .way) 2) (u .figures)) at) ∙ w, tt)))))
+      holds-all _ (
+        t .0,
+        (
+          t .1 .0,
+          (
+            t .1 .1 .0,
+            (
+              eq-eqb _ _ (table-length _ _),
+              (sym (ap (λ (u : Unit). every (λ (f : Figures). leb (f .way) 2) (u .figures)) at) ∙ w, tt),
+            ),
+          ),
+        ),
+      )
 
 -- the tests in the order in which the code makes them
 pub record SoundWords (m : List ℕ) : Type 0 where
@@ -63,7 +75,8 @@ unfolding soundIn sound pairsFit unitsWhole unitWhole
 sound-words m e =
     let t = all-true _ (and-right (enough m) (sound (decode m)) e) in
     let us : all (word m 5) (λ k. unitIn (word m 0) (unitAt m (word m 0) k)) ≡ true = sym (units-every m) ∙ t .1 .0 in
-    let part : (k : ℕ) → k < word m 5 → (unitFieldsIn m k ≡ true) × (waysIn (decode m) (k + 1) ≡ true) = λ k h. unit-parts m k h (all-at (word m 5) (λ i. unitIn (word m 0) (unitAt m (word m 0) i)) k us h) in
+    let part : (k : ℕ) → k < word m 5 → (unitFieldsIn m k ≡ true)
+    × (waysIn (decode m) (k + 1) ≡ true) = λ k h. unit-parts m k h (all-at (word m 5) (λ i. unitIn (word m 0) (unitAt m (word m 0) i)) k us h) in
     record {
       long = leb-true _ _ (and-left (enough m) (sound (decode m)) e);
       head = t .0;
@@ -73,18 +86,21 @@ sound-words m e =
       numbers = t .1 .1 .1 .1 .0;
       pairs = and-true (eachTwo oneWay (decode m .orders)) _ (t .1 .1 .1 .1 .1 .0) (rw (phase-held m) at (t .1 .1 .1 .1 .1 .1 .0));
       whole = all-by (length (decode m .units)) (λ k. waysIn (decode m) (k + 1) && unitFits (decode m) (k + 1))
-          (λ k h. and-true (waysIn (decode m) (k + 1)) (unitFits (decode m) (k + 1)) (part k (rw (units-held m) at h) .1) (all-at (length (decode m .units)) (λ i. unitFits (decode m) (i + 1)) k (t .1 .1 .1 .1 .1 .1 .1 .0) h));
+          (λ k h. and-true (waysIn (decode m) (k + 1)) (unitFits (decode m) (k + 1)) (part k (rw (units-held m) at h) .1)
+          (all-at (length (decode m .units)) (λ i. unitFits (decode m) (i + 1)) k (t .1 .1 .1 .1 .1 .1 .1 .0) h));
     }
 
 pub sound-joined : (m : List ℕ) → SoundWords m → soundIn m ≡ true
 unfolding soundIn sound pairsFit unitsWhole unitWhole
 sound-joined m s =
-    let fit : (k : ℕ) → k < length (decode m .units) → (waysIn (decode m) (k + 1) && unitFits (decode m) (k + 1)) ≡ true = λ k h. all-at (length (decode m .units)) (λ i. waysIn (decode m) (i + 1) && unitFits (decode m) (i + 1)) k (s .whole) h in
+    let fit : (k : ℕ) → k < length (decode m .units) → (waysIn (decode m) (k + 1) && unitFits (decode m) (k + 1))
+    ≡ true = λ k h. all-at (length (decode m .units)) (λ i. waysIn (decode m) (i + 1) && unitFits (decode m) (i + 1)) k (s .whole) h in
     and-true (enough m) (sound (decode m)) (le-leb _ _ (s .long))
     (holds-all _ (
       s .head,
       (
-        units-every m ∙ all-by (word m 5) _ (λ k h. unit-joined m k h (all-at (word m 5) (unitFieldsIn m) k (s .units) h) (and-left (waysIn (decode m) (k + 1)) (unitFits (decode m) (k + 1)) (fit k (rw (units-held m) h)))),
+        units-every m ∙ all-by (word m 5) _ (λ k h. unit-joined m k h (all-at (word m 5) (unitFieldsIn m) k (s .units) h)
+            (and-left (waysIn (decode m) (k + 1)) (unitFits (decode m) (k + 1)) (fit k (rw (units-held m) h)))),
         (
           s .offers,
           (
@@ -108,8 +124,10 @@ pub sound-fails : (m : List ℕ) → (SoundWords m → ⊥) → false ≡ soundI
 sound-fails m n = sym (false-by _ (λ e. n (sound-words m e)))
 
 -- the fit of the units decides where all else holds
-pub sound-by-units : (m : List ℕ) → bookWords (word m 0) ≤ length m → headIn (decode m) ≡ true → unitsFieldsIn m ≡ true → every (offerIn (decode m)) (decode m .offers) ≡ true
-    → every (orderIn (decode m)) (decode m .orders) ≡ true → numbersDiffer (decode m) ≡ true → pairsFit (word m 3) (decode m .orders) ≡ true → unitsWhole (decode m) ≡ soundIn m
+pub sound-by-units : (m : List ℕ) → bookWords (word m 0) ≤ length m → headIn (decode m) ≡ true → unitsFieldsIn m ≡ true
+    → every (offerIn (decode m)) (decode m .offers) ≡ true
+    → every (orderIn (decode m)) (decode m .orders) ≡ true → numbersDiffer (decode m) ≡ true → pairsFit (word m 3) (decode m .orders) ≡ true
+    → unitsWhole (decode m) ≡ soundIn m
 sound-by-units m l h u f o n p = go (unitsWhole (decode m)) refl
   where
     go : (b : Bool) → unitsWhole (decode m) ≡ b → unitsWhole (decode m) ≡ soundIn m
@@ -126,7 +144,8 @@ pub never-short : (m : List ℕ) → length m < 1776 → SoundWords m → ⊥
 never-short m h s = let l = s .long in omega arith
 
 -- what the tests passed give to those after them
-pub ranged : (m : List ℕ) → bookWords (word m 0) ≤ length m → headIn (decode m) ≡ true → unitsFieldsIn m ≡ true → every (offerIn (decode m)) (decode m .offers) ≡ true
+pub ranged : (m : List ℕ) → bookWords (word m 0) ≤ length m → headIn (decode m) ≡ true → unitsFieldsIn m ≡ true
+    → every (offerIn (decode m)) (decode m .offers) ≡ true
     → every (orderIn (decode m)) (decode m .orders) ≡ true → Ranged m
 ranged m l h u f o = record { readable = readable m (head-facts m h) l; units = u; offers = f; orders = o }
 

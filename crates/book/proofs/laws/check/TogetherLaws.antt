@@ -21,7 +21,19 @@ use Rattle.book.specs.inner.Whole.{Latest, Alike, highWith, lowWith, Pri
 use Rattle.book.proofs.laws.memory.RangeFacts.{order-word}
 use Rattle.book.proofs.laws.check.ShareLaws.{order-words}
 use Rattle.book.proofs.laws.check.MisfitLaws.{zeros-at}
-use Rattle.book.proofs.laws.check.PairLaws.{OneWay, one-way-holds, one-way-fact, Apart, apart-holds, apart-fact, Pair, pair-holds, pair-fact, pairs-by, pairs-fail}
+use Rattle.book.proofs.laws.check.PairLaws.{
+  OneWay,
+  one-way-holds,
+  one-way-fact,
+  Apart,
+  apart-holds,
+  apart-fact,
+  Pair,
+  pair-holds,
+  pair-fact,
+  pairs-by,
+  pairs-fail,
+}
 
 abbrev orderIn : List ℕ → ℕ → OpenOrder
 orderIn m k = orderAt (ordersPart m) k
@@ -31,29 +43,37 @@ field m k i h l = order-word m (6 * k + i) (omega arith) ∙ ap (word m) (omega 
 
 -- two orders, by their words
 module _ (m : List ℕ) (a b : ℕ) (ha : a < 256) (hb : b < 256) where
-  way-holds : (word m (240 + 6 * a + 1) ≡ word m (240 + 6 * b + 1) → word m (240 + 6 * a + 3) ≡ word m (240 + 6 * b + 3) → word m (240 + 6 * a + 2) ≡ word m (240 + 6 * b + 2))
+  way-holds : (word m (240 + 6 * a + 1) ≡ word m (240 + 6 * b + 1) → word m (240 + 6 * a + 3) ≡ word m (240 + 6 * b + 3) → word m (240 + 6 * a + 2)
+      ≡ word m (240 + 6 * b + 2))
       → oneWay (orderIn m a) (orderIn m b) ≡ true
   way-holds f =
       one-way-holds (orderIn m a) (orderIn m b)
-      (λ u p. field m a 2 ha (omega arith) ∙ f (sym (field m a 1 ha (omega arith)) ∙ u ∙ field m b 1 hb (omega arith)) (sym (field m a 3 ha (omega arith)) ∙ p ∙ field m b 3 hb (omega arith)) ∙ sym (field m b 2 hb (omega arith)))
+      (λ u p. field m a 2 ha (omega arith) ∙ f (sym (field m a 1 ha (omega arith)) ∙ u ∙ field m b 1 hb (omega arith)) (sym (field m a 3 ha (omega arith))
+      ∙ p ∙ field m b 3 hb (omega arith)) ∙ sym (field m b 2 hb (omega arith)))
 
-  way-fact : oneWay (orderIn m a) (orderIn m b) ≡ true → word m (240 + 6 * a + 1) ≡ word m (240 + 6 * b + 1) → word m (240 + 6 * a + 3) ≡ word m (240 + 6 * b + 3)
+  way-fact : oneWay (orderIn m a) (orderIn m b) ≡ true → word m (240 + 6 * a + 1) ≡ word m (240 + 6 * b + 1) → word m (240 + 6 * a + 3)
+      ≡ word m (240 + 6 * b + 3)
       → word m (240 + 6 * a + 2) ≡ word m (240 + 6 * b + 2)
   way-fact e u p =
       sym (field m a 2 ha (omega arith))
-      ∙ one-way-fact (orderIn m a) (orderIn m b) e (field m a 1 ha (omega arith) ∙ u ∙ sym (field m b 1 hb (omega arith))) (field m a 3 ha (omega arith) ∙ p ∙ sym (field m b 3 hb (omega arith)))
+      ∙ one-way-fact (orderIn m a) (orderIn m b) e (field m a 1 ha (omega arith) ∙ u ∙ sym (field m b 1 hb (omega arith))) (field m a 3 ha (omega arith) ∙ p
+      ∙ sym (field m b 3 hb (omega arith)))
       ∙ field m b 2 hb (omega arith)
 
-  apart-by : (word m (240 + 6 * a + 2) ≡ 1 → word m (240 + 6 * b + 2) ≡ 0 → word m (240 + 6 * a + 3) ≡ word m (240 + 6 * b + 3) → word m (240 + 6 * a + 4) < word m (240 + 6 * b + 4))
+  apart-by : (word m (240 + 6 * a + 2) ≡ 1 → word m (240 + 6 * b + 2) ≡ 0 → word m (240 + 6 * a + 3) ≡ word m (240 + 6 * b + 3) → word m (240 + 6 * a + 4)
+      < word m (240 + 6 * b + 4))
       → apart (orderIn m a) (orderIn m b) ≡ true
   apart-by f =
       apart-holds (orderIn m a) (orderIn m b)
-      (λ d e p. let l = f (sym (field m a 2 ha (omega arith)) ∙ d) (sym (field m b 2 hb (omega arith)) ∙ e) (sym (field m a 3 ha (omega arith)) ∙ p ∙ field m b 3 hb (omega arith)) in omega (arith, field m a 4 ha (omega arith), field m b 4 hb (omega arith)))
+      (λ d e p. let l = f (sym (field m a 2 ha (omega arith)) ∙ d) (sym (field m b 2 hb (omega arith)) ∙ e) (sym (field m a 3 ha (omega arith)) ∙ p
+      ∙ field m b 3 hb (omega arith)) in omega (arith, field m a 4 ha (omega arith), field m b 4 hb (omega arith)))
 
-  apart-word : apart (orderIn m a) (orderIn m b) ≡ true → word m (240 + 6 * a + 2) ≡ 1 → word m (240 + 6 * b + 2) ≡ 0 → word m (240 + 6 * a + 3) ≡ word m (240 + 6 * b + 3)
+  apart-word : apart (orderIn m a) (orderIn m b) ≡ true → word m (240 + 6 * a + 2) ≡ 1 → word m (240 + 6 * b + 2) ≡ 0 → word m (240 + 6 * a + 3)
+      ≡ word m (240 + 6 * b + 3)
       → word m (240 + 6 * a + 4) < word m (240 + 6 * b + 4)
   apart-word t d e p =
-      let l = apart-fact (orderIn m a) (orderIn m b) t (field m a 2 ha (omega arith) ∙ d) (field m b 2 hb (omega arith) ∙ e) (field m a 3 ha (omega arith) ∙ p ∙ sym (field m b 3 hb (omega arith))) in
+      let l = apart-fact (orderIn m a) (orderIn m b) t (field m a 2 ha (omega arith) ∙ d) (field m b 2 hb (omega arith) ∙ e) (field m a 3 ha (omega arith)
+      ∙ p ∙ sym (field m b 3 hb (omega arith))) in
       omega (arith, field m a 4 ha (omega arith), field m b 4 hb (omega arith))
 
 -- the walk along the unit's and the period's orders before the one at place k: none passed has both
@@ -78,7 +98,8 @@ module _ (m : List ℕ) (k : ℕ) where
       }
 
   module _ (a b : ℕ) (s : Seeking m k a b) where
-    pub seeking-more : (c d : ℕ) → 0 < a → 0 < b → (word m (240 + 6 * (a - 1) + 3) ≡ word m (240 + 6 * k + 3) → ⊥) → (word m (240 + 6 * (b - 1) + 1) ≡ word m (240 + 6 * k + 1) → ⊥)
+    pub seeking-more : (c d : ℕ) → 0 < a → 0 < b → (word m (240 + 6 * (a - 1) + 3) ≡ word m (240 + 6 * k + 3) → ⊥)
+        → (word m (240 + 6 * (b - 1) + 1) ≡ word m (240 + 6 * k + 1) → ⊥)
         → Latest m 1 (word m (240 + 6 * (a - 1) + 1)) c (a - 1) → Latest m 3 (word m (240 + 6 * (b - 1) + 3)) d (b - 1) → Seeking m k c d
     seeking-more c d ha hb na nb u p =
         let x = s .fewUnit in
@@ -94,21 +115,35 @@ module _ (m : List ℕ) (k : ℕ) where
           nonePeriod = λ j h l. periodsOf j h l (ℕ-discrete j (b - 1)) (decLt j b);
         }
       where
-        units : (j : ℕ) → c ≤ j → j < k → Dec (j ≡ a - 1) → Dec (j < a) → word m (240 + 6 * j + 1) ≡ word m (240 + 6 * k + 1) → word m (240 + 6 * j + 3) ≡ word m (240 + 6 * k + 3) → ⊥
+        units : (j : ℕ) → c ≤ j → j < k → Dec (j ≡ a - 1) → Dec (j < a) → word m (240 + 6 * j + 1) ≡ word m (240 + 6 * k + 1) → word m (240 + 6 * j + 3)
+            ≡ word m (240 + 6 * k + 3) → ⊥
         units j h l (yes e) q x y = na (sym (ap (λ (i : ℕ). word m (240 + 6 * i + 3)) e) ∙ y)
         units j h l (no e) (yes q) x y = u .none j h (omega arith) (x ∙ sym (s .ownUnit ha))
         units j h l (no e) (no q) x y = s .noneUnit j (omega arith) l x y
 
-        periodsOf : (j : ℕ) → d ≤ j → j < k → Dec (j ≡ b - 1) → Dec (j < b) → word m (240 + 6 * j + 1) ≡ word m (240 + 6 * k + 1) → word m (240 + 6 * j + 3) ≡ word m (240 + 6 * k + 3) → ⊥
+        periodsOf : (j : ℕ) → d ≤ j → j < k → Dec (j ≡ b - 1) → Dec (j < b) → word m (240 + 6 * j + 1) ≡ word m (240 + 6 * k + 1) → word m (240 + 6 * j + 3)
+            ≡ word m (240 + 6 * k + 3) → ⊥
         periodsOf j h l (yes e) q x y = nb (sym (ap (λ (i : ℕ). word m (240 + 6 * i + 1)) e) ∙ x)
         periodsOf j h l (no e) (yes q) x y = p .none j h (omega arith) (y ∙ sym (s .ownPeriod hb))
         periodsOf j h l (no e) (no q) x y = s .nonePeriod j (omega arith) l x y
 
     pub none-of-unit : a ≤ 0 → Alike m k 0
-    none-of-unit h = record { to = omega arith; unit = λ z. absurd (omega arith); period = λ z. absurd (omega arith); none = λ z j l. s .noneUnit j (omega arith) l }
+    none-of-unit h = record {
+      to = omega arith;
+      unit = λ z. absurd (omega arith);
+      period = λ z. absurd (omega arith);
+      none = λ z j l. s .noneUnit j
+          (omega arith) l;
+    }
 
     pub none-of-period : b ≡ 0 → Alike m k 0
-    none-of-period h = record { to = omega arith; unit = λ z. absurd (omega arith); period = λ z. absurd (omega arith); none = λ z j l. s .nonePeriod j (omega arith) l }
+    none-of-period h = record {
+      to = omega arith;
+      unit = λ z. absurd (omega arith);
+      period = λ z. absurd (omega arith);
+      none = λ z j l. s .nonePeriod j
+          (omega arith) l;
+    }
 
     pub alike-by-unit : 0 < a → word m (240 + 6 * (a - 1) + 3) ≡ word m (240 + 6 * k + 3) → Alike m k a
     alike-by-unit h e = record { to = s .fewUnit; unit = s .ownUnit; period = λ z. e; none = λ z. absurd (omega arith) }
@@ -132,7 +167,8 @@ module _ (m : List ℕ) (k : ℕ) (hk : k < 256) where
     way-other : (word m (240 + 6 * (t - 1) + 2) ≡ word m (240 + 6 * k + 2) → ⊥) → false ≡ all k (λ j. oneWay (orderIn m k) (orderIn m j))
     way-other n =
         let h = place in
-        sym (all-fails k (λ j. oneWay (orderIn m k) (orderIn m j)) (t - 1) (h .1) (false-by _ (λ e. n (sym (way-fact m k (t - 1) hk (omega arith) e (sym (al .unit (h .0))) (sym (al .period (h .0))))))))
+        sym (all-fails k (λ j. oneWay (orderIn m k) (orderIn m j)) (t - 1) (h .1)
+        (false-by _ (λ e. n (sym (way-fact m k (t - 1) hk (omega arith) e (sym (al .unit (h .0))) (sym (al .period (h .0))))))))
 
     -- those before go one way, so the one found stands for all
     way-same : pairsBefore m k ≡ true → word m (240 + 6 * (t - 1) + 2) ≡ word m (240 + 6 * k + 2) → true ≡ all k (λ j. oneWay (orderIn m k) (orderIn m j))
@@ -143,9 +179,11 @@ module _ (m : List ℕ) (k : ℕ) (hk : k < 256) where
         pair i j h l =
             one-way-holds (orderIn m i) (orderIn m j)
             (pair-fact (word m 3) (orderIn m i) (orderIn m j)
-            (all-at i (λ x. pairFits (word m 3) (orderIn m i) (orderIn m x)) j (all-at k (λ y. all y (λ x. pairFits (word m 3) (orderIn m y) (orderIn m x))) i pb h) l) .way)
+            (all-at i (λ x. pairFits (word m 3) (orderIn m i) (orderIn m x)) j
+            (all-at k (λ y. all y (λ x. pairFits (word m 3) (orderIn m y) (orderIn m x))) i pb h) l) .way)
 
-        dirs : (j : ℕ) → j < k → word m (240 + 6 * j + 1) ≡ word m (240 + 6 * k + 1) → word m (240 + 6 * j + 3) ≡ word m (240 + 6 * k + 3) → word m (240 + 6 * j + 2) ≡ word m (240 + 6 * k + 2)
+        dirs : (j : ℕ) → j < k → word m (240 + 6 * j + 1) ≡ word m (240 + 6 * k + 1) → word m (240 + 6 * j + 3) ≡ word m (240 + 6 * k + 3)
+            → word m (240 + 6 * j + 2) ≡ word m (240 + 6 * k + 2)
         dirs j l u p = go (decLt j (t - 1)) (decLt (t - 1) j)
           where
             go : Dec (j < t - 1) → Dec (t - 1 < j) → word m (240 + 6 * j + 2) ≡ word m (240 + 6 * k + 2)
@@ -157,7 +195,8 @@ module _ (m : List ℕ) (k : ℕ) (hk : k < 256) where
                 way-fact m j (t - 1) (omega arith) (omega arith) (pair j (t - 1) l b) (u ∙ sym (al .unit (h .0))) (p ∙ sym (al .period (h .0))) ∙ e
             go (no a) (no b) = let q : j ≡ t - 1 = omega arith in ap (λ (i : ℕ). word m (240 + 6 * i + 2)) q ∙ e
 
-    pub way-tested : pairsBefore m k ≡ true → eqb (word m (240 + 6 * (t - 1) + 2)) (word m (240 + 6 * k + 2)) ≡ all k (λ j. oneWay (orderIn m k) (orderIn m j))
+    pub way-tested : pairsBefore m k ≡ true → eqb (word m (240 + 6 * (t - 1) + 2)) (word m (240 + 6 * k + 2))
+        ≡ all k (λ j. oneWay (orderIn m k) (orderIn m j))
     way-tested pb = go (eqb (word m (240 + 6 * (t - 1) + 2)) (word m (240 + 6 * k + 2))) refl
       where
         go : (b : Bool) → eqb (word m (240 + 6 * (t - 1) + 2)) (word m (240 + 6 * k + 2)) ≡ b → b ≡ all k (λ j. oneWay (orderIn m k) (orderIn m j))
@@ -213,15 +252,19 @@ module _ (m : List ℕ) (g : Ranged m) (k : ℕ) (h : k < word m 7) (high low : 
   term : word m (240 + 6 * k + 3) < periods (word m 0)
   term = order-words m k g h .period
 
-  pub buy-crosses : word m 2 ≤ 10_000_000 → word m (240 + 6 * k + 2) ≡ 1 → getD low (word m (240 + 6 * k + 3)) 0 ≤ word m (240 + 6 * k + 4) → false ≡ all k (crossless m k)
+  pub buy-crosses : word m 2 ≤ 10_000_000 → word m (240 + 6 * k + 2) ≡ 1 → getD low (word m (240 + 6 * k + 3)) 0 ≤ word m (240 + 6 * k + 4) → false
+      ≡ all k (crossless m k)
   buy-crosses c d l =
-      sym (false-by _ (λ t. absurd (let z = s .most (word m (240 + 6 * k + 3)) (word m (240 + 6 * k + 4)) term (let y = order-words m k g h .price .1 in omega arith)
-      (λ j a e q. apart-word m k j few (let f = few in omega arith) (all-true (apart (orderIn m k) (orderIn m j) ∷ apart (orderIn m j) (orderIn m k) ∷ []) (all-at k (crossless m k) j t a) .0) d e (sym q)) in omega arith)))
+      sym (false-by _ (λ t. absurd (let z = s .most (word m (240 + 6 * k + 3)) (word m (240 + 6 * k + 4)) term
+      (let y = order-words m k g h .price .1 in omega arith)
+      (λ j a e q. apart-word m k j few (let f = few in omega arith) (all-true (apart (orderIn m k) (orderIn m j) ∷ apart (orderIn m j) (orderIn m k)
+      ∷ []) (all-at k (crossless m k) j t a) .0) d e (sym q)) in omega arith)))
 
   pub sell-crosses : word m (240 + 6 * k + 2) ≡ 0 → word m (240 + 6 * k + 4) < getD high (word m (240 + 6 * k + 3)) 0 → false ≡ all k (crossless m k)
   sell-crosses d l =
       sym (false-by _ (λ t. absurd (let z = s .least (word m (240 + 6 * k + 3)) (word m (240 + 6 * k + 4)) term
-      (λ j a e q. apart-word m j k (let f = few in omega arith) few (all-true (apart (orderIn m k) (orderIn m j) ∷ apart (orderIn m j) (orderIn m k) ∷ []) (all-at k (crossless m k) j t a) .1 .0) e d q) in omega arith)))
+      (λ j a e q. apart-word m j k (let f = few in omega arith) few (all-true (apart (orderIn m k) (orderIn m j) ∷ apart (orderIn m j) (orderIn m k)
+      ∷ []) (all-at k (crossless m k) j t a) .1 .0) e d q) in omega arith)))
 
   pub buy-apart : word m (240 + 6 * k + 2) ≡ 1 → word m (240 + 6 * k + 4) < getD low (word m (240 + 6 * k + 3)) 0 → true ≡ all k (crossless m k)
   buy-apart d l =
@@ -239,8 +282,10 @@ module _ (m : List ℕ) (g : Ranged m) (k : ℕ) (h : k < word m 7) (high low : 
 
   -- a buy's price entered
   pub buy-entered : (high′ : List ℕ) → word m (240 + 6 * k + 2) ≡ 1 → ((q : ℕ) → (q ≡ word m (240 + 6 * k + 3) → ⊥) → getD high′ q 0 ≡ getD high q 0)
-      → getD high (word m (240 + 6 * k + 3)) 0 ≤ getD high′ (word m (240 + 6 * k + 3)) 0 → word m (240 + 6 * k + 4) < getD high′ (word m (240 + 6 * k + 3)) 0
-      → ((x : ℕ) → getD high (word m (240 + 6 * k + 3)) 0 ≤ x → word m (240 + 6 * k + 4) < x → getD high′ (word m (240 + 6 * k + 3)) 0 ≤ x) → Prices m (k + 1) high′ low
+      → getD high (word m (240 + 6 * k + 3)) 0 ≤ getD high′ (word m (240 + 6 * k + 3)) 0 → word m (240 + 6 * k + 4)
+      < getD high′ (word m (240 + 6 * k + 3)) 0
+      → ((x : ℕ) → getD high (word m (240 + 6 * k + 3)) 0 ≤ x → word m (240 + 6 * k + 4) < x → getD high′ (word m (240 + 6 * k + 3)) 0 ≤ x)
+      → Prices m (k + 1) high′ low
   buy-entered high′ d same up over tight =
       record {
         above = λ q j a b e i. above q j a e i (ℕ-discrete j k) (ℕ-discrete q (word m (240 + 6 * k + 3))) b;
@@ -249,28 +294,32 @@ module _ (m : List ℕ) (g : Ranged m) (k : ℕ) (h : k < word m 7) (high low : 
         most = λ q x a l f. s .most q x a l (λ j b. f j (omega arith));
       }
     where
-      above : (q j : ℕ) → q < periods (word m 0) → word m (240 + 6 * j + 2) ≡ 1 → word m (240 + 6 * j + 3) ≡ q → Dec (j ≡ k) → Dec (q ≡ word m (240 + 6 * k + 3)) → j < k + 1
+      above : (q j : ℕ) → q < periods (word m 0) → word m (240 + 6 * j + 2) ≡ 1 → word m (240 + 6 * j + 3) ≡ q → Dec (j ≡ k)
+          → Dec (q ≡ word m (240 + 6 * k + 3)) → j < k + 1
           → word m (240 + 6 * j + 4) < getD high′ q 0
       above q j a e i (yes y) (yes z) b = rw z (rw y over)
       above q j a e i (yes y) (no z) b = absurd (z (sym i ∙ ap (λ (t : ℕ). word m (240 + 6 * t + 3)) y))
       above q j a e i (no y) (yes z) b = let o = s .above q j a (omega arith) e i in rw z (let u = rw z at o in omega arith)
       above q j a e i (no y) (no z) b = let o = s .above q j a (omega arith) e i in omega (arith, same q z)
 
-      least : (q x : ℕ) → q < periods (word m 0) → ((j : ℕ) → j < k + 1 → word m (240 + 6 * j + 2) ≡ 1 → word m (240 + 6 * j + 3) ≡ q → word m (240 + 6 * j + 4) < x)
+      least : (q x : ℕ) → q < periods (word m 0) → ((j : ℕ) → j < k + 1 → word m (240 + 6 * j + 2) ≡ 1 → word m (240 + 6 * j + 3) ≡ q
+          → word m (240 + 6 * j + 4) < x)
           → Dec (q ≡ word m (240 + 6 * k + 3)) → getD high′ q 0 ≤ x
       least q x a f (yes z) =
           let o = s .least q x a (λ j b. f j (omega arith)) in
           rw z (tight x (rw z at o) (f k (omega arith) d (sym z)))
       least q x a f (no z) = let o = s .least q x a (λ j b. f j (omega arith)) in omega (arith, same q z)
 
-      below : (q j : ℕ) → q < periods (word m 0) → word m (240 + 6 * j + 2) ≡ 0 → word m (240 + 6 * j + 3) ≡ q → Dec (j ≡ k) → j < k + 1 → getD low q 0 ≤ word m (240 + 6 * j + 4)
+      below : (q j : ℕ) → q < periods (word m 0) → word m (240 + 6 * j + 2) ≡ 0 → word m (240 + 6 * j + 3) ≡ q → Dec (j ≡ k) → j < k + 1 → getD low q 0
+          ≤ word m (240 + 6 * j + 4)
       below q j a e i (yes y) b = let z : word m (240 + 6 * k + 2) ≡ 0 = sym (ap (λ (t : ℕ). word m (240 + 6 * t + 2)) y) ∙ e in absurd (omega arith)
       below q j a e i (no y) b = s .below q j a (omega arith) e i
 
   -- a sale's price entered
   pub sell-entered : (low′ : List ℕ) → word m (240 + 6 * k + 2) ≡ 0 → ((q : ℕ) → (q ≡ word m (240 + 6 * k + 3) → ⊥) → getD low′ q 0 ≡ getD low q 0)
       → getD low′ (word m (240 + 6 * k + 3)) 0 ≤ getD low (word m (240 + 6 * k + 3)) 0 → getD low′ (word m (240 + 6 * k + 3)) 0 ≤ word m (240 + 6 * k + 4)
-      → ((x : ℕ) → x < getD low (word m (240 + 6 * k + 3)) 0 → x < word m (240 + 6 * k + 4) → x < getD low′ (word m (240 + 6 * k + 3)) 0) → Prices m (k + 1) high low′
+      → ((x : ℕ) → x < getD low (word m (240 + 6 * k + 3)) 0 → x < word m (240 + 6 * k + 4) → x < getD low′ (word m (240 + 6 * k + 3)) 0)
+      → Prices m (k + 1) high low′
   sell-entered low′ d same down under tight =
       record {
         above = λ q j a b e i. above q j a e i (ℕ-discrete j k) b;
@@ -279,21 +328,24 @@ module _ (m : List ℕ) (g : Ranged m) (k : ℕ) (h : k < word m 7) (high low : 
         most = λ q x a l f. most q x a l f (ℕ-discrete q (word m (240 + 6 * k + 3)));
       }
     where
-      below : (q j : ℕ) → q < periods (word m 0) → word m (240 + 6 * j + 2) ≡ 0 → word m (240 + 6 * j + 3) ≡ q → Dec (j ≡ k) → Dec (q ≡ word m (240 + 6 * k + 3)) → j < k + 1
+      below : (q j : ℕ) → q < periods (word m 0) → word m (240 + 6 * j + 2) ≡ 0 → word m (240 + 6 * j + 3) ≡ q → Dec (j ≡ k)
+          → Dec (q ≡ word m (240 + 6 * k + 3)) → j < k + 1
           → getD low′ q 0 ≤ word m (240 + 6 * j + 4)
       below q j a e i (yes y) (yes z) b = rw z (rw y under)
       below q j a e i (yes y) (no z) b = absurd (z (sym i ∙ ap (λ (t : ℕ). word m (240 + 6 * t + 3)) y))
       below q j a e i (no y) (yes z) b = let o = s .below q j a (omega arith) e i in rw z (let u = rw z at o in omega arith)
       below q j a e i (no y) (no z) b = let o = s .below q j a (omega arith) e i in omega (arith, same q z)
 
-      most : (q x : ℕ) → q < periods (word m 0) → x ≤ 10_000_000 → ((j : ℕ) → j < k + 1 → word m (240 + 6 * j + 2) ≡ 0 → word m (240 + 6 * j + 3) ≡ q → x < word m (240 + 6 * j + 4))
+      most : (q x : ℕ) → q < periods (word m 0) → x ≤ 10_000_000 → ((j : ℕ) → j < k + 1 → word m (240 + 6 * j + 2) ≡ 0 → word m (240 + 6 * j + 3) ≡ q → x
+          < word m (240 + 6 * j + 4))
           → Dec (q ≡ word m (240 + 6 * k + 3)) → x < getD low′ q 0
       most q x a l f (yes z) =
           let o = s .most q x a l (λ j b. f j (omega arith)) in
           rw z (tight x (rw z at o) (f k (omega arith) d (sym z)))
       most q x a l f (no z) = let o = s .most q x a l (λ j b. f j (omega arith)) in omega (arith, same q z)
 
-      above : (q j : ℕ) → q < periods (word m 0) → word m (240 + 6 * j + 2) ≡ 1 → word m (240 + 6 * j + 3) ≡ q → Dec (j ≡ k) → j < k + 1 → word m (240 + 6 * j + 4) < getD high q 0
+      above : (q j : ℕ) → q < periods (word m 0) → word m (240 + 6 * j + 2) ≡ 1 → word m (240 + 6 * j + 3) ≡ q → Dec (j ≡ k) → j < k + 1
+          → word m (240 + 6 * j + 4) < getD high q 0
       above q j a e i (yes y) b = let z : word m (240 + 6 * k + 2) ≡ 1 = sym (ap (λ (t : ℕ). word m (240 + 6 * t + 2)) y) ∙ e in absurd (omega arith)
       above q j a e i (no y) b = s .above q j a (omega arith) e i
 
@@ -315,8 +367,10 @@ module _ (m : List ℕ) (g : Ranged m) (k : ℕ) (h : k < word m 7) (high low : 
   abbrev price : ℕ
   price = word m (240 + 6 * k + 4)
 
-  price-entered : p < length high → p < length low → Dec (d ≡ 1) → Dec (price < getD high p 0) → Dec (price < getD low p 0) → Prices m (k + 1) (highWith d p price high) (lowWith d p price low)
-  price-entered rh rl (yes e) (yes u) w = rw (high-not d p price high (λ _. u), low-not d p price low (λ n. absurd (n e))) (buy-entered high e (λ q n. refl) (omega arith) u (λ x a b. a))
+  price-entered : p < length high → p < length low → Dec (d ≡ 1) → Dec (price < getD high p 0) → Dec (price < getD low p 0)
+      → Prices m (k + 1) (highWith d p price high) (lowWith d p price low)
+  price-entered rh rl (yes e) (yes u) w = rw (high-not d p price high (λ _. u), low-not d p price low (λ n. absurd (n e)))
+      (buy-entered high e (λ q n. refl) (omega arith) u (λ x a b. a))
   price-entered rh rl (yes e) (no u) w =
       let v = getD-set-same high p (price + 1) 0 rh in
       rw (high-new d p price high e (omega arith), low-not d p price low (λ n. absurd (n e)))
@@ -325,13 +379,16 @@ module _ (m : List ℕ) (g : Ranged m) (k : ℕ) (h : k < word m 7) (high low : 
       let v = getD-set-same low p price 0 rl in
       rw (high-not d p price high (λ e. absurd (n e)), low-new d p price low n w)
       (sell-entered (set low p price) (is-sale n) (λ q z. getD-set-other low p q price 0 z) (omega arith) (omega arith) (λ x a b. omega arith))
-  price-entered rh rl (no n) u (no w) = rw (high-not d p price high (λ e. absurd (n e)), low-not d p price low (λ _. omega arith)) (sell-entered low (is-sale n) (λ q z. refl) (omega arith) (omega arith) (λ x a b. a))
+  price-entered rh rl (no n) u (no w) = rw (high-not d p price high (λ e. absurd (n e)), low-not d p price low (λ _. omega arith))
+      (sell-entered low (is-sale n) (λ q z. refl) (omega arith) (omega arith) (λ x a b. a))
 
-  pub priced : (r : Bool) → r ≡ not (all k (crossless m k)) → r ≡ false → length high ≡ 744 → length low ≡ 744 → Priced m k true (highWith d p price high) (lowWith d p price low)
+  pub priced : (r : Bool) → r ≡ not (all k (crossless m k)) → r ≡ false → length high ≡ 744 → length low ≡ 744
+      → Priced m k true (highWith d p price high) (lowWith d p price low)
   priced r e f lh ll =
       record {
         answer = sym (not-false (all k (crossless m k)) (sym e ∙ f));
-        entered = λ z. let t = term in let y = g .readable .daysTo in price-entered (omega arith) (omega arith) (ℕ-discrete d 1) (decLt price (getD high p 0)) (decLt price (getD low p 0));
+        entered = λ z. let t = term in let y = g .readable .daysTo in price-entered (omega arith) (omega arith) (ℕ-discrete d 1)
+            (decLt price (getD high p 0)) (decLt price (getD low p 0));
       }
 
 pub not-priced : (m : List ℕ) (k : ℕ) (high low : List ℕ) → false ≡ all k (crossless m k) → Priced m k false high low
@@ -342,18 +399,28 @@ module _ (m : List ℕ) (k : ℕ) (high low : List ℕ) where
   pub stands-not : (r : Bool) → r ≡ all k (λ j. oneWay (orderIn m k) (orderIn m j)) → r ≡ false → OrderStands m k false high low
   stands-not r e f =
       record {
-        answer = sym (false-by _ (λ t. not-both _ (all-by k (λ j. oneWay (orderIn m k) (orderIn m j)) (λ j h. one-way-holds (orderIn m k) (orderIn m j) (pair-fact (word m 3) (orderIn m k) (orderIn m j) (all-at k (λ i. pairFits (word m 3) (orderIn m k) (orderIn m i)) j t h) .way))) (sym e ∙ f)));
+        answer = sym (false-by _ (λ t. not-both _ (all-by k (λ j. oneWay (orderIn m k) (orderIn m j))
+            (λ j h. one-way-holds (orderIn m k) (orderIn m j)
+            (pair-fact (word m 3) (orderIn m k) (orderIn m j) (all-at k (λ i. pairFits (word m 3) (orderIn m k) (orderIn m i)) j t h) .way))) (sym e ∙ f)));
         entered = λ z. both-ways (sym z);
       }
 
   pub stands-called : (r : Bool) → r ≡ all k (λ j. oneWay (orderIn m k) (orderIn m j)) → r ≡ true → (word m 3 ≡ 1 → ⊥) → OrderStands m k true high low
   stands-called r e t n =
       record {
-        answer = sym (all-by k (λ j. pairFits (word m 3) (orderIn m k) (orderIn m j)) (λ j h. pair-holds (word m 3) (orderIn m k) (orderIn m j) (record { way = one-way-fact (orderIn m k) (orderIn m j) (all-at k (λ i. oneWay (orderIn m k) (orderIn m i)) j (sym e ∙ t) h); buy = λ z. absurd (n z); sale = λ z. absurd (n z) })));
+        answer = sym (all-by k (λ j. pairFits (word m 3) (orderIn m k) (orderIn m j))
+            (λ j h. pair-holds (word m 3) (orderIn m k) (orderIn m j)
+            (record {
+              way = one-way-fact (orderIn m k) (orderIn m j) (all-at k (λ i. oneWay (orderIn m k) (orderIn m i)) j (sym e ∙ t) h);
+              buy = λ z. absurd
+                  (n z);
+              sale = λ z. absurd (n z);
+            })));
         entered = λ z y. absurd (n y);
       }
 
-  pub stands-rolling : (r q : Bool) → r ≡ all k (λ j. oneWay (orderIn m k) (orderIn m j)) → r ≡ true → word m 3 ≡ 1 → Priced m k q high low → OrderStands m k q high low
+  pub stands-rolling : (r q : Bool) → r ≡ all k (λ j. oneWay (orderIn m k) (orderIn m j)) → r ≡ true → word m 3 ≡ 1 → Priced m k q high low
+      → OrderStands m k q high low
   unfolding pairFits holds
   stands-rolling r q e t y d =
       record {
@@ -361,7 +428,8 @@ module _ (m : List ℕ) (k : ℕ) (high low : List ℕ) where
         entered = λ z x. d .entered z;
       }
     where
-      both : (j : ℕ) → oneWay (orderIn m k) (orderIn m j) ≡ true → holds (apart (orderIn m k) (orderIn m j) ∷ apart (orderIn m j) (orderIn m k) ∷ []) ≡ pairFits (word m 3) (orderIn m k) (orderIn m j)
+      both : (j : ℕ) → oneWay (orderIn m k) (orderIn m j) ≡ true → holds (apart (orderIn m k) (orderIn m j) ∷ apart (orderIn m j) (orderIn m k) ∷ [])
+          ≡ pairFits (word m 3) (orderIn m k) (orderIn m j)
       both j w = rw (w, eq-eqb (word m 3) 1 y) (go (apart (orderIn m k) (orderIn m j)) (apart (orderIn m j) (orderIn m k)))
         where
           go : (a b : Bool) → holds (a ∷ b ∷ []) ≡ (a && b)

@@ -9,7 +9,28 @@ use borrow.Author.Tests.{le-leb, lt-leb, leb-true, ne-eqb}
 use lib.ListN.{length, getD, set, replicate}
 use lib.Dec.{eqb, leb}
 use Rattle.measures.specs.Lists.{holds, sum, all, table}
-use Rattle.measures.proofs.ListLaws.{both-ways, false-by, true-by, not-both, and-true, and-left, and-right, all-true, holds-all, all-none, all-more, all-fails, all-at, all-by, all-ext, sum-none, sum-more, sum-ext, sum-at, table-at}
+use Rattle.measures.proofs.ListLaws.{
+  both-ways,
+  false-by,
+  true-by,
+  not-both,
+  and-true,
+  and-left,
+  and-right,
+  all-true,
+  holds-all,
+  all-none,
+  all-more,
+  all-fails,
+  all-at,
+  all-by,
+  all-ext,
+  sum-none,
+  sum-more,
+  sum-ext,
+  sum-at,
+  table-at,
+}
 use Rattle.measures.proofs.RangeLaws.{In}
 use Rattle.limits.specs.Units.{periods, generator}
 use Rattle.book.specs.Book.{unitOf}
@@ -18,7 +39,23 @@ use Rattle.book.specs.Fit.{nothing, openRaising, openLowering}
 use Rattle.book.specs.Layout.{word, decode}
 use Rattle.book.specs.inner.Readable.{Ranged, unitWhole, unitsWhole}
 use Rattle.book.specs.inner.Fitting.{Below, Added, orderShare, offerShare, wayHolds, hourHolds, termPart, volumePart, termAt, volumeAt, periodMisfit}
-use Rattle.book.specs.inner.Whole.{Latest, raisingWay, orderRaises, orderLowers, offersRaise, ordersRaise, ordersLower, BothAdded, cellHolds, CellDone, CellsDone, openUp, openDown, PeriodsDone, sumsHold}
+use Rattle.book.specs.inner.Whole.{
+  Latest,
+  raisingWay,
+  orderRaises,
+  orderLowers,
+  offersRaise,
+  ordersRaise,
+  ordersLower,
+  BothAdded,
+  cellHolds,
+  CellDone,
+  CellsDone,
+  openUp,
+  openDown,
+  PeriodsDone,
+  sumsHold,
+}
 use Rattle.book.proofs.laws.memory.RangeFacts.{kind-at}
 use Rattle.book.proofs.laws.check.ShareLaws.{added-none, added-more, Adding, adding-none, adding-more, adding-ends}
 use Rattle.book.proofs.laws.check.MisfitLaws.{zeros-at}
@@ -38,18 +75,22 @@ module _ (m : List ℕ) (p k : ℕ) where
 
   pub cell-over : 4_800_000_000 < word m (1779 + 328 * p + 5 * k) → false ≡ cellHolds m p k 0 0
   unfolding cellHolds
-  cell-over h = sym (false-by _ (λ t. not-both _ (all-true (wayHolds m k p ∷ hourHolds m k p 0 0 ∷ leb (word m (1779 + 328 * p + 5 * k)) 4_800_000_000 ∷ []) t .1 .1 .0) (lt-leb _ _ h)))
+  cell-over h = sym (false-by _ (λ t. not-both _ (all-true (wayHolds m k p ∷ hourHolds m k p 0 0 ∷ leb (word m (1779 + 328 * p + 5 * k)) 4_800_000_000
+      ∷ []) t .1 .1 .0) (lt-leb _ _ h)))
 
   pub cell-refused : (w v w′ v′ : List ℕ) → false ≡ cellHolds m p k 0 0 → CellDone m p k w v false w′ v′
   cell-refused w v w′ v′ e = record { answer = e; whole = λ z. both-ways (sym z); volume = λ z. both-ways (sym z) }
 
-  pub cell-passed : (r : ℕ) → r ≡ periodMisfit (wayHolds m k p) (hourHolds m k p 0 0) → r ≤ 0 → word m (1779 + 328 * p + 5 * k) ≤ 4_800_000_000 → (w v : List ℕ)
-      → CellDone m p k w v true (set w k (getD w k 0 + (word m (1776 + 328 * p + 5 * k) + word m (1777 + 328 * p + 5 * k)))) (set v k (getD v k 0 + word m (1779 + 328 * p + 5 * k)))
+  pub cell-passed : (r : ℕ) → r ≡ periodMisfit (wayHolds m k p) (hourHolds m k p 0 0) → r ≤ 0 → word m (1779 + 328 * p + 5 * k) ≤ 4_800_000_000
+      → (w v : List ℕ)
+      → CellDone m p k w v true (set w k (getD w k 0 + (word m (1776 + 328 * p + 5 * k) + word m (1777 + 328 * p + 5 * k))))
+      (set v k (getD v k 0 + word m (1779 + 328 * p + 5 * k)))
   unfolding cellHolds termPart volumePart
   cell-passed r e h b w v =
       let t = period-passed _ _ r e h in
       record {
-        answer = sym (holds-all (wayHolds m k p ∷ hourHolds m k p 0 0 ∷ leb (word m (1779 + 328 * p + 5 * k)) 4_800_000_000 ∷ []) (t .0, (t .1, (le-leb _ _ b, tt))));
+        answer = sym (holds-all (wayHolds m k p ∷ hourHolds m k p 0 0 ∷ leb (word m (1779 + 328 * p + 5 * k)) 4_800_000_000
+            ∷ []) (t .0, (t .1, (le-leb _ _ b, tt))));
         whole = λ z. ap (λ (n : ℕ). set w k n) (omega arith);
         volume = λ z. ap (λ (n : ℕ). set v k n) (omega arith);
       }
@@ -139,7 +180,8 @@ module _ (m : List ℕ) (p : ℕ) where
           beneath i (no l) = omega (arith, a .volume .still i (omega arith), bv i)
 
 -- amounts that are the same
-pub cells-same : (m : List ℕ) (p : ℕ) (x y a b : ℕ → ℕ) (w v w′ v′ : List ℕ) (r : Bool) → ((k : ℕ) → k < word m 5 → x k ≡ a k) → ((k : ℕ) → k < word m 5 → y k ≡ b k)
+pub cells-same : (m : List ℕ) (p : ℕ) (x y a b : ℕ → ℕ) (w v w′ v′ : List ℕ) (r : Bool) → ((k : ℕ) → k < word m 5 → x k ≡ a k)
+    → ((k : ℕ) → k < word m 5 → y k ≡ b k)
     → CellsDone m p x y w v r w′ v′ → CellsDone m p a b w v r w′ v′
 cells-same m p x y a b w v w′ v′ r e f d =
     record {
@@ -161,15 +203,18 @@ module _ (m : List ℕ) (p t : ℕ) (l : Latest m 3 p t (word m 7)) (none : word
   idle-up k =
       let e : word m 6 ≡ 0 = omega arith in
       let a : sum (word m 6) (λ j. offerShare m (k + 1) j p) ≡ 0 = ap (λ (n : ℕ). sum n (λ j. offerShare m (k + 1) j p)) e ∙ sum-none _ in
-      let b = sum-zero (word m 7) (λ i. orderShare m (k + 1) (raisingWay m k) i p) (λ i h. share-apart m (k + 1) (raisingWay m k) i p (l .none i (omega arith) h)) in
+      let b = sum-zero (word m 7) (λ i. orderShare m (k + 1) (raisingWay m k) i p)
+      (λ i h. share-apart m (k + 1) (raisingWay m k) i p (l .none i (omega arith) h)) in
       omega arith
 
   pub idle-down : (k : ℕ) → 0 ≡ openDown m p k
   unfolding openDown ordersLower orderLowers
-  idle-down k = sym (sum-zero (word m 7) (λ i. orderShare m (k + 1) (1 - raisingWay m k) i p) (λ i h. share-apart m (k + 1) (1 - raisingWay m k) i p (l .none i (omega arith) h)))
+  idle-down k = sym (sum-zero (word m 7) (λ i. orderShare m (k + 1) (1 - raisingWay m k) i p)
+      (λ i h. share-apart m (k + 1) (1 - raisingWay m k) i p (l .none i (omega arith) h)))
 
 -- what is gathered in a period
-module _ (m : List ℕ) (p : ℕ) (z x y x′ y′ : List ℕ) (bz : Below 0 z) (by : Below 0 y) (a : Added 64 z x (offersRaise m p) 32_000_000_000) (b : BothAdded x y x′ y′ (ordersRaise m p) (ordersLower m p) 1_024_000_000_000) where
+module _ (m : List ℕ) (p : ℕ) (z x y x′ y′ : List ℕ) (bz : Below 0 z) (by : Below 0 y) (a : Added 64 z x (offersRaise m p) 32_000_000_000)
+    (b : BothAdded x y x′ y′ (ordersRaise m p) (ordersLower m p) 1_024_000_000_000) where
   pub open-up : (k : ℕ) → k < 64 → getD x′ k 0 ≡ openUp m p k
   unfolding openUp
   open-up k h = omega (arith, bz k, a .each k h, b .raising .each k h)
@@ -192,18 +237,22 @@ module _ (m : List ℕ) where
       }
 
   module _ (w v w′ v′ : List ℕ) (n : ℕ) (d : PeriodsDone m n w v true w′ v′) where
-    pub periods-more : (w″ v″ : List ℕ) (r : Bool) → r ≡ true → CellsDone m n (openUp m n) (openDown m n) w′ v′ r w″ v″ → PeriodsDone m (n + 1) w v true w″ v″
+    pub periods-more : (w″ v″ : List ℕ) (r : Bool) → r ≡ true → CellsDone m n (openUp m n) (openDown m n) w′ v′ r w″ v″
+        → PeriodsDone m (n + 1) w v true w″ v″
     periods-more w″ v″ r t c =
         record {
           answer = sym (all-more n _ (sym (d .answer)) (sym (c .answer) ∙ t));
-          whole = λ z. added-more (word m 5) w w′ w″ _ _ _ _ _ _ (d .whole refl) (c .whole t) (λ k h. sum-more n (λ i. termPart m k i (openUp m i k))) (omega arith);
-          volume = λ z. added-more (word m 5) v v′ v″ _ _ _ _ _ _ (d .volume refl) (c .volume t) (λ k h. sum-more n (λ i. volumePart m k i (openUp m i k) (openDown m i k))) (omega arith);
+          whole = λ z. added-more (word m 5) w w′ w″ _ _ _ _ _ _ (d .whole refl) (c .whole t) (λ k h. sum-more n (λ i. termPart m k i (openUp m i k)))
+              (omega arith);
+          volume = λ z. added-more (word m 5) v v′ v″ _ _ _ _ _ _ (d .volume refl) (c .volume t)
+              (λ k h. sum-more n (λ i. volumePart m k i (openUp m i k) (openDown m i k))) (omega arith);
         }
 
     pub periods-below : n < 744 → Below 0 w → Below 0 v → (Below 3_800_000_000 w′) × (Below 3_800_000_000_000_000 v′)
     periods-below h bw bv = (λ i. omega (arith, bw i, d .whole refl .grown i), λ i. omega (arith, bv i, d .volume refl .grown i))
 
-  pub periods-fail : (w v w′ v′ w″ v″ : List ℕ) (n p : ℕ) (r : Bool) → p < n → r ≡ false → CellsDone m p (openUp m p) (openDown m p) w′ v′ r w″ v″ → PeriodsDone m n w v false w″ v″
+  pub periods-fail : (w v w′ v′ w″ v″ : List ℕ) (n p : ℕ) (r : Bool) → p < n → r ≡ false → CellsDone m p (openUp m p) (openDown m p) w′ v′ r w″ v″
+      → PeriodsDone m n w v false w″ v″
   periods-fail w v w′ v′ w″ v″ n p r h t c =
       record {
         answer = sym (all-fails n (λ i. all (word m 5) (λ k. cellHolds m i k (openUp m i k) (openDown m i k))) p h (sym (c .answer) ∙ t));
@@ -218,15 +267,18 @@ periods-end m w v w′ v′ p n e d = rw e at d
 module _ (m w v : List ℕ) (k term most : ℕ) (et : term ≡ termAt m k) (em : most ≡ volumeAt m k) where
   pub sums-term : term < getD w k 0 → false ≡ sumsHold m w v k
   unfolding sumsHold
-  sums-term h = sym (false-by _ (λ t. not-both _ (all-true (leb (getD w k 0) (termAt m k) ∷ leb (getD v k 0) (volumeAt m k) ∷ []) t .0) (lt-leb (getD w k 0) (termAt m k) (omega arith))))
+  sums-term h = sym (false-by _ (λ t. not-both _ (all-true (leb (getD w k 0) (termAt m k) ∷ leb (getD v k 0) (volumeAt m k) ∷ []) t .0)
+      (lt-leb (getD w k 0) (termAt m k) (omega arith))))
 
   pub sums-volume : most < getD v k 0 → false ≡ sumsHold m w v k
   unfolding sumsHold
-  sums-volume h = sym (false-by _ (λ t. not-both _ (all-true (leb (getD w k 0) (termAt m k) ∷ leb (getD v k 0) (volumeAt m k) ∷ []) t .1 .0) (lt-leb (getD v k 0) (volumeAt m k) (omega arith))))
+  sums-volume h = sym (false-by _ (λ t. not-both _ (all-true (leb (getD w k 0) (termAt m k) ∷ leb (getD v k 0) (volumeAt m k) ∷ []) t .1 .0)
+      (lt-leb (getD v k 0) (volumeAt m k) (omega arith))))
 
   pub sums-within : getD w k 0 ≤ term → getD v k 0 ≤ most → true ≡ sumsHold m w v k
   unfolding sumsHold
-  sums-within a b = sym (holds-all (leb (getD w k 0) (termAt m k) ∷ leb (getD v k 0) (volumeAt m k) ∷ []) (le-leb (getD w k 0) (termAt m k) (omega arith), (le-leb (getD v k 0) (volumeAt m k) (omega arith), tt)))
+  sums-within a b = sym (holds-all (leb (getD w k 0) (termAt m k) ∷ leb (getD v k 0) (volumeAt m k)
+      ∷ []) (le-leb (getD w k 0) (termAt m k) (omega arith), (le-leb (getD v k 0) (volumeAt m k) (omega arith), tt)))
 
 -- a unit is whole if its cells pass and its sums hold
 module _ (m : List ℕ) (g : Ranged m) (k : ℕ) (h : k < word m 5) where
@@ -245,14 +297,16 @@ module _ (m : List ℕ) (g : Ranged m) (k : ℕ) (h : k < word m 5) where
   up-is p l =
       let few = g .readable .ordersTo in
       let a = offers-open m (k + 1) p l in
-      let b = orders-open m (k + 1) p (raises (unitOf (decode m) (k + 1) .kind)) (raisingWay m k) (λ d. raises-by (unitOf (decode m) (k + 1) .kind) d ∙ ap (eqb d) (sym way-is)) few in
+      let b = orders-open m (k + 1) p (raises (unitOf (decode m) (k + 1) .kind)) (raisingWay m k) (λ d. raises-by (unitOf (decode m) (k + 1) .kind) d
+      ∙ ap (eqb d) (sym way-is)) few in
       omega arith
 
   down-is : (p : ℕ) → openDown m p k ≡ openLowering (decode m) (k + 1) p
   unfolding openDown ordersLower orderLowers openLowering
   down-is p =
       let few = g .readable .ordersTo in
-      sym (orders-open m (k + 1) p (lowers (unitOf (decode m) (k + 1) .kind)) (1 - raisingWay m k) (λ d. lowers-by (unitOf (decode m) (k + 1) .kind) d ∙ ap (eqb d) (sym (way-other (generator (unitOf (decode m) (k + 1) .kind)) (raisingWay m k) way-is))) few)
+      sym (orders-open m (k + 1) p (lowers (unitOf (decode m) (k + 1) .kind)) (1 - raisingWay m k) (λ d. lowers-by (unitOf (decode m) (k + 1) .kind) d
+      ∙ ap (eqb d) (sym (way-other (generator (unitOf (decode m) (k + 1) .kind)) (raisingWay m k) way-is))) few)
 
   abbrev n : ℕ
   n = periods (word m 0)
@@ -278,7 +332,8 @@ module _ (m : List ℕ) (g : Ranged m) (k : ℕ) (h : k < word m 5) where
   abbrev volumes : ℕ → ℕ
   volumes p = volumePart m k p (openUp m p k) (openDown m p k)
 
-  unit-is : unitWhole (decode m) (k + 1) ≡ (all n (wayHolds m k) && holds (all n hourTests ∷ leb (sum n terms) (termAt m k) ∷ leb (sum n volumes) (volumeAt m k) ∷ []))
+  unit-is : unitWhole (decode m) (k + 1) ≡ (all n (wayHolds m k)
+      && holds (all n hourTests ∷ leb (sum n terms) (termAt m k) ∷ leb (sum n volumes) (volumeAt m k) ∷ []))
   unit-is =
       let e = whole-is m (k + 1) known ups downs (λ p l. up-at p l ∙ up-is p l) (λ p l. down-at p l ∙ down-is p) in
       (rw place at e)
@@ -288,7 +343,8 @@ module _ (m : List ℕ) (g : Ranged m) (k : ℕ) (h : k < word m 5) where
         sum-ext n (λ p. volumePart m k p (getD ups p 0) (getD downs p 0)) volumes (λ p l. rw (up-at p l, down-at p l) refl),
       ) refl
 
-  pub unit-whole : ((p : ℕ) → p < n → cellHolds m p k (openUp m p k) (openDown m p k) ≡ true) → sum n terms ≤ termAt m k → sum n volumes ≤ volumeAt m k → unitWhole (decode m) (k + 1) ≡ true
+  pub unit-whole : ((p : ℕ) → p < n → cellHolds m p k (openUp m p k) (openDown m p k) ≡ true) → sum n terms ≤ termAt m k → sum n volumes ≤ volumeAt m k
+      → unitWhole (decode m) (k + 1) ≡ true
   unit-whole c t v =
       unit-is
       ∙ and-true _ _ (all-by n _ (λ p l. cell-way m p k _ _ (c p l)))
@@ -316,7 +372,8 @@ module _ (m : List ℕ) (g : Ranged m) (k : ℕ) (h : k < word m 5) where
 module _ (m : List ℕ) (g : Ranged m) (w v w′ v′ : List ℕ) (bw : Below 0 w) (bv : Below 0 v) where
   pub units-fail : (r : Bool) → r ≡ false → PeriodsDone m (periods (word m 0)) w v r w′ v′ → false ≡ unitsWhole (decode m)
   units-fail r f d =
-      sym (false-by _ (λ t. not-both _ (all-by (periods (word m 0)) _ (λ p l. all-by (word m 5) _ (λ k h. unit-cell m g k h (all-at (word m 5) _ k (sym (units-by-places m) ∙ t) h) p l))) (sym (d .answer) ∙ f)))
+      sym (false-by _ (λ t. not-both _ (all-by (periods (word m 0)) _
+      (λ p l. all-by (word m 5) _ (λ k h. unit-cell m g k h (all-at (word m 5) _ k (sym (units-by-places m) ∙ t) h) p l))) (sym (d .answer) ∙ f)))
 
   module _ (r : Bool) (t : r ≡ true) (d : PeriodsDone m (periods (word m 0)) w v r w′ v′) where
     term-sum : (k : ℕ) → k < word m 5 → getD w′ k 0 ≡ sum (periods (word m 0)) (λ p. termPart m k p (openUp m p k))
@@ -335,9 +392,14 @@ module _ (m : List ℕ) (g : Ranged m) (w v w′ v′ : List ℕ) (bw : Below 0 
         go true false e f =
             let u = all-true (leb (getD w′ k 0) (termAt m k) ∷ leb (getD v′ k 0) (volumeAt m k) ∷ []) e in
             absurd (not-both _ (unit-whole m g k h (λ p l. all-at (word m 5) _ k (all-at (periods (word m 0)) _ p (sym (d .answer) ∙ t) l) h)
-            (omega (arith, leb-true (getD w′ k 0) (termAt m k) (u .0), term-sum k h)) (omega (arith, leb-true (getD v′ k 0) (volumeAt m k) (u .1 .0), volume-sum k h))) f)
+            (omega (arith, leb-true (getD w′ k 0) (termAt m k) (u .0), term-sum k h))
+            (omega (arith, leb-true (getD v′ k 0) (volumeAt m k) (u .1 .0), volume-sum k h))) f)
         go false true e f =
-            absurd (not-both _ (holds-all (leb (getD w′ k 0) (termAt m k) ∷ leb (getD v′ k 0) (volumeAt m k) ∷ []) (le-leb (getD w′ k 0) (termAt m k) (omega (arith, unit-term m g k h f, term-sum k h)), (le-leb (getD v′ k 0) (volumeAt m k) (omega (arith, unit-volume m g k h f, volume-sum k h)), tt))) e)
+            absurd (not-both _ (holds-all (leb (getD w′ k 0) (termAt m k) ∷ leb (getD v′ k 0) (volumeAt m k)
+            ∷ []) (
+              le-leb (getD w′ k 0) (termAt m k) (omega (arith, unit-term m g k h f, term-sum k h)),
+              (le-leb (getD v′ k 0) (volumeAt m k) (omega (arith, unit-volume m g k h f, volume-sum k h)), tt),
+            )) e)
 
     pub units-by-sums : all (word m 5) (sumsHold m w′ v′) ≡ unitsWhole (decode m)
     units-by-sums = all-ext (word m 5) _ _ unit-by ∙ sym (units-by-places m)

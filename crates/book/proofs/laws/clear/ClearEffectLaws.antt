@@ -25,7 +25,18 @@ use Rattle.book.specs.inner.Periods.{Clearable, OrdersBelow, ClearsAll, 
 use Rattle.book.proofs.laws.memory.RangeFacts.{units-held, order-facts, orders-every, order-word}
 use Rattle.book.proofs.laws.answer.MadeLaws.{sound-book, sound-head, sound-readable}
 use Rattle.book.proofs.laws.sound.SoundLaws.{sound-facts}
-use Rattle.book.proofs.laws.memory.WordLaws.{book-same, units-same, offers-same, orders-same, orders-changed, word-before, word-behind, drop-behind, put-length, part-back}
+use Rattle.book.proofs.laws.memory.WordLaws.{
+  book-same,
+  units-same,
+  offers-same,
+  orders-same,
+  orders-changed,
+  word-before,
+  word-behind,
+  drop-behind,
+  put-length,
+  part-back,
+}
 use Rattle.book.proofs.laws.rows.BookingLaws.{kept-past, kept-readable}
 use Rattle.book.proofs.laws.rows.SmallLaws.{sound-small, row-written, rows-written}
 use Rattle.book.proofs.laws.clear.SweepLaws.{orders-small, RowIn, cleared-rows-in}
@@ -36,7 +47,14 @@ unfolding decode
 clear-asks m rows s l =
     let r = sound-readable m s in
     let f = sound-facts (decode m) (sound-book m s) in
-    record { few = r .ordersTo; inside = simp (length-take, length-drop) (omega arith); lent = omega arith; rises = f .formed .ordersRise; small = orders-small (decode m) f }
+    record {
+      few = r .ordersTo;
+      inside = simp (length-take, length-drop) (omega arith);
+      lent = omega arith;
+      rises = f .formed .ordersRise;
+      small =
+          orders-small (decode m) f;
+    }
 
 pub orders-below : (m : List ℕ) → soundIn m ≡ true → OrdersBelow (ordersPart m) (word m 7)
 unfolding sound
@@ -44,13 +62,15 @@ orders-below m s k h =
     let r = sound-readable m s in
     let f = sound-head m s in
     let t = all-true _ (sound-book m s) in
-    let o = order-facts m k (omega arith) (all-at (word m 7) (λ i. orderIn (decode m) (orderAt (ordersPart m) i)) k (sym (orders-every m) ∙ t .1 .1 .1 .0) h) in
+    let o = order-facts m k (omega arith) (all-at (word m 7) (λ i. orderIn (decode m) (orderAt (ordersPart m) i)) k (sym (orders-every m)
+    ∙ t .1 .1 .1 .0) h) in
     let a : getD (ordersPart m) (6 * k + 3) 0 ≡ word m (240 + 6 * k + 3) = order-word m (6 * k + 3) (omega arith) ∙ ap (word m) (omega arith) in
     let b : getD (ordersPart m) (6 * k + 4) 0 ≡ word m (240 + 6 * k + 4) = order-word m (6 * k + 4) (omega arith) ∙ ap (word m) (omega arith) in
     (omega (arith, o .period), omega (arith, o .price .1, f .ceiling))
 
 -- the part is back, and the orders that stand are counted
-module _ (m rows ys rows′ : List ℕ) (count n′ : ℕ) (s : soundIn m ≡ true) (same : length ys ≡ 1536) (c : ClearsAll (ordersPart m) rows (word m 7) (24 * word m 0) count n′ ys rows′) where
+module _ (m rows ys rows′ : List ℕ) (count n′ : ℕ) (s : soundIn m ≡ true) (same : length ys
+    ≡ 1536) (c : ClearsAll (ordersPart m) rows (word m 7) (24 * word m 0) count n′ ys rows′) where
   abbrev x : List ℕ
   x = set (putMid 240 1536 m ys) 7 n′
 
@@ -95,7 +115,8 @@ module _ (m rows ys rows′ : List ℕ) (count n′ : ℕ) (s : soundIn m ≡ tr
         high = high;
         orders = omega arith;
         few = omega arith;
-        past = drop-set-lt (bookWords (word m 0)) (putMid 240 1536 m ys) 7 n′ (omega arith) ∙ drop-behind 240 1776 m ys (omega arith) long same (bookWords (word m 0)) (omega arith);
+        past = drop-set-lt (bookWords (word m 0)) (putMid 240 1536 m ys) 7 n′ (omega arith)
+            ∙ drop-behind 240 1776 m ys (omega arith) long same (bookWords (word m 0)) (omega arith);
         long = length-set (putMid 240 1536 m ys) 7 n′ ∙ put-length 240 1776 m ys (omega arith) long same;
       }
 
@@ -128,8 +149,11 @@ module _ (m rows x rows′ : List ℕ) (count : ℕ) (s : soundIn m ≡ true) (l
   pub swept-rows : RowsFit x rows′ count
   swept-rows k h =
       let c = w .counted in
-      let i : RowIn (length (decode m .units)) (decode m .days) (getD (clearedAll (decode m) .rows) k noRow) = each-at (RowIn (length (decode m .units)) (decode m .days)) (clearedAll (decode m) .rows) k noRow (cleared-rows-in (decode m) (sound-facts (decode m) (sound-book m s))) (omega arith) in
-      let t : rowAt rows′ k ≡ getD (clearedAll (decode m) .rows) k noRow = ap (λ (z : List ℕ). rowAt z k) (w .handed) ∙ row-written rows (clearedAll (decode m) .rows) k (omega arith) in
+      let i : RowIn (length (decode m .units)) (decode m .days) (getD (clearedAll (decode m) .rows) k noRow) = each-at
+      (RowIn (length (decode m .units)) (decode m .days)) (clearedAll (decode m) .rows) k noRow
+      (cleared-rows-in (decode m) (sound-facts (decode m) (sound-book m s))) (omega arith) in
+      let t : rowAt rows′ k ≡ getD (clearedAll (decode m) .rows) k noRow = ap (λ (z : List ℕ). rowAt z k) (w .handed)
+      ∙ row-written rows (clearedAll (decode m) .rows) k (omega arith) in
       fits (rowAt rows′ k) (getD (clearedAll (decode m) .rows) k noRow) t i
     where
       fits : (a b : Row) → a ≡ b → RowIn (length (decode m .units)) (decode m .days) b → RowFits x a
@@ -138,7 +162,15 @@ module _ (m rows x rows′ : List ℕ) (count : ℕ) (s : soundIn m ≡ true) (l
           let e5 = w .low 5 (omega arith) (omega arith) in
           let u = units-held m in
           let d = days-are m in
-          let z : RowFits x b = record { period = omega arith; sellerFrom = omega arith; sellerTo = omega arith; buyerFrom = omega arith; buyerTo = omega arith; quantity = i .quantity } in
+          let z : RowFits x b = record {
+            period = omega arith;
+            sellerFrom = omega arith;
+            sellerTo = omega arith;
+            buyerFrom = omega arith;
+            buyerTo = omega
+                arith;
+            quantity = i .quantity;
+          } in
           rw e z
 
   pub swept-small : Small x smallFigures
@@ -154,28 +186,34 @@ module _ (m rows x rows′ : List ℕ) (count : ℕ) (s : soundIn m ≡ true) (l
 -- the phase is set
 phase-set : (m : List ℕ) → Readable m → decode (set m 3 1) ≡ inPhase (decode m) 1
 unfolding decode
-phase-set m r = book-same (decode (set m 3 1)) (inPhase (decode m) 1) (at 0 (omega arith)) (at 1 (omega arith)) (at 2 (omega arith)) (getD-set-same m 3 1 0 (omega arith)) (at 4 (omega arith)) units offers orders
+phase-set m r = book-same (decode (set m 3 1)) (inPhase (decode m) 1) (at 0 (omega arith)) (at 1 (omega arith)) (at 2 (omega arith))
+    (getD-set-same m 3 1 0 (omega arith)) (at 4 (omega arith)) units offers orders
   where
     at : (i : ℕ) → (i ≡ 3 → ⊥) → word (set m 3 1) i ≡ word m i
     at i ne = getD-set-other m 3 i 1 0 ne
 
     units : table (word (set m 3 1) 5) (unitAt (set m 3 1) (word (set m 3 1) 0)) ≡ table (word m 5) (unitAt m (word m 0))
-    units = rw (at 5 (omega arith), at 0 (omega arith)) (units-same (set m 3 1) m (word m 5) (word m 0) (λ i l h. at i (omega arith)) (λ p c l h. at (1776 + 328 * p + c) (omega arith)))
+    units = rw (at 5 (omega arith), at 0 (omega arith)) (units-same (set m 3 1) m (word m 5) (word m 0) (λ i l h. at i (omega arith))
+        (λ p c l h. at (1776 + 328 * p + c) (omega arith)))
 
     offers : table (word (set m 3 1) 6) (offerAt (set m 3 1) (word (set m 3 1) 0)) ≡ table (word m 6) (offerAt m (word m 0))
-    offers = rw (at 6 (omega arith), at 0 (omega arith)) (offers-same (set m 3 1) m (word m 6) (word m 0) (λ i l h. at i (omega arith)) (λ p j l h. at (2096 + 328 * p + j) (omega arith)))
+    offers = rw (at 6 (omega arith), at 0 (omega arith)) (offers-same (set m 3 1) m (word m 6) (word m 0) (λ i l h. at i (omega arith))
+        (λ p j l h. at (2096 + 328 * p + j) (omega arith)))
 
     orders : ordersIn (ordersPart (set m 3 1)) (word (set m 3 1) 7) ≡ ordersIn (ordersPart m) (word m 7)
     orders = rw (at 7 (omega arith)) (orders-same (set m 3 1) m (word m 7) (r .ordersTo) (λ i l h. at i (omega arith)))
 
 -- all together
-pub all-cleared : (m rows x rows′ : List ℕ) (count : ℕ) (y : List ℕ) → soundIn m ≡ true → 4464 ≤ length rows → Swept m rows count x rows′ → RowsTraded x y rows′ count → AllCleared m rows count (set y 3 1) rows′
+pub all-cleared : (m rows x rows′ : List ℕ) (count : ℕ) (y : List ℕ) → soundIn m ≡ true → 4464 ≤ length rows → Swept m rows count x rows′
+    → RowsTraded x y rows′ count → AllCleared m rows count (set y 3 1) rows′
 all-cleared m rows x rows′ count y s l w t =
     let r = swept-readable m rows x rows′ count s l w in
     let e0 = w .low 0 (omega arith) (omega arith) in
-    let q : rowsIn rows′ count ≡ clearedAll (decode m) .rows = ap (λ (z : List ℕ). rowsIn z count) (w .handed) ∙ ap (λ (z : ℕ). rowsIn (written rows (clearedAll (decode m) .rows)) z) (w .counted) ∙ rows-written rows (clearedAll (decode m) .rows) in
+    let q : rowsIn rows′ count ≡ clearedAll (decode m) .rows = ap (λ (z : List ℕ). rowsIn z count) (w .handed)
+    ∙ ap (λ (z : ℕ). rowsIn (written rows (clearedAll (decode m) .rows)) z) (w .counted) ∙ rows-written rows (clearedAll (decode m) .rows) in
     record {
-      book = phase-set y (kept-readable x y (t .kept) r) ∙ ap (λ (b : Book). inPhase b 1) (t .book ∙ ap (λ (z : List Row). rowsBooked z (decode x)) q ∙ ap (λ (b : Book). rowsBooked (clearedAll (decode m) .rows) b) (w .book));
+      book = phase-set y (kept-readable x y (t .kept) r) ∙ ap (λ (b : Book). inPhase b 1) (t .book ∙ ap (λ (z : List Row). rowsBooked z (decode x)) q
+          ∙ ap (λ (b : Book). rowsBooked (clearedAll (decode m) .rows) b) (w .book));
       counted = w .counted;
       handed = w .handed;
       past = drop-set-lt (bookWords (word m 0)) y 3 1 (omega arith) ∙ (rw e0 at (kept-past x y (t .kept))) ∙ w .past;

@@ -65,7 +65,8 @@ cleared-next n p os c =
             nothing-crosses-after p os (c .rise) (c .some) x y hx hy
             (and-true (buys (x .direction)) (eqb (x .period) p) (eq-eqb _ _ buy) (eq-eqb _ _ e))
             (and-true (sells (y .direction)) (eqb (y .period) p) (eq-eqb _ _ sale) (eq-eqb _ _ (sym same ∙ e)))
-        go (no k) = has-each (FarBelow p x) after y (has-each (λ (z : OpenOrder). Each (FarBelow p z) after) after x before hx) hy (omega arith) buy sale same
+        go (no k) = has-each (FarBelow p x) after y (has-each (λ (z : OpenOrder). Each (FarBelow p z) after) after x before hx) hy
+            (omega arith) buy sale same
 
 -- the rows of a period are between the units of its asks and of its bids, which go other ways
 rows-two-units : (n p : ℕ) (os : List OpenOrder) → ClearedTo n p os → Each (TwoUnits n) (clearPeriod p os .rows)
@@ -83,7 +84,8 @@ rows-two-units n p os c =
         let t : b .order .direction ≡ 1 = eqb-true _ _ (and-left (buys (b .order .direction)) (eqb (b .order .period) p) (b .buy)) in
         let v : a .order .period ≡ p = eqb-true _ _ (and-right (sells (a .order .direction)) (eqb (a .order .period) p) (a .sale)) in
         let w : b .order .period ≡ p = eqb-true _ _ (and-right (buys (b .order .direction)) (eqb (b .order .period) p) (b .buy)) in
-        let same = has-each (SameWay (a .order)) os (b .order) (has-each (λ (x : OpenOrder). Each (SameWay x) os) os (a .order) (c .sameWay) (a .stands)) (b .stands) in
+        let same = has-each (SameWay (a .order)) os (b .order) (has-each (λ (x : OpenOrder). Each (SameWay x) os) os (a .order) (c .sameWay) (a .stands))
+        (b .stands) in
         let d = same (a .unit ∙ e ∙ sym (b .unit)) (v ∙ sym w) in
         omega arith
 
@@ -115,9 +117,11 @@ from-clears n p (suc k) os c =
 cleared-apart : (n p : ℕ) (os : List OpenOrder) → ClearedTo n p os → Each (λ (o : OpenOrder). o .period < p) os → eachTwo apart os ≡ true
 unfolding eachTwo
 cleared-apart n p os c h =
-    each-holds (λ (x : OpenOrder). every (apart x) os) (λ (x : OpenOrder). Each (Far x) os) (λ x e. each-holds (apart x) (Far x) (λ y f. far-apart x y f) os e) os
+    each-holds (λ (x : OpenOrder). every (apart x) os) (λ (x : OpenOrder). Each (Far x) os)
+    (λ x e. each-holds (apart x) (Far x) (λ y f. far-apart x y f) os e) os
     (each-has (λ (x : OpenOrder). Each (Far x) os) os
-    (λ x m. each-imp (FarBelow p x) (Far x) (λ y f. f (has-each (λ (o : OpenOrder). o .period < p) os x h m)) os (has-each (λ (z : OpenOrder). Each (FarBelow p z) os) os x (c .far) m)))
+    (λ x m. each-imp (FarBelow p x) (Far x) (λ y f. f (has-each (λ (o : OpenOrder). o .period < p) os x h m)) os
+    (has-each (λ (z : OpenOrder). Each (FarBelow p z) os) os x (c .far) m)))
 
 -- clear, of a sound book
 module _ (b : Book) (s : Sound b) where
@@ -133,14 +137,16 @@ module _ (b : Book) (s : Sound b) where
         units = each-imp (OrderRanges b) (λ (o : OpenOrder). In 1 (length (b .units)) (o .unit)) (λ o r. r .unit) (b .orders) (f .orders);
         some = each-imp (OrderRanges b) (λ (o : OpenOrder). 0 < o .quantity) (λ o r. r .energy .0) (b .orders) (f .orders);
         sameWay = one-way-same (b .orders) (f .oneWay);
-        far = each-has (λ (x : OpenOrder). Each (FarBelow 0 x) (b .orders)) (b .orders) (λ x m. each-has (FarBelow 0 x) (b .orders) (λ y k l. absurd (omega arith)));
+        far = each-has (λ (x : OpenOrder). Each (FarBelow 0 x) (b .orders)) (b .orders)
+            (λ x m. each-has (FarBelow 0 x) (b .orders) (λ y k l. absurd (omega arith)));
       }))
 
   pub clear-apart : eachTwo apart (after .orders) ≡ true
   clear-apart =
       let c = clear-clears in
       cleared-apart (length (b .units)) (periods (b .days)) (after .orders) (c .cleared)
-      (remains-each LessOrder (OrderRanges b) (λ (o : OpenOrder). o .period < periods (b .days)) (λ x y l r. rw (l .is) (r .period)) (c .remain) (s .formed .orders))
+      (remains-each LessOrder (OrderRanges b) (λ (o : OpenOrder). o .period
+      < periods (b .days)) (λ x y l r. rw (l .is) (r .period)) (c .remain) (s .formed .orders))
 
 -- "each period, rising ... the rolling phase begins"
 pub clearing-sound : (b : Book) (lent : ℕ) → sound b ≡ true → sound (clearing b lent .book) ≡ true
@@ -150,4 +156,5 @@ clearing-sound b lent e =
     (λ z.
     let s = sound-facts b e in
     let c = clear-clears b s in
-    exchanged-sound b (after b s .orders) (after b s .rows) rollingPhase s (c .remain) (c .exchanged) (two-named (length (b .units)) (after b s .rows) (c .units)) (omega arith) (λ r. clear-apart b s))
+    exchanged-sound b (after b s .orders) (after b s .rows) rollingPhase s (c .remain) (c .exchanged)
+    (two-named (length (b .units)) (after b s .rows) (c .units)) (omega arith) (λ r. clear-apart b s))

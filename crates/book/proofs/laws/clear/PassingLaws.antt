@@ -108,7 +108,16 @@ module _ (d rows : List ℕ) (rs cs : List Row) (count k : ℕ) (e : length rs �
   unfolding written
   written-behind =
       let six : 6 * length (rs ++ cs) ≡ 6 * length rs + 6 * length cs = omega (arith, length-append rs cs) in
-      rw (front, nothing, whole, six, flat-append rs cs, ← drop-drop (6 * length cs) (6 * length rs) d, append-nil (flat cs ++ drop (6 * length cs) (drop (6 * length rs) d)))
+      rw (
+        front,
+        nothing,
+        whole,
+        six,
+        flat-append rs cs,
+        ← drop-drop (6 * length cs) (6 * length rs) d,
+        append-nil (flat cs
+            ++ drop (6 * length cs) (drop (6 * length rs) d)),
+      )
       (sym (append-assoc (flat rs) (flat cs) (drop (6 * length cs) (drop (6 * length rs) d))))
 
 -- clearing one period, its rows behind the others
@@ -135,12 +144,14 @@ module _ (m rows : List ℕ) (n p count : ℕ) (h : Clearable m rows n count) wh
         let w = h .few in
         omega arith
 
-    pub stepped : (more n′ : ℕ) → answerOf a .count ≡ more → answerOf a .standing ≡ n′ → Stepped m rows n p count (count + more) n′ m′ (putMid (6 * count) (length rows - 6 * count) rows ys)
+    pub stepped : (more n′ : ℕ) → answerOf a .count ≡ more → answerOf a .standing ≡ n′
+        → Stepped m rows n p count (count + more) n′ m′ (putMid (6 * count) (length rows - 6 * count) rows ys)
     stepped more n′ e f =
         record {
           orders = rw f at (x .orders fit-part);
           counted = ap (λ (k : ℕ). count + k) (sym e ∙ x .count fit-part);
-          handed = λ d rs l w. let t = h .lent in rw (x .handed fit-part) (written-behind d rows rs (clearPeriod p (ordersIn m n) .rows) count (length rows - 6 * count) l w (omega arith));
+          handed = λ d rs l w. let t = h .lent in rw (x .handed fit-part)
+              (written-behind d rows rs (clearPeriod p (ordersIn m n) .rows) count (length rows - 6 * count) l w (omega arith));
           past = x .past;
         }
 
@@ -194,7 +205,8 @@ module _ (m rows : List ℕ) (n end : ℕ) (h : Clearable m rows n n) where
           record { few = omega arith; inside = omega arith; lent = omega arith; rises = g .rises; small = g .small }
 
       -- a period is cleared
-      pub passing-more : (count″ n″ : ℕ) (m″ rows″ : List ℕ) → p < end → Stepped m′ rows′ n′ p count count″ n″ m″ rows″ → length m″ ≡ length m′ → length rows″ ≡ length rows′
+      pub passing-more : (count″ n″ : ℕ) (m″ rows″ : List ℕ) → p < end → Stepped m′ rows′ n′ p count count″ n″ m″ rows″ → length m″ ≡ length m′
+          → length rows″ ≡ length rows′
           → Passing m rows n end m″ rows″ count″ n″ (p + 1)
       passing-more count″ n″ m″ rows″ l s lm lr =
           let cs = clearPeriod p (ordersIn m′ n′) .rows in

@@ -44,7 +44,8 @@ module _ {A : Type 0} where
   keep-two f g e [] = omega arith
   keep-two f g e (x ∷ xs) = rw (keep-count f x xs, keep-count g x xs) (go (f x) (g x) (e x) (keep-two f g e xs))
     where
-      go : (a b : Bool) → (a ≡ true → b ≡ false) → length (keep f xs) + length (keep g xs) ≤ length xs → cond a 1 0 + length (keep f xs) + (cond b 1 0 + length (keep g xs)) ≤ suc (length xs)
+      go : (a b : Bool) → (a ≡ true → b ≡ false) → length (keep f xs) + length (keep g xs) ≤ length xs
+          → cond a 1 0 + length (keep f xs) + (cond b 1 0 + length (keep g xs)) ≤ suc (length xs)
       go true true i t = both-ways (i refl)
       go true false i t = omega arith
       go false true i t = omega arith
@@ -54,7 +55,8 @@ module _ {A : Type 0} where
 module _ (period price : ℕ) where
   row-few : (seller buyer a x e y : ℕ) → length (overlapRow period price seller buyer a x e y) ≤ 1
   unfolding overlapRow
-  row-few seller buyer a x e y = go (eqb (min x y - max a e) 0) (record { way = 3; period = period; seller = seller; buyer = buyer; quantity = min x y - max a e; price = price })
+  row-few seller buyer a x e y = go (eqb (min x y - max a e) 0)
+      (record { way = 3; period = period; seller = seller; buyer = buyer; quantity = min x y - max a e; price = price })
     where
       go : (b : Bool) (r : Row) → length (cond b [] (r ∷ [])) ≤ 1
       go true r = omega arith
@@ -70,7 +72,8 @@ module _ (period price : ℕ) where
   overlaps-few n a (f ∷ fs) e [] h = rw (end-none e, overlap-none period price (endToEnd a (f ∷ fs))) (omega arith)
   overlaps-few zero a (f ∷ fs) e (g ∷ gs) h = absurd (omega arith)
   overlaps-few (suc n) a (f ∷ fs) e (g ∷ gs) h =
-      go (decLe (a + f .amount) (e + g .amount)) (overlaps-few n (a + f .amount) fs e (g ∷ gs) (omega arith)) (overlaps-few n a (f ∷ fs) (e + g .amount) gs (omega arith))
+      go (decLe (a + f .amount) (e + g .amount)) (overlaps-few n (a + f .amount) fs e (g ∷ gs) (omega arith)) (overlaps-few n a (f
+      ∷ fs) (e + g .amount) gs (omega arith))
     where
       row : List Row
       row = overlapRow period price (g .order .unit) (f .order .unit) a (a + f .amount) e (e + g .amount)
@@ -84,11 +87,13 @@ module _ (period price : ℕ) where
           → length (overlapRows period price (endToEnd a (f ∷ fs)) (endToEnd e (g ∷ gs))) ≤ length (f ∷ fs) + length (g ∷ gs)
       go (yes l) s t =
           let rest = overlapRows period price (endToEnd (a + f .amount) fs) (endToEnd e (g ∷ gs)) in
-          let q : length (overlapRows period price (endToEnd a (f ∷ fs)) (endToEnd e (g ∷ gs))) ≡ length row + length rest = ap length (bid-step period price a f fs e g gs l) ∙ length-append row rest in
+          let q : length (overlapRows period price (endToEnd a (f ∷ fs)) (endToEnd e (g ∷ gs)))
+          ≡ length row + length rest = ap length (bid-step period price a f fs e g gs l) ∙ length-append row rest in
           omega (arith, few)
       go (no l) s t =
           let rest = overlapRows period price (endToEnd a (f ∷ fs)) (endToEnd (e + g .amount) gs) in
-          let q : length (overlapRows period price (endToEnd a (f ∷ fs)) (endToEnd e (g ∷ gs))) ≡ length row + length rest = ap length (ask-step period price a f fs e g gs (omega arith)) ∙ length-append row rest in
+          let q : length (overlapRows period price (endToEnd a (f ∷ fs)) (endToEnd e (g ∷ gs)))
+          ≡ length row + length rest = ap length (ask-step period price a f fs e g gs (omega arith)) ∙ length-append row rest in
           omega (arith, few)
 
 -- fills of a side
@@ -104,7 +109,13 @@ fills-few v better margin =
     let a = filled better (map (λ (o : OpenOrder). o .quantity) better) in
     let b = filled margin (parts (v - quantities better) (map (λ (o : OpenOrder). o .quantity) margin)) in
     let l : length (a ++ b) ≡ length a + length b = length-append a b in
-    omega (arith, l, filled-few better (map (λ (o : OpenOrder). o .quantity) better), filled-few margin (parts (v - quantities better) (map (λ (o : OpenOrder). o .quantity) margin)))
+    omega (
+      arith,
+      l,
+      filled-few better (map (λ (o : OpenOrder). o .quantity) better),
+      filled-few margin
+          (parts (v - quantities better) (map (λ (o : OpenOrder). o .quantity) margin)),
+    )
 
 module _ (period : ℕ) (os : List OpenOrder) where
   bids-few : length (bidFillsOf period os) ≤ length (keep (isBid period) os)
@@ -120,7 +131,8 @@ module _ (period : ℕ) (os : List OpenOrder) where
       some : length (bidFills v b (bids period os)) ≤ length (keep (isBid period) os)
       some =
           let s = fills-few v (keep (λ (o : OpenOrder). ltb b (o .price)) (bids period os)) (keep (λ (o : OpenOrder). eqb (o .price) b) (bids period os)) in
-          let t = keep-two (λ (o : OpenOrder). ltb b (o .price)) (λ (o : OpenOrder). eqb (o .price) b) (λ o l. false-by _ (λ q. absurd (omega (arith, ltb-true b (o .price) l, eqb-true (o .price) b q)))) (bids period os) in
+          let t = keep-two (λ (o : OpenOrder). ltb b (o .price)) (λ (o : OpenOrder). eqb (o .price) b)
+          (λ o l. false-by _ (λ q. absurd (omega (arith, ltb-true b (o .price) l, eqb-true (o .price) b q)))) (bids period os) in
           omega (arith, laid-length bidAhead (keep (isBid period) os))
 
       go : (z : Bool) → length (cond z [] (bidFills v b (bids period os))) ≤ length (keep (isBid period) os)
@@ -140,7 +152,8 @@ module _ (period : ℕ) (os : List OpenOrder) where
       some : length (askFills v s (asks period os)) ≤ length (keep (isAsk period) os)
       some =
           let a = fills-few v (keep (λ (o : OpenOrder). ltb (o .price) s) (asks period os)) (keep (λ (o : OpenOrder). eqb (o .price) s) (asks period os)) in
-          let t = keep-two (λ (o : OpenOrder). ltb (o .price) s) (λ (o : OpenOrder). eqb (o .price) s) (λ o l. false-by _ (λ q. absurd (omega (arith, ltb-true (o .price) s l, eqb-true (o .price) s q)))) (asks period os) in
+          let t = keep-two (λ (o : OpenOrder). ltb (o .price) s) (λ (o : OpenOrder). eqb (o .price) s)
+          (λ o l. false-by _ (λ q. absurd (omega (arith, ltb-true (o .price) s l, eqb-true (o .price) s q)))) (asks period os) in
           omega (arith, laid-length askAhead (keep (isAsk period) os))
 
       go : (z : Bool) → length (cond z [] (askFills v s (asks period os))) ≤ length (keep (isAsk period) os)
@@ -153,7 +166,8 @@ module _ (period : ℕ) (os : List OpenOrder) where
       let t = overlaps-few period (priceOf period os) n 0 (bidFillsOf period os) 0 (askFillsOf period os) (omega arith) in
       rw (cleared-rows period os) (omega (arith, bids-few, asks-few))
 
-  one-each : (o : OpenOrder) → cond (isBid period o) 1 0 + cond (isAsk period o) 1 0 + cond (leb (suc period) (o .period)) 1 0 ≤ cond (leb period (o .period)) 1 0
+  one-each : (o : OpenOrder) → cond (isBid period o) 1 0 + cond (isAsk period o) 1 0 + cond (leb (suc period) (o .period)) 1 0
+      ≤ cond (leb period (o .period)) 1 0
   one-each o =
       go (isBid period o) (isAsk period o) (leb (suc period) (o .period)) (leb period (o .period))
       (λ x. false-by _ (λ y. not-both period os o x y))
@@ -169,7 +183,8 @@ module _ (period : ℕ) (os : List OpenOrder) where
       ask : isAsk period o ≡ true → o .period ≡ period
       ask x = eqb-true _ _ (and-right (sells (o .direction)) (eqb (o .period) period) x)
 
-      go : (x y h k : Bool) → (x ≡ true → y ≡ false) → (x ≡ true → h ≡ false) → (x ≡ true → k ≡ true) → (y ≡ true → h ≡ false) → (y ≡ true → k ≡ true) → (h ≡ true → k ≡ true)
+      go : (x y h k : Bool) → (x ≡ true → y ≡ false) → (x ≡ true → h ≡ false) → (x ≡ true → k ≡ true) → (y ≡ true → h ≡ false) → (y ≡ true → k ≡ true)
+          → (h ≡ true → k ≡ true)
           → cond x 1 0 + cond y 1 0 + cond h 1 0 ≤ cond k 1 0
       go true true h k xy xh xk yh yk hk = both-ways (xy refl)
       go true false true k xy xh xk yh yk hk = both-ways (xh refl)
@@ -183,17 +198,29 @@ module _ (period : ℕ) (os : List OpenOrder) where
       go false false false k xy xh xk yh yk hk = omega arith
 
   -- the rows of a period, and the orders of later periods that then wait
-  pub rows-and-waiting : rising (numbers os) ≡ true → length (clearPeriod period os .rows) + waiting (suc period) (clearPeriod period os .orders) ≤ waiting period os
+  pub rows-and-waiting : rising (numbers os) ≡ true → length (clearPeriod period os .rows) + waiting (suc period) (clearPeriod period os .orders)
+      ≤ waiting period os
   unfolding waiting
   rows-and-waiting e =
-      let s : length (keep (λ (o : OpenOrder). leb (suc period) (o .period)) (clearPeriod period os .orders)) ≡ length (keep (λ (o : OpenOrder). leb (suc period) (o .period)) os) = ap length stay in
-      omega (arith, rows-few, keep-parts (isBid period) (isAsk period) (λ (o : OpenOrder). leb (suc period) (o .period)) (λ (o : OpenOrder). leb period (o .period)) one-each os)
+      let s : length (keep (λ (o : OpenOrder). leb (suc period) (o .period)) (clearPeriod period os .orders))
+      ≡ length (keep (λ (o : OpenOrder). leb (suc period) (o .period)) os) = ap length stay in
+      omega (
+        arith,
+        rows-few,
+        keep-parts (isBid period) (isAsk period) (λ (o : OpenOrder). leb (suc period) (o .period))
+            (λ (o : OpenOrder). leb period (o .period)) one-each os,
+      )
     where
-      stay : keep (λ (o : OpenOrder). leb (suc period) (o .period)) (clearPeriod period os .orders) ≡ keep (λ (o : OpenOrder). leb (suc period) (o .period)) os
+      stay : keep (λ (o : OpenOrder). leb (suc period) (o .period)) (clearPeriod period os .orders)
+          ≡ keep (λ (o : OpenOrder). leb (suc period) (o .period)) os
       stay =
           others-stay period os (λ (o : OpenOrder). leb (suc period) (o .period)) (λ o q. refl)
           (λ o x. lt-leb (suc period) (o .period) (omega (arith, eqb-true (o .period) period (and-right (buys (o .direction)) (eqb (o .period) period) x))))
-          (λ o x. lt-leb (suc period) (o .period) (omega (arith, eqb-true (o .period) period (and-right (sells (o .direction)) (eqb (o .period) period) x))))
+          (λ o x. lt-leb (suc period) (o .period) (omega (
+            arith,
+            eqb-true (o .period) period
+                (and-right (sells (o .direction)) (eqb (o .period) period) x),
+          )))
           e
 
 -- fewer wait for a later period

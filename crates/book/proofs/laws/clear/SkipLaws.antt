@@ -30,7 +30,8 @@ module _ (p : ℕ) (os : List OpenOrder) (high low : List ℕ) (b : Each (Priced
   bids-low : Each (λ (o : OpenOrder). o .price < getD high p 0) (bids p os)
   bids-low =
       laid-each bidAhead (λ (o : OpenOrder). o .price < getD high p 0) (keep (isBid p) os)
-      (each-both (λ (o : OpenOrder). isBid p o ≡ true) (PricedBy high low) (λ (o : OpenOrder). o .price < getD high p 0) (keep (isBid p) os) at (kept (isBid p) os) (each-keep (PricedBy high low) (isBid p) os b))
+      (each-both (λ (o : OpenOrder). isBid p o ≡ true) (PricedBy high low) (λ (o : OpenOrder). o .price
+      < getD high p 0) (keep (isBid p) os) at (kept (isBid p) os) (each-keep (PricedBy high low) (isBid p) os b))
     where
       at : (o : OpenOrder) → isBid p o ≡ true → PricedBy high low o → o .price < getD high p 0
       at o t q =
@@ -42,7 +43,8 @@ module _ (p : ℕ) (os : List OpenOrder) (high low : List ℕ) (b : Each (Priced
   asks-high : Each (λ (o : OpenOrder). getD low p 0 ≤ o .price) (asks p os)
   asks-high =
       laid-each askAhead (λ (o : OpenOrder). getD low p 0 ≤ o .price) (keep (isAsk p) os)
-      (each-both (λ (o : OpenOrder). isAsk p o ≡ true) (PricedBy high low) (λ (o : OpenOrder). getD low p 0 ≤ o .price) (keep (isAsk p) os) at (kept (isAsk p) os) (each-keep (PricedBy high low) (isAsk p) os b))
+      (each-both (λ (o : OpenOrder). isAsk p o ≡ true) (PricedBy high low) (λ (o : OpenOrder). getD low p 0
+      ≤ o .price) (keep (isAsk p) os) at (kept (isAsk p) os) (each-keep (PricedBy high low) (isAsk p) os b))
     where
       at : (o : OpenOrder) → isAsk p o ≡ true → PricedBy high low o → getD low p 0 ≤ o .price
       at o t q =
@@ -55,20 +57,25 @@ module _ (p : ℕ) (os : List OpenOrder) (high low : List ℕ) (b : Each (Priced
   unfolding tradedAt
   traded-none x = go (decLt x (getD high p 0))
     where
-      go : Dec (x < getD high p 0) → min (quantities (keep (λ (o : OpenOrder). leb x (o .price)) (bids p os))) (quantities (keep (λ (o : OpenOrder). leb (o .price) x) (asks p os))) ≤ 0
+      go : Dec (x < getD high p 0) → min (quantities (keep (λ (o : OpenOrder). leb x (o .price)) (bids p os)))
+          (quantities (keep (λ (o : OpenOrder). leb (o .price) x) (asks p os))) ≤ 0
       go (yes l) =
           let e : quantities (keep (λ (o : OpenOrder). leb (o .price) x) (asks p os)) ≡ 0 =
-          ap quantities (keep-nothing (λ (o : OpenOrder). leb (o .price) x) (asks p os) (each-map (λ (o : OpenOrder). getD low p 0 ≤ o .price) (λ (o : OpenOrder). leb (o .price) x ≡ false) (asks p os) (λ o q. lt-leb (o .price) x (omega arith)) asks-high)) in
+          ap quantities (keep-nothing (λ (o : OpenOrder). leb (o .price) x) (asks p os) (each-map (λ (o : OpenOrder). getD low p 0
+          ≤ o .price) (λ (o : OpenOrder). leb (o .price) x ≡ false) (asks p os) (λ o q. lt-leb (o .price) x (omega arith)) asks-high)) in
           omega arith
       go (no l) =
           let e : quantities (keep (λ (o : OpenOrder). leb x (o .price)) (bids p os)) ≡ 0 =
-          ap quantities (keep-nothing (λ (o : OpenOrder). leb x (o .price)) (bids p os) (each-map (λ (o : OpenOrder). o .price < getD high p 0) (λ (o : OpenOrder). leb x (o .price) ≡ false) (bids p os) (λ o q. lt-leb x (o .price) (omega arith)) bids-low)) in
+          ap quantities (keep-nothing (λ (o : OpenOrder). leb x (o .price)) (bids p os) (each-map (λ (o : OpenOrder). o .price
+          < getD high p 0) (λ (o : OpenOrder). leb x (o .price) ≡ false) (bids p os) (λ o q. lt-leb x (o .price) (omega arith)) bids-low)) in
           omega arith
 
   volume-none : clearedVolume (bids p os) (asks p os) ≡ 0
   unfolding clearedVolume
   volume-none =
-      let z = largest-below (λ (o : OpenOrder). tradedAt (bids p os) (asks p os) (o .price)) (bids p os ++ asks p os) 0 (each-all (λ (o : OpenOrder). tradedAt (bids p os) (asks p os) (o .price) ≤ 0) (bids p os ++ asks p os) (λ o. traded-none (o .price))) in
+      let z = largest-below (λ (o : OpenOrder). tradedAt (bids p os) (asks p os) (o .price)) (bids p os
+      ++ asks p os) 0 (each-all (λ (o : OpenOrder). tradedAt (bids p os) (asks p os) (o .price) ≤ 0) (bids p os
+      ++ asks p os) (λ o. traded-none (o .price))) in
       omega arith
 
   skipped : clearPeriod p os ≡ record { rows = []; orders = os }
@@ -76,7 +83,8 @@ module _ (p : ℕ) (os : List OpenOrder) (high low : List ℕ) (b : Each (Priced
   skipped = cond-true (eqb (clearedVolume (bids p os) (asks p os)) 0) _ _ (eq-eqb (clearedVolume (bids p os) (asks p os)) 0 volume-none) refl
 
 -- a period that is skipped is cleared
-pub stepped-by : (m rows : List ℕ) (n p count : ℕ) (high low : List ℕ) → Each (PricedBy high low) (ordersIn m n) → getD high p 0 ≤ getD low p 0 → Stepped m rows n p count count n m rows
+pub stepped-by : (m rows : List ℕ) (n p count : ℕ) (high low : List ℕ) → Each (PricedBy high low) (ordersIn m n) → getD high p 0 ≤ getD low p 0
+    → Stepped m rows n p count count n m rows
 stepped-by m rows n p count high low b h =
     let e = skipped p (ordersIn m n) high low b h in
     let r : clearPeriod p (ordersIn m n) .rows ≡ [] = ap (λ (c : Cleared). c .rows) e in
@@ -89,21 +97,31 @@ stepped-by m rows n p count high low b h =
     }
 
 -- what is left has its prices noted still
-pub priced-after : (m rows : List ℕ) (n p count count′ n′ : ℕ) (m′ rows′ high low : List ℕ) → Stepped m rows n p count count′ n′ m′ rows′ → Each (PricedBy high low) (ordersIn m n) → Each (PricedBy high low) (ordersIn m′ n′)
+pub priced-after : (m rows : List ℕ) (n p count count′ n′ : ℕ) (m′ rows′ high low : List ℕ) → Stepped m rows n p count count′ n′ m′ rows′
+    → Each (PricedBy high low) (ordersIn m n) → Each (PricedBy high low) (ordersIn m′ n′)
 priced-after m rows n p count count′ n′ m′ rows′ high low s b =
     rw (s .orders)
-    (remains-each LessOrder (PricedBy high low) (PricedBy high low) (λ x y l q. rw (l .is) (record { bid = q .bid; ask = q .ask })) (cleared-remain p (ordersIn m n)) b)
+    (remains-each LessOrder (PricedBy high low) (PricedBy high low) (λ x y l q. rw (l .is) (record { bid = q .bid; ask = q .ask }))
+    (cleared-remain p (ordersIn m n)) b)
 
 -- an order's price entered
 module _ (o : OpenOrder) (high low : List ℕ) where
-  pub own-priced : o .period < length high → o .period < length low → PricedBy (highWith (o .direction) (o .period) (o .price) high) (lowWith (o .direction) (o .period) (o .price) low) o
-  own-priced rh rl = record { bid = λ e. bid e (decLt (o .price) (getD high (o .period) 0)); ask = λ e. ask (λ z. omega arith) (decLt (o .price) (getD low (o .period) 0)) }
+  pub own-priced : o .period < length high → o .period < length low
+      → PricedBy (highWith (o .direction) (o .period) (o .price) high) (lowWith (o .direction) (o .period) (o .price) low) o
+  own-priced rh rl = record {
+    bid = λ e. bid e (decLt (o .price) (getD high (o .period) 0));
+    ask = λ e. ask (λ z. omega arith)
+        (decLt (o .price) (getD low (o .period) 0));
+  }
     where
-      bid : o .direction ≡ 1 → Dec (o .price < getD high (o .period) 0) → o .price < getD (highWith (o .direction) (o .period) (o .price) high) (o .period) 0
+      bid : o .direction ≡ 1 → Dec (o .price < getD high (o .period) 0) → o .price
+          < getD (highWith (o .direction) (o .period) (o .price) high) (o .period) 0
       bid e (yes u) = rw (high-not (o .direction) (o .period) (o .price) high (λ _. u)) u
-      bid e (no u) = rw (high-new (o .direction) (o .period) (o .price) high e (omega arith)) (omega (arith, getD-set-same high (o .period) (o .price + 1) 0 rh))
+      bid e (no u) = rw (high-new (o .direction) (o .period) (o .price) high e (omega arith))
+          (omega (arith, getD-set-same high (o .period) (o .price + 1) 0 rh))
 
-      ask : (o .direction ≡ 1 → ⊥) → Dec (o .price < getD low (o .period) 0) → getD (lowWith (o .direction) (o .period) (o .price) low) (o .period) 0 ≤ o .price
+      ask : (o .direction ≡ 1 → ⊥) → Dec (o .price < getD low (o .period) 0) → getD (lowWith (o .direction) (o .period) (o .price) low) (o .period) 0
+          ≤ o .price
       ask n (yes u) = rw (low-new (o .direction) (o .period) (o .price) low n u) (omega (arith, getD-set-same low (o .period) (o .price) 0 rl))
       ask n (no u) = rw (low-not (o .direction) (o .period) (o .price) low (λ _. omega arith)) (omega arith)
 
@@ -155,4 +173,5 @@ module _ (m high low : List ℕ) (k : ℕ) (s : NotedTo m high low k) (rh : getD
 
 pub noted-all : (m high low : List ℕ) (k n : ℕ) → k ≡ n → NotedTo m high low k → Each (PricedBy high low) (ordersIn m n)
 noted-all m high low k n e s =
-    each-by (PricedBy high low) (ordersIn m n) noOrder (λ i h. let l : i < n = omega (arith, orders-length m n) in rw (orders-at m n i l) (s i (omega arith)))
+    each-by (PricedBy high low) (ordersIn m n) noOrder (λ i h. let l : i
+    < n = omega (arith, orders-length m n) in rw (orders-at m n i l) (s i (omega arith)))

@@ -49,7 +49,9 @@ unfolding openOrders
 among f os o h e =
     let w : OpenOrder → ℕ = λ x. cond (eqb (x .unit) (o .unit) && eqb (x .period) (o .period) && f (x .direction)) (x .quantity) 0 in
     let t = sum-has w os o h in
-    let c : (eqb (o .unit) (o .unit) && eqb (o .period) (o .period) && f (o .direction)) ≡ true = and-true (eqb (o .unit) (o .unit) && eqb (o .period) (o .period)) (f (o .direction)) (and-true (eqb (o .unit) (o .unit)) (eqb (o .period) (o .period)) (eq-eqb (o .unit) (o .unit) refl) (eq-eqb (o .period) (o .period) refl)) e in
+    let c : (eqb (o .unit) (o .unit) && eqb (o .period) (o .period) && f (o .direction))
+    ≡ true = and-true (eqb (o .unit) (o .unit) && eqb (o .period) (o .period)) (f (o .direction))
+    (and-true (eqb (o .unit) (o .unit)) (eqb (o .period) (o .period)) (eq-eqb (o .unit) (o .unit) refl) (eq-eqb (o .period) (o .period) refl)) e in
     let q : w o ≡ o .quantity = cond-true (eqb (o .unit) (o .unit) && eqb (o .period) (o .period) && f (o .direction)) (o .quantity) 0 c refl in
     omega arith
 
@@ -98,7 +100,8 @@ module _ (b : Book) (s : Sound b) where
 
   pub orders-small : quantities (b .orders) ≤ mostEnergy
   orders-small =
-      let t = sum-most (λ (o : OpenOrder). o .quantity) (b .orders) (each-has (λ (o : OpenOrder). o .quantity ≤ 5_000_000) (b .orders) (λ o h. order-most o h (has-each (OrderRanges b) (b .orders) o (s .formed .orders) h))) in
+      let t = sum-most (λ (o : OpenOrder). o .quantity) (b .orders) (each-has (λ (o : OpenOrder). o .quantity
+      ≤ 5_000_000) (b .orders) (λ o h. order-most o h (has-each (OrderRanges b) (b .orders) o (s .formed .orders) h))) in
       let n = s .formed .head .orders in
       omega arith
 
@@ -108,15 +111,19 @@ unfolding clearFrom
 rows-in-term p zero os = tt
 rows-in-term p (suc n) os =
     each-append (λ (r : Row). r .period < p + suc n) (clearPeriod p os .rows) (clearFrom (suc p) n (clearPeriod p os .orders) .rows)
-    (each-map (λ (r : Row). (r .way ≡ 3) × (r .period ≡ p) × (r .price ≡ _)) (λ (r : Row). r .period < p + suc n) (clearPeriod p os .rows) (λ r h. let e = h .1 in omega arith) (rows-at-price p os))
-    (each-map (λ (r : Row). r .period < suc p + n) (λ (r : Row). r .period < p + suc n) (clearFrom (suc p) n (clearPeriod p os .orders) .rows) (λ r h. omega arith) (rows-in-term (suc p) n (clearPeriod p os .orders)))
+    (each-map (λ (r : Row). (r .way ≡ 3) × (r .period ≡ p) × (r .price ≡ _)) (λ (r : Row). r .period
+    < p + suc n) (clearPeriod p os .rows) (λ r h. let e = h .1 in omega arith) (rows-at-price p os))
+    (each-map (λ (r : Row). r .period < suc p + n) (λ (r : Row). r .period
+    < p + suc n) (clearFrom (suc p) n (clearPeriod p os .orders) .rows) (λ r h. omega arith) (rows-in-term (suc p) n (clearPeriod p os .orders)))
 
 -- a row trades no more than the orders had
 row-most : (os os′ : List OpenOrder) (rs : List Row) → Exchanged os os′ rs → (r : Row) → Has r rs → r .quantity ≤ quantities os
 row-most os os′ rs x r h =
     let w : Row → ℕ = λ z. cond (eqb (z .seller) (r .seller) && eqb (z .period) (r .period)) (z .quantity) 0 in
     let t = sum-has w rs r h in
-    let c : (eqb (r .seller) (r .seller) && eqb (r .period) (r .period)) ≡ true = and-true (eqb (r .seller) (r .seller)) (eqb (r .period) (r .period)) (eq-eqb (r .seller) (r .seller) refl) (eq-eqb (r .period) (r .period) refl) in
+    let c : (eqb (r .seller) (r .seller) && eqb (r .period) (r .period))
+    ≡ true = and-true (eqb (r .seller) (r .seller)) (eqb (r .period) (r .period)) (eq-eqb (r .seller) (r .seller) refl)
+    (eq-eqb (r .period) (r .period) refl) in
     let q : w r ≡ r .quantity = cond-true (eqb (r .seller) (r .seller) && eqb (r .period) (r .period)) (r .quantity) 0 c refl in
     let e = x .sold (r .seller) (r .period) in
     omega (arith, open-most (r .seller) (r .period))
@@ -126,7 +133,8 @@ row-most os os′ rs x r h =
     less false n = omega arith
 
     open-most : (u p : ℕ) → openOf sells u p os ≤ quantities os
-    open-most u p = sum-below (λ (o : OpenOrder). cond (isOf sells u p o) (o .quantity) 0) (λ (o : OpenOrder). o .quantity) (λ o. less (isOf sells u p o) (o .quantity)) os
+    open-most u p = sum-below (λ (o : OpenOrder). cond (isOf sells u p o) (o .quantity) 0) (λ (o : OpenOrder). o .quantity)
+        (λ o. less (isOf sells u p o) (o .quantity)) os
 
 -- the rows of a sound book's clearing
 pub record RowIn (n days : ℕ) (r : Row) : Type 0 where

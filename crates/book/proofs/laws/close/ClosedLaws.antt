@@ -69,7 +69,8 @@ module _ (m x : List ℕ) (q : ℕ) (r : Readable m) (d : DaysOver m x q) where
       fives : word x 5 ≡ word m 5
       fives = d .same 5 (omega arith)
 
-      at : (k : ℕ) → k < word x 5 → (word x (1776 + 328 * q + 5 * k) + word x (1777 + 328 * q + 5 * k) ≤ mostCapacity) × (word x (1778 + 328 * q + 5 * k) ≤ word x (1776 + 328 * q + 5 * k))
+      at : (k : ℕ) → k < word x 5 → (word x (1776 + 328 * q + 5 * k) + word x (1777 + 328 * q + 5 * k) ≤ mostCapacity)
+          × (word x (1778 + 328 * q + 5 * k) ≤ word x (1776 + 328 * q + 5 * k))
       at k h =
           let hk : k < word m 5 = omega (arith, fives) in
           let a = d .behind (1776 + 328 * q + 5 * k) (omega arith) in
@@ -86,7 +87,8 @@ sound-netting m e = record { each = λ p l. record { held = λ k h. sound-netted
 -- two books are the same by their fields
 book-same : {d d′ f f′ c c′ p p′ g g′ : ℕ} {us us′ : List Unit} {os os′ : List OpenOffer} {rs rs′ : List OpenOrder}
     → d ≡ d′ → f ≡ f′ → c ≡ c′ → p ≡ p′ → g ≡ g′ → us ≡ us′ → os ≡ os′ → rs ≡ rs′
-    → _≡_ {A = Book} (record { days = d; floor = f; ceiling = c; phase = p; given = g; units = us; offers = os; orders = rs }) (record { days = d′; floor = f′; ceiling = c′; phase = p′; given = g′; units = us′; offers = os′; orders = rs′ })
+    → _≡_ {A = Book} (record { days = d; floor = f; ceiling = c; phase = p; given = g; units = us; offers = os; orders = rs })
+    (record { days = d′; floor = f′; ceiling = c′; phase = p′; given = g′; units = us′; offers = os′; orders = rs′ })
 book-same a b c d e f g h = rw (a, b, c, d, e, f, g, h)
 
 -- the four words of the head that the close sets
@@ -125,7 +127,8 @@ module _ (m x : List ℕ) (r : Readable m) (d : DaysOver m x (24 * word m 0)) wh
   head i l a b c e = other i a b c e ∙ d .same i l
 
   w3 : word y 3 ≡ 0
-  w3 = getD-set-other y3 7 3 0 0 (omega arith) ∙ getD-set-other y2 6 3 0 0 (omega arith) ∙ getD-set-other y1 4 3 0 0 (omega arith) ∙ getD-set-same x 3 0 0 (omega (arith, long-x))
+  w3 = getD-set-other y3 7 3 0 0 (omega arith) ∙ getD-set-other y2 6 3 0 0 (omega arith) ∙ getD-set-other y1 4 3 0 0 (omega arith)
+      ∙ getD-set-same x 3 0 0 (omega (arith, long-x))
 
   w4 : word y 4 ≡ 0
   w4 = getD-set-other y3 7 4 0 0 (omega arith) ∙ getD-set-other y2 6 4 0 0 (omega arith) ∙ getD-set-same y1 4 0 0 (omega (arith, long-x, len1))
@@ -154,7 +157,8 @@ module _ (m x : List ℕ) (r : Readable m) (d : DaysOver m x (24 * word m 0)) wh
       ∙ sym (map-table dayOver (periods (word m 0)) (figuresAt m k) noFigures) in
       unit-same a b c f
     where
-      unit-same : {a a′ b b′ c c′ : ℕ} {fs fs′ : List Figures} → a ≡ a′ → b ≡ b′ → c ≡ c′ → fs ≡ fs′ → _≡_ {A = Unit} (record { kind = a; capacity = b; asset = c; figures = fs }) (record { kind = a′; capacity = b′; asset = c′; figures = fs′ })
+      unit-same : {a a′ b b′ c c′ : ℕ} {fs fs′ : List Figures} → a ≡ a′ → b ≡ b′ → c ≡ c′ → fs ≡ fs′
+          → _≡_ {A = Unit} (record { kind = a; capacity = b; asset = c; figures = fs }) (record { kind = a′; capacity = b′; asset = c′; figures = fs′ })
       unit-same a b c f = rw (a, b, c, f)
 
   pub closed-book : decode y ≡ dayClosed (decode m)
@@ -171,7 +175,8 @@ module _ (m x : List ℕ) (r : Readable m) (d : DaysOver m x (24 * word m 0)) wh
       (ap (λ (n : ℕ). table n (orderAt (ordersPart y))) w7 ∙ table-none (orderAt (ordersPart y)))
 
   pub closed-past : drop (bookWords (word m 0)) y ≡ drop (bookWords (word m 0)) m
-  closed-past = same-drop (bookWords (word m 0)) y m closed-long (λ i l. other i (omega arith) (omega arith) (omega arith) (omega arith) ∙ d .behind i (omega arith))
+  closed-past = same-drop (bookWords (word m 0)) y m closed-long (λ i l. other i (omega arith) (omega arith) (omega arith) (omega arith)
+      ∙ d .behind i (omega arith))
     where
       same-drop : (n : ℕ) (a b : List ℕ) → length a ≡ length b → ((i : ℕ) → n ≤ i → word a i ≡ word b i) → drop n a ≡ drop n b
       same-drop n a b l h =

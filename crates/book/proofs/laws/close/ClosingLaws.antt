@@ -26,10 +26,12 @@ module _ (m : List ℕ) (k p : ℕ) (h : 1780 + 328 * p + 5 * k < length m) wher
 
   pub cell-long : length (cellClosed m k p) ≡ length m
   unfolding cellClosed
-  cell-long = length-set l3 (1780 + 328 * p + 5 * k) 0 ∙ length-set l2 (1778 + 328 * p + 5 * k) 0 ∙ length-set l1 (1777 + 328 * p + 5 * k) 0 ∙ length-set m (1776 + 328 * p + 5 * k) (netIn m k p)
+  cell-long = length-set l3 (1780 + 328 * p + 5 * k) 0 ∙ length-set l2 (1778 + 328 * p + 5 * k) 0 ∙ length-set l1 (1777 + 328 * p + 5 * k) 0
+      ∙ length-set m (1776 + 328 * p + 5 * k) (netIn m k p)
 
   -- a word that is not one of the four
-  pub cell-other : (i : ℕ) → (i ≡ 1776 + 328 * p + 5 * k → ⊥) → (i ≡ 1777 + 328 * p + 5 * k → ⊥) → (i ≡ 1778 + 328 * p + 5 * k → ⊥) → (i ≡ 1780 + 328 * p + 5 * k → ⊥) → word (cellClosed m k p) i ≡ word m i
+  pub cell-other : (i : ℕ) → (i ≡ 1776 + 328 * p + 5 * k → ⊥) → (i ≡ 1777 + 328 * p + 5 * k → ⊥) → (i ≡ 1778 + 328 * p + 5 * k → ⊥)
+      → (i ≡ 1780 + 328 * p + 5 * k → ⊥) → word (cellClosed m k p) i ≡ word m i
   unfolding cellClosed
   cell-other i n0 n1 n2 n4 =
       getD-set-other l3 (1780 + 328 * p + 5 * k) i 0 0 n4 ∙ getD-set-other l2 (1778 + 328 * p + 5 * k) i 0 0 n2
@@ -49,14 +51,19 @@ module _ (m : List ℕ) (k p : ℕ) (h : 1780 + 328 * p + 5 * k < length m) wher
   cell-over =
       let x = set l3 (1780 + 328 * p + 5 * k) 0 in
       let w0 : word x (1776 + 328 * p + 5 * k) ≡ netIn m k p =
-      getD-set-other l3 (1780 + 328 * p + 5 * k) (1776 + 328 * p + 5 * k) 0 0 (omega arith) ∙ getD-set-other l2 (1778 + 328 * p + 5 * k) (1776 + 328 * p + 5 * k) 0 0 (omega arith)
-      ∙ getD-set-other l1 (1777 + 328 * p + 5 * k) (1776 + 328 * p + 5 * k) 0 0 (omega arith) ∙ getD-set-same m (1776 + 328 * p + 5 * k) (netIn m k p) 0 (omega arith) in
+      getD-set-other l3 (1780 + 328 * p + 5 * k) (1776 + 328 * p + 5 * k) 0 0 (omega arith)
+      ∙ getD-set-other l2 (1778 + 328 * p + 5 * k) (1776 + 328 * p + 5 * k) 0 0 (omega arith)
+      ∙ getD-set-other l1 (1777 + 328 * p + 5 * k) (1776 + 328 * p + 5 * k) 0 0 (omega arith)
+      ∙ getD-set-same m (1776 + 328 * p + 5 * k) (netIn m k p) 0 (omega arith) in
       let w1 : word x (1777 + 328 * p + 5 * k) ≡ 0 =
-      getD-set-other l3 (1780 + 328 * p + 5 * k) (1777 + 328 * p + 5 * k) 0 0 (omega arith) ∙ getD-set-other l2 (1778 + 328 * p + 5 * k) (1777 + 328 * p + 5 * k) 0 0 (omega arith)
+      getD-set-other l3 (1780 + 328 * p + 5 * k) (1777 + 328 * p + 5 * k) 0 0 (omega arith)
+      ∙ getD-set-other l2 (1778 + 328 * p + 5 * k) (1777 + 328 * p + 5 * k) 0 0 (omega arith)
       ∙ getD-set-same l1 (1777 + 328 * p + 5 * k) 0 0 (omega (arith, len1)) in
       let w2 : word x (1778 + 328 * p + 5 * k) ≡ 0 =
-      getD-set-other l3 (1780 + 328 * p + 5 * k) (1778 + 328 * p + 5 * k) 0 0 (omega arith) ∙ getD-set-same l2 (1778 + 328 * p + 5 * k) 0 0 (omega (arith, len2)) in
-      let w3 : word x (1779 + 328 * p + 5 * k) ≡ word m (1779 + 328 * p + 5 * k) = cell-other (1779 + 328 * p + 5 * k) (omega arith) (omega arith) (omega arith) (omega arith) in
+      getD-set-other l3 (1780 + 328 * p + 5 * k) (1778 + 328 * p + 5 * k) 0 0 (omega arith)
+      ∙ getD-set-same l2 (1778 + 328 * p + 5 * k) 0 0 (omega (arith, len2)) in
+      let w3 : word x (1779 + 328 * p + 5 * k) ≡ word m (1779 + 328 * p + 5 * k) = cell-other (1779 + 328 * p + 5 * k) (omega arith) (omega arith)
+      (omega arith) (omega arith) in
       let w4 : word x (1780 + 328 * p + 5 * k) ≡ 0 = getD-set-same l3 (1780 + 328 * p + 5 * k) 0 0 (omega (arith, len3)) in
       rw (w0, w1, w2, w3, w4)
 
@@ -64,13 +71,19 @@ module _ (m : List ℕ) (k p : ℕ) (h : 1780 + 328 * p + 5 * k < length m) wher
 pub over-start : (m : List ℕ) (p : ℕ) → DayOver m m p 0
 over-start m p = record { long = refl; over = λ j l. absurd (omega arith); same = λ i l. refl; behind = λ i l. refl }
 
-pub figures-same : (x y : List ℕ) (j p : ℕ) → ((f : ℕ) → f < 5 → word x (1776 + 328 * p + 5 * j + f) ≡ word y (1776 + 328 * p + 5 * j + f)) → figuresAt x j p ≡ figuresAt y j p
+pub figures-same : (x y : List ℕ) (j p : ℕ) → ((f : ℕ) → f < 5 → word x (1776 + 328 * p + 5 * j + f) ≡ word y (1776 + 328 * p + 5 * j + f))
+    → figuresAt x j p ≡ figuresAt y j p
 figures-same x y j p h =
-    let e0 : word x (1776 + 328 * p + 5 * j) ≡ word y (1776 + 328 * p + 5 * j) = ap (word x) (omega arith) ∙ h 0 (omega arith) ∙ ap (word y) (omega arith) in
-    let e1 : word x (1777 + 328 * p + 5 * j) ≡ word y (1777 + 328 * p + 5 * j) = ap (word x) (omega arith) ∙ h 1 (omega arith) ∙ ap (word y) (omega arith) in
-    let e2 : word x (1778 + 328 * p + 5 * j) ≡ word y (1778 + 328 * p + 5 * j) = ap (word x) (omega arith) ∙ h 2 (omega arith) ∙ ap (word y) (omega arith) in
-    let e3 : word x (1779 + 328 * p + 5 * j) ≡ word y (1779 + 328 * p + 5 * j) = ap (word x) (omega arith) ∙ h 3 (omega arith) ∙ ap (word y) (omega arith) in
-    let e4 : word x (1780 + 328 * p + 5 * j) ≡ word y (1780 + 328 * p + 5 * j) = ap (word x) (omega arith) ∙ h 4 (omega arith) ∙ ap (word y) (omega arith) in
+    let e0 : word x (1776 + 328 * p + 5 * j) ≡ word y (1776 + 328 * p + 5 * j) = ap (word x) (omega arith) ∙ h 0 (omega arith)
+    ∙ ap (word y) (omega arith) in
+    let e1 : word x (1777 + 328 * p + 5 * j) ≡ word y (1777 + 328 * p + 5 * j) = ap (word x) (omega arith) ∙ h 1 (omega arith)
+    ∙ ap (word y) (omega arith) in
+    let e2 : word x (1778 + 328 * p + 5 * j) ≡ word y (1778 + 328 * p + 5 * j) = ap (word x) (omega arith) ∙ h 2 (omega arith)
+    ∙ ap (word y) (omega arith) in
+    let e3 : word x (1779 + 328 * p + 5 * j) ≡ word y (1779 + 328 * p + 5 * j) = ap (word x) (omega arith) ∙ h 3 (omega arith)
+    ∙ ap (word y) (omega arith) in
+    let e4 : word x (1780 + 328 * p + 5 * j) ≡ word y (1780 + 328 * p + 5 * j) = ap (word x) (omega arith) ∙ h 4 (omega arith)
+    ∙ ap (word y) (omega arith) in
     rw (e0, e1, e2, e3, e4)
 
 pub over-more : (m x : List ℕ) (p k : ℕ) → 1780 + 328 * p + 5 * k < length m → DayOver m x p k → DayOver m (cellClosed x k p) p (k + 1)
@@ -90,7 +103,8 @@ over-more m x p k h d = record {
     go : (j : ℕ) → j < k + 1 → Dec (j ≡ k) → figuresAt (cellClosed x k p) j p ≡ dayOver (figuresAt m j p)
     go j l (yes e) = rw e (cell-over x k p hx ∙ ap dayOver here)
     go j l (no ne) =
-        figures-same (cellClosed x k p) x j p (λ f lf. cell-other x k p hx (1776 + 328 * p + 5 * j + f) (omega arith) (omega arith) (omega arith) (omega arith))
+        figures-same (cellClosed x k p) x j p (λ f lf. cell-other x k p hx (1776 + 328 * p + 5 * j + f) (omega arith) (omega arith) (omega arith)
+        (omega arith))
         ∙ d .over j (omega arith)
 
 -- the memory between two units can still be read, and the next unit's figures are as they were
@@ -113,7 +127,8 @@ module _ (m x : List ℕ) (p k : ℕ) (r : Readable m) (d : DayOver m x p k) whe
   pub over-days : word x 0 ≡ word m 0
   over-days = d .same 0 (omega arith)
 
-  pub over-net : AllNetted m p → k < word m 5 → (word x (1776 + 328 * p + 5 * k) + word x (1777 + 328 * p + 5 * k) ≤ mostCapacity) × (word x (1778 + 328 * p + 5 * k) ≤ word x (1776 + 328 * p + 5 * k))
+  pub over-net : AllNetted m p → k < word m 5 → (word x (1776 + 328 * p + 5 * k) + word x (1777 + 328 * p + 5 * k) ≤ mostCapacity)
+      × (word x (1778 + 328 * p + 5 * k) ≤ word x (1776 + 328 * p + 5 * k))
   over-net n h =
       let a = d .behind (1776 + 328 * p + 5 * k) (omega arith) in
       let b = d .behind (1777 + 328 * p + 5 * k) (omega arith) in

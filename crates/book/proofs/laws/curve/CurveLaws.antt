@@ -76,7 +76,8 @@ sound-netted m k e h = record { held = λ p l. at p l .0; lowered = λ p l. at p
     r : UnitRanges (decode m .days) (unitOf (decode m) (k + 1))
     r = each-at (UnitRanges (decode m .days)) (decode m .units) (k + 1 - 1) noUnit (s .formed .units) (rw (units-held m) (omega arith))
 
-    at : (p : ℕ) → p < periods (word m 0) → (word m (1776 + 328 * p + 5 * k) + word m (1777 + 328 * p + 5 * k) ≤ mostCapacity) × (word m (1778 + 328 * p + 5 * k) ≤ word m (1776 + 328 * p + 5 * k))
+    at : (p : ℕ) → p < periods (word m 0) → (word m (1776 + 328 * p + 5 * k) + word m (1777 + 328 * p + 5 * k) ≤ mostCapacity)
+        × (word m (1778 + 328 * p + 5 * k) ≤ word m (1776 + 328 * p + 5 * k))
     at p l =
         let lp : p < periods (decode m .days) = rw (days-held m) l in
         let a = f .raising p lp in
@@ -91,7 +92,8 @@ sound-netted m k e h = record { held = λ p l. at p l .0; lowered = λ p l. at p
         (omega arith, omega arith)
 
 -- one hour more
-pub points-more : (b : Book) (u p n : ℕ) → pointsFrom b u p (n + 1) ≡ firstHalf (net (figuresOf b u p)) ∷ secondHalf (net (figuresOf b u p)) ∷ pointsFrom b u (p + 1) n
+pub points-more : (b : Book) (u p n : ℕ) → pointsFrom b u p (n + 1) ≡ firstHalf (net (figuresOf b u p)) ∷ secondHalf (net (figuresOf b u p))
+    ∷ pointsFrom b u (p + 1) n
 unfolding pointsFrom
 points-more b u p n = rw (add-one n, add-one p)
 
@@ -109,17 +111,20 @@ pub drawing-start : (b : Book) (u p : ℕ) (pts : List ℕ) → Drawing b u p pt
 drawing-start b u p pts = record { at = omega arith; long = refl; written = ap (λ (x : ℕ). pointsFrom b u x 24 ++ drop 48 pts) (omega arith) }
 
 -- two stores, one behind the other
-put-two : (l : List ℕ) (i v w : ℕ) (ys : List ℕ) → i + 1 < 48 → 48 ≤ length l → take (i + 2) (set (set l i v) (i + 1) w) ++ (ys ++ drop 48 (set (set l i v) (i + 1) w)) ≡ take i l ++ ((v ∷ w ∷ ys) ++ drop 48 l)
+put-two : (l : List ℕ) (i v w : ℕ) (ys : List ℕ) → i + 1 < 48 → 48 ≤ length l → take (i + 2) (set (set l i v) (i + 1) w)
+    ++ (ys ++ drop 48 (set (set l i v) (i + 1) w)) ≡ take i l ++ ((v ∷ w ∷ ys) ++ drop 48 l)
 put-two l i v w ys h k =
     let a : i < length l = omega arith in
     let b : i + 1 < length (set l i v) = rw (length-set l i v) (omega arith) in
     let two : i + 2 ≡ suc (i + 1) = omega arith in
     let t1 : take (i + 1) (set l i v) ≡ take i l ++ (v ∷ []) = rw (add-one i) (take-suc-set l i v a) in
-    let t2 : take (i + 2) (set (set l i v) (i + 1) w) ≡ take (i + 1) (set l i v) ++ (w ∷ []) = ap (λ (n : ℕ). take n (set (set l i v) (i + 1) w)) two ∙ take-suc-set (set l i v) (i + 1) w b in
+    let t2 : take (i + 2) (set (set l i v) (i + 1) w) ≡ take (i + 1) (set l i v) ++ (w ∷ []) = ap (λ (n : ℕ). take n (set (set l i v) (i + 1) w)) two
+    ∙ take-suc-set (set l i v) (i + 1) w b in
     let d : drop 48 (set (set l i v) (i + 1) w) ≡ drop 48 l = drop-set-lt 48 (set l i v) (i + 1) w h ∙ drop-set-lt 48 l i v (omega arith) in
     rw (t2, t1, d) (append-assoc (take i l ++ (v ∷ [])) (w ∷ []) (ys ++ drop 48 l) ∙ append-assoc (take i l) (v ∷ []) (w ∷ (ys ++ drop 48 l)))
 
-pub drawing-more : (b : Book) (u p : ℕ) (pts₀ pts : List ℕ) (h n : ℕ) → Drawing b u p pts₀ pts h → h < 24 → 48 ≤ length pts₀ → n ≡ net (figuresOf b u (p + h))
+pub drawing-more : (b : Book) (u p : ℕ) (pts₀ pts : List ℕ) (h n : ℕ) → Drawing b u p pts₀ pts h → h < 24 → 48 ≤ length pts₀ → n
+    ≡ net (figuresOf b u (p + h))
     → Drawing b u p pts₀ (set (set pts (2 * h) (n / 2)) (2 * h + 1) (n - n / 2)) (h + 1)
 drawing-more b u p pts₀ pts h n g l k e = record {
   at = omega arith;
@@ -166,10 +171,12 @@ module _ (m pts : List ℕ) (u day : ℕ) where
     where
       go : (a s : Bool) → enough m ≡ a → sound (decode m) ≡ s → curveOn m u day (length pts) ≡ record { refusal = 1; points = [] }
       go false s ea es = cond-false (enough m) (curve (decode m) u day (length pts)) _ ea refl
-      go true false ea es = cond-true (enough m) (curve (decode m) u day (length pts)) _ ea (rw (chain-unsound (decode m) (curveChecks (decode m) u day (length pts)) es) refl)
+      go true false ea es = cond-true (enough m) (curve (decode m) u day (length pts)) _ ea
+          (rw (chain-unsound (decode m) (curveChecks (decode m) u day (length pts)) es) refl)
       go true true ea es = both-ways (sym (and-true (enough m) (sound (decode m)) ea es) ∙ e)
 
-  pub curved-checked : (r : ℕ) → soundIn m ≡ true → r ≡ firstOf (curveChecks (decode m) u day (length pts)) → (r ≡ 0 → ⊥) → Curved m pts u day (Refused r) pts
+  pub curved-checked : (r : ℕ) → soundIn m ≡ true → r ≡ firstOf (curveChecks (decode m) u day (length pts)) → (r ≡ 0 → ⊥)
+      → Curved m pts u day (Refused r) pts
   unfolding curve curveRefusal
   curved-checked r e f n =
       curved-refused r
@@ -177,7 +184,8 @@ module _ (m pts : List ℕ) (u day : ℕ) where
       ∙ rw (chain-sound (decode m) (curveChecks (decode m) u day (length pts)) (sound-book m e), ← f) (cond-false (eqb r 0) _ _ (ne-eqb r 0 n) refl))
       n
 
-  pub curved-drawn : (pts′ : List ℕ) → soundIn m ≡ true → 0 ≡ firstOf (curveChecks (decode m) u day (length pts)) → pts′ ≡ points (decode m) u day ++ drop 48 pts → Curved m pts u day (Done 0 0) pts′
+  pub curved-drawn : (pts′ : List ℕ) → soundIn m ≡ true → 0 ≡ firstOf (curveChecks (decode m) u day (length pts)) → pts′ ≡ points (decode m) u day
+      ++ drop 48 pts → Curved m pts u day (Done 0 0) pts′
   unfolding curve curveRefusal
   curved-drawn pts′ e f w =
       let c : curveOn m u day (length pts) ≡ record { refusal = 0; points = points (decode m) u day } =

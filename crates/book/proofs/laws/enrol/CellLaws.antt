@@ -24,7 +24,8 @@ zero-here x i j q l = rw q (getD-set-same x j 0 0 l)
 -- the figures of a cell become 0
 abbrev pub clearedCell : List ℕ → ℕ → ℕ → List ℕ
 clearedCell x k p =
-    set (set (set (set (set x (1776 + 328 * p + 5 * k) 0) (1777 + 328 * p + 5 * k) 0) (1778 + 328 * p + 5 * k) 0) (1779 + 328 * p + 5 * k) 0) (1780 + 328 * p + 5 * k) 0
+    set (set (set (set (set x (1776 + 328 * p + 5 * k) 0) (1777 + 328 * p + 5 * k) 0) (1778 + 328 * p + 5 * k) 0) (1779 + 328 * p + 5 * k) 0)
+    (1780 + 328 * p + 5 * k) 0
 
 module _ (x : List ℕ) (k p : ℕ) (fits : 1776 + 328 * p + 328 ≤ length x) (hk : k < 64) where
   abbrev s0 : List ℕ
@@ -72,9 +73,12 @@ module _ (x : List ℕ) (k p : ℕ) (fits : 1776 + 328 * p + 328 ≤ length x) (
   pub cell-zero : (c : ℕ) → c < 5 → word (clearedCell x k p) (1776 + 328 * p + (5 * k + c)) ≡ 0
   cell-zero zero h = k1 _ (zero-here x (1776 + 328 * p + (5 * k + zero)) (1776 + 328 * p + 5 * k) (omega arith) (omega (arith, fits, hk)))
   cell-zero (suc zero) h = k2 _ (zero-here s0 (1776 + 328 * p + (5 * k + suc zero)) (1777 + 328 * p + 5 * k) (omega arith) (omega (arith, l0, fits, hk)))
-  cell-zero (suc (suc zero)) h = k3 _ (zero-here s1 (1776 + 328 * p + (5 * k + suc (suc zero))) (1778 + 328 * p + 5 * k) (omega arith) (omega (arith, l1, fits, hk)))
-  cell-zero (suc (suc (suc zero))) h = k4 _ (zero-here s2 (1776 + 328 * p + (5 * k + suc (suc (suc zero)))) (1779 + 328 * p + 5 * k) (omega arith) (omega (arith, l2, fits, hk)))
-  cell-zero (suc (suc (suc (suc zero)))) h = zero-here s3 (1776 + 328 * p + (5 * k + suc (suc (suc (suc zero))))) (1780 + 328 * p + 5 * k) (omega arith) (omega (arith, l3, fits, hk))
+  cell-zero (suc (suc zero)) h = k3 _ (zero-here s1 (1776 + 328 * p + (5 * k + suc (suc zero))) (1778 + 328 * p + 5 * k) (omega arith)
+      (omega (arith, l1, fits, hk)))
+  cell-zero (suc (suc (suc zero))) h = k4 _ (zero-here s2 (1776 + 328 * p + (5 * k + suc (suc (suc zero)))) (1779 + 328 * p + 5 * k) (omega arith)
+      (omega (arith, l2, fits, hk)))
+  cell-zero (suc (suc (suc (suc zero)))) h = zero-here s3 (1776 + 328 * p + (5 * k + suc (suc (suc (suc zero))))) (1780 + 328 * p + 5 * k) (omega arith)
+      (omega (arith, l3, fits, hk))
   cell-zero (suc (suc (suc (suc (suc c))))) h = absurd (omega arith)
 
   pub cell-other : (i : ℕ) → ((c : ℕ) → c < 5 → i ≡ 1776 + 328 * p + (5 * k + c) → ⊥) → word (clearedCell x k p) i ≡ word x i
@@ -104,7 +108,8 @@ pub record Clearing (m : List ℕ) (k : ℕ) (x : List ℕ) (p : ℕ) : Type 0 w
 pub clearing-start : (m : List ℕ) (k : ℕ) → Clearing m k m 0
 clearing-start m k = record { at = omega arith; long = refl; zeros = λ q c l h. absurd (omega arith); kept = λ i n. refl; past = refl }
 
-pub clearing-more : (m : List ℕ) (k : ℕ) (x : List ℕ) (p : ℕ) → Readable m → k < 64 → p < 24 * word m 0 → Clearing m k x p → Clearing m k (clearedCell x k p) (p + 1)
+pub clearing-more : (m : List ℕ) (k : ℕ) (x : List ℕ) (p : ℕ) → Readable m → k < 64 → p < 24 * word m 0 → Clearing m k x p
+    → Clearing m k (clearedCell x k p) (p + 1)
 clearing-more m k x p r hk hp g =
     record {
       at = omega arith;

@@ -41,9 +41,11 @@ module _ (m : List ℕ) (kind capacity asset : ℕ) where
   unfolding firstOf
   enrol-full k c a h = rw (inside 1 4 kind k, inside 1 mostCapacity capacity c, le-leb asset mostEnergy a, units-held m) (rw (le-leb 64 (word m 5) h) refl)
 
-  pub enrol-passes : In 1 4 kind → In 1 mostCapacity capacity → asset ≤ mostEnergy → word m 5 < 64 → 0 ≡ firstOf (enrolChecks (decode m) kind capacity asset)
+  pub enrol-passes : In 1 4 kind → In 1 mostCapacity capacity → asset ≤ mostEnergy → word m 5 < 64 → 0
+      ≡ firstOf (enrolChecks (decode m) kind capacity asset)
   unfolding firstOf
-  enrol-passes k c a h = rw (inside 1 4 kind k, inside 1 mostCapacity capacity c, le-leb asset mostEnergy a, units-held m) (rw (lt-leb 64 (word m 5) h) refl)
+  enrol-passes k c a h = rw (inside 1 4 kind k, inside 1 mostCapacity capacity c, le-leb asset mostEnergy a, units-held m)
+      (rw (lt-leb 64 (word m 5) h) refl)
 
   -- where the checks give 0 there is room for a unit
   pub enrol-room : 0 ≡ firstOf (enrolChecks (decode m) kind capacity asset) → word m 5 < 64
@@ -110,7 +112,8 @@ module _ (m x : List ℕ) (kind capacity asset : ℕ) (r : Readable m) (room : w
   low : (i : ℕ) → i < 1776 → (i ≡ 5 → ⊥) → (i ≡ 8 + 3 * word m 5 → ⊥) → (i ≡ 9 + 3 * word m 5 → ⊥) → (i ≡ 10 + 3 * word m 5 → ⊥) → word more i ≡ word m i
   low i l a b c d = kept-else i a b c d ∙ kept i (λ p e lp le q. omega arith)
 
-  high : (p c : ℕ) → p < 24 * word m 0 → c < 328 → ((e : ℕ) → e < 5 → c ≡ 5 * word m 5 + e → ⊥) → word more (1776 + 328 * p + c) ≡ word m (1776 + 328 * p + c)
+  high : (p c : ℕ) → p < 24 * word m 0 → c < 328 → ((e : ℕ) → e < 5 → c ≡ 5 * word m 5 + e → ⊥) → word more (1776 + 328 * p + c)
+      ≡ word m (1776 + 328 * p + c)
   high p c hp hc n =
       kept-else (1776 + 328 * p + c) (omega arith) (omega arith) (omega arith) (omega arith)
       ∙ kept (1776 + 328 * p + c) (λ q e lq le h. n e le (omega arith))
@@ -138,7 +141,8 @@ module _ (m x : List ℕ) (kind capacity asset : ℕ) (r : Readable m) (room : w
   d0 : word more 0 ≡ word m 0
   d0 = low 0 (omega arith) (omega arith) (omega arith) (omega arith) (omega arith)
 
-  units : table (word more 5) (unitAt more (word more 0)) ≡ table (word m 5) (unitAt m (word m 0)) ++ (record { kind = kind; capacity = capacity; asset = asset; figures = noTrades (word m 0) } ∷ [])
+  units : table (word more 5) (unitAt more (word more 0)) ≡ table (word m 5) (unitAt m (word m 0))
+      ++ (record { kind = kind; capacity = capacity; asset = asset; figures = noTrades (word m 0) } ∷ [])
   units =
       ap (λ (n : ℕ). table n (unitAt more (word more 0))) count-set
       ∙ ap (λ (d : ℕ). table (word m 5 + 1) (unitAt more d)) d0
@@ -151,12 +155,15 @@ module _ (m x : List ℕ) (kind capacity asset : ℕ) (r : Readable m) (room : w
   pub enrolled-in : decode more ≡ enrolled (decode m) kind capacity asset
   unfolding decode
   enrolled-in =
-      book-same (decode more) (enrolled (decode m) kind capacity asset) d0 (w 1 (omega arith) (omega arith)) (w 2 (omega arith) (omega arith)) (w 3 (omega arith) (omega arith)) (w 4 (omega arith) (omega arith)) units
+      book-same (decode more) (enrolled (decode m) kind capacity asset) d0 (w 1 (omega arith) (omega arith)) (w 2 (omega arith) (omega arith))
+      (w 3 (omega arith) (omega arith)) (w 4 (omega arith) (omega arith)) units
       (ap (λ (n : ℕ). table n (offerAt more (word more 0))) (w 6 (omega arith) (omega arith)) ∙ ap (λ (d : ℕ). table (word m 6) (offerAt more d)) d0
-      ∙ offers-same more m (word m 6) (word m 0) (λ i a b. low i (omega (arith, r .offersTo)) (omega arith) (omega (arith, room)) (omega (arith, room)) (omega (arith, room)))
+      ∙ offers-same more m (word m 6) (word m 0) (λ i a b. low i (omega (arith, r .offersTo)) (omega arith) (omega (arith, room)) (omega (arith, room))
+      (omega (arith, room)))
       (λ p j hp hj. at p j hp hj))
       (ap (λ (n : ℕ). ordersIn (ordersPart more) n) (w 7 (omega arith) (omega arith))
-      ∙ orders-same more m (word m 7) (r .ordersTo) (λ i a b. low i (omega (arith, r .ordersTo)) (omega arith) (omega (arith, room)) (omega (arith, room)) (omega (arith, room))))
+      ∙ orders-same more m (word m 7) (r .ordersTo) (λ i a b. low i (omega (arith, r .ordersTo)) (omega arith) (omega (arith, room)) (omega (arith, room))
+      (omega (arith, room))))
     where
       w : (i : ℕ) → i < 8 → (i ≡ 5 → ⊥) → word more i ≡ word m i
       w i l n = low i (omega arith) n (omega arith) (omega arith) (omega arith)
@@ -168,5 +175,7 @@ module _ (m x : List ℕ) (kind capacity asset : ℕ) (r : Readable m) (room : w
 
   pub enrolled-past : drop (bookWords (word m 0)) more ≡ drop (bookWords (word m 0)) m
   enrolled-past =
-      drop-set-lt (bookWords (word m 0)) t2 5 (word m 5 + 1) (omega arith) ∙ drop-set-lt (bookWords (word m 0)) t1 (10 + 3 * word m 5) asset (omega (arith, room))
-      ∙ drop-set-lt (bookWords (word m 0)) t0 (9 + 3 * word m 5) capacity (omega (arith, room)) ∙ drop-set-lt (bookWords (word m 0)) x (8 + 3 * word m 5) kind (omega (arith, room)) ∙ past
+      drop-set-lt (bookWords (word m 0)) t2 5 (word m 5 + 1) (omega arith)
+      ∙ drop-set-lt (bookWords (word m 0)) t1 (10 + 3 * word m 5) asset (omega (arith, room))
+      ∙ drop-set-lt (bookWords (word m 0)) t0 (9 + 3 * word m 5) capacity (omega (arith, room))
+      ∙ drop-set-lt (bookWords (word m 0)) x (8 + 3 * word m 5) kind (omega (arith, room)) ∙ past

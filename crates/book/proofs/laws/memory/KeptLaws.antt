@@ -22,18 +22,23 @@ module _ {A : Type 0} (f : A → Bool) where
 
   pub keep-whole : (l : List A) (d : A) → ((i : ℕ) → i < length l → f (getD l i d) ≡ true) → keep f l ≡ l
   keep-whole [] d h = refl
-  keep-whole (x ∷ xs) d h = cond-true (f x) (x ∷ keep f xs) (keep f xs) (h 0 (omega arith)) (ap (λ (t : List A). x ∷ t) (keep-whole xs d (λ i l. h (suc i) (omega arith))))
+  keep-whole (x ∷ xs) d h = cond-true (f x) (x ∷ keep f xs) (keep f xs) (h 0 (omega arith)) (ap (λ (t : List A). x
+      ∷ t) (keep-whole xs d (λ i l. h (suc i) (omega arith))))
 
-  pub keep-one : (l : List A) (d : A) (k : ℕ) → k < length l → f (getD l k d) ≡ true → ((i : ℕ) → i < length l → (i ≡ k → ⊥) → f (getD l i d) ≡ false) → keep f l ≡ getD l k d ∷ []
+  pub keep-one : (l : List A) (d : A) (k : ℕ) → k < length l → f (getD l k d) ≡ true → ((i : ℕ) → i < length l → (i ≡ k → ⊥) → f (getD l i d) ≡ false)
+      → keep f l ≡ getD l k d ∷ []
   keep-one [] d k u e h = absurd (not-suc-le-zero u)
-  keep-one (x ∷ xs) d zero u e h = cond-true (f x) (x ∷ keep f xs) (keep f xs) e (ap (λ (t : List A). x ∷ t) (keep-none xs d (λ i l. h (suc i) (omega arith) (λ z. absurd (omega arith)))))
+  keep-one (x ∷ xs) d zero u e h = cond-true (f x) (x ∷ keep f xs) (keep f xs) e (ap (λ (t : List A). x
+      ∷ t) (keep-none xs d (λ i l. h (suc i) (omega arith) (λ z. absurd (omega arith)))))
   keep-one (x ∷ xs) d (suc k) u e h =
       cond-false (f x) (x ∷ keep f xs) (keep f xs) (h 0 (omega arith) (λ z. absurd (omega arith)))
       (keep-one xs d k (omega arith) e (λ i l n. h (suc i) (omega arith) (λ z. n (omega arith))))
 
-  pub keep-but : (l : List A) (d : A) (k : ℕ) → k < length l → f (getD l k d) ≡ false → ((i : ℕ) → i < length l → (i ≡ k → ⊥) → f (getD l i d) ≡ true) → keep f l ≡ take k l ++ drop (suc k) l
+  pub keep-but : (l : List A) (d : A) (k : ℕ) → k < length l → f (getD l k d) ≡ false → ((i : ℕ) → i < length l → (i ≡ k → ⊥) → f (getD l i d) ≡ true)
+      → keep f l ≡ take k l ++ drop (suc k) l
   keep-but [] d k u e h = absurd (not-suc-le-zero u)
-  keep-but (x ∷ xs) d zero u e h = cond-false (f x) (x ∷ keep f xs) (keep f xs) e (keep-whole xs d (λ i l. h (suc i) (omega arith) (λ z. absurd (omega arith))))
+  keep-but (x ∷ xs) d zero u e h = cond-false (f x) (x ∷ keep f xs) (keep f xs) e
+      (keep-whole xs d (λ i l. h (suc i) (omega arith) (λ z. absurd (omega arith))))
   keep-but (x ∷ xs) d (suc k) u e h =
       cond-true (f x) (x ∷ keep f xs) (keep f xs) (h 0 (omega arith) (λ z. absurd (omega arith)))
       (ap (λ (t : List A). x ∷ t) (keep-but xs d k (omega arith) e (λ i l n. h (suc i) (omega arith) (λ z. n (omega arith)))))

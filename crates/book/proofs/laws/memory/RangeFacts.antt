@@ -12,7 +12,20 @@ use Rattle.measures.specs.Ranges.{between, mostEnergy, mostPrice}
 use Rattle.measures.specs.Lists.{holds, every, all, table}
 use Rattle.measures.specs.Sharing.{total}
 use Rattle.measures.proofs.RangeLaws.{In, inside, outside, within}
-use Rattle.measures.proofs.ListLaws.{and-true, and-left, and-right, and-left-false, and-right-false, table-length, table-at, false-by, all-true, holds-all, every-table, not-both}
+use Rattle.measures.proofs.ListLaws.{
+  and-true,
+  and-left,
+  and-right,
+  and-left-false,
+  and-right-false,
+  table-length,
+  table-at,
+  false-by,
+  all-true,
+  holds-all,
+  every-table,
+  not-both,
+}
 use Rattle.limits.specs.Units.{mostDays, mostCapacity, daysIn, periods, kindIn, generator, capacityIn, assetIn}
 use Rattle.matching.specs.Memory.{orderAt, ordersIn}
 use Rattle.matching.proofs.laws.orders.OrderLaws.{orders-length}
@@ -144,13 +157,16 @@ sides-known m u v n l = rw (ne-eqb v 0 n, units-held m) (rw (inside 1 (word m 5)
 
 module _ (m : List ℕ) (u v : ℕ) (n : v ≡ 0 → ⊥) (l : v ≤ word m 5) where
   pub sides-no-generator : generator (unitOf (decode m) u .kind) ≡ false → false ≡ sidesIn (decode m) u v
-  sides-no-generator e = sym (and-left-false (generator (unitOf (decode m) u .kind)) (not (generator (unitOf (decode m) v .kind))) e) ∙ sides-known m u v n l
+  sides-no-generator e = sym (and-left-false (generator (unitOf (decode m) u .kind)) (not (generator (unitOf (decode m) v .kind))) e)
+      ∙ sides-known m u v n l
 
   pub sides-no-load : generator (unitOf (decode m) v .kind) ≡ true → false ≡ sidesIn (decode m) u v
-  sides-no-load e = sym (and-right-false (generator (unitOf (decode m) u .kind)) (not (generator (unitOf (decode m) v .kind))) (rw e refl)) ∙ sides-known m u v n l
+  sides-no-load e = sym (and-right-false (generator (unitOf (decode m) u .kind)) (not (generator (unitOf (decode m) v .kind))) (rw e refl))
+      ∙ sides-known m u v n l
 
   pub sides-right : generator (unitOf (decode m) u .kind) ≡ true → generator (unitOf (decode m) v .kind) ≡ false → true ≡ sidesIn (decode m) u v
-  sides-right e f = sym (and-true (generator (unitOf (decode m) u .kind)) (not (generator (unitOf (decode m) v .kind))) e (rw f refl)) ∙ sides-known m u v n l
+  sides-right e f = sym (and-true (generator (unitOf (decode m) u .kind)) (not (generator (unitOf (decode m) v .kind))) e (rw f refl))
+      ∙ sides-known m u v n l
 
 -- the order at a place of the orders' part, word by word
 pub order-word : (m : List ℕ) (i : ℕ) → i < 1536 → getD (ordersPart m) i 0 ≡ word m (240 + i)
@@ -205,7 +221,8 @@ pub offer-fails : (m : List ℕ) (j : ℕ) → (OfferWords m j → ⊥) → fals
 offer-fails m j n = sym (false-by _ (λ e. n (offer-facts m j e)))
 
 -- the sides decide where all else is in range
-pub offer-by-sides : (m : List ℕ) (j : ℕ) → In 1 (word m 4) (word m (200 + 5 * j)) → In 1 (word m 5) (word m (201 + 5 * j)) → In (word m 1) (word m 2) (word m (203 + 5 * j))
+pub offer-by-sides : (m : List ℕ) (j : ℕ) → In 1 (word m 4) (word m (200 + 5 * j)) → In 1 (word m 5) (word m (201 + 5 * j))
+    → In (word m 1) (word m 2) (word m (203 + 5 * j))
     → word m (204 + 5 * j) ≤ 1 → In 1 mostEnergy (total (table (periods (word m 0)) (amountAt m j)))
     → sidesIn (decode m) (word m (201 + 5 * j)) (word m (202 + 5 * j)) ≡ offerIn (decode m) (offerAt m (word m 0) j)
 offer-by-sides m j n u p t w = go (sidesIn (decode m) (word m (201 + 5 * j)) (word m (202 + 5 * j))) refl

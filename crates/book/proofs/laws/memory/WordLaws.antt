@@ -18,7 +18,8 @@ use Rattle.book.proofs.laws.memory.RangeFacts.{order-word}
 -- a book is known by its parts
 pub book-same : (a b : Book) → a .days ≡ b .days → a .floor ≡ b .floor → a .ceiling ≡ b .ceiling → a .phase ≡ b .phase → a .given ≡ b .given
     → a .units ≡ b .units → a .offers ≡ b .offers → a .orders ≡ b .orders → a ≡ b
-book-same a b e0 e1 e2 e3 e4 e5 e6 e7 = made (a .days) (b .days) (a .floor) (b .floor) (a .ceiling) (b .ceiling) (a .phase) (b .phase) (a .given) (b .given) (a .units) (b .units) (a .offers) (b .offers) (a .orders) (b .orders) e0 e1 e2 e3 e4 e5 e6 e7
+book-same a b e0 e1 e2 e3 e4 e5 e6 e7 = made (a .days) (b .days) (a .floor) (b .floor) (a .ceiling) (b .ceiling) (a .phase) (b .phase) (a .given) (b .given)
+    (a .units) (b .units) (a .offers) (b .offers) (a .orders) (b .orders) e0 e1 e2 e3 e4 e5 e6 e7
   where
     make : ℕ → ℕ → ℕ → ℕ → ℕ → List Unit → List OpenOffer → List OpenOrder → Book
     make d f c p g us os ps = record { days = d; floor = f; ceiling = c; phase = p; given = g; units = us; offers = os; orders = ps }
@@ -74,10 +75,12 @@ module _ (x m : List ℕ) (n d : ℕ) where
           )
 
 -- orders that keep their words
-pub orders-same : (x m : List ℕ) (n : ℕ) → n ≤ 256 → ((i : ℕ) → 240 ≤ i → i < 240 + 6 * n → word x i ≡ word m i) → ordersIn (ordersPart x) n ≡ ordersIn (ordersPart m) n
+pub orders-same : (x m : List ℕ) (n : ℕ) → n ≤ 256 → ((i : ℕ) → 240 ≤ i → i < 240 + 6 * n → word x i ≡ word m i) → ordersIn (ordersPart x) n
+    ≡ ordersIn (ordersPart m) n
 unfolding ordersIn
 orders-same x m n few h =
-    table-ext n (orderAt (ordersPart x)) (orderAt (ordersPart m)) (λ k hk. order-same (ordersPart x) (ordersPart m) k k (λ f hf. at (6 * k + f) (omega arith)))
+    table-ext n (orderAt (ordersPart x)) (orderAt (ordersPart m))
+    (λ k hk. order-same (ordersPart x) (ordersPart m) k k (λ f hf. at (6 * k + f) (omega arith)))
   where
     at : (i : ℕ) → i < 6 * n → getD (ordersPart x) i 0 ≡ getD (ordersPart m) i 0
     at i l = order-word x i (omega arith) ∙ h (240 + i) (omega arith) (omega arith) ∙ sym (order-word m i (omega arith))
@@ -86,16 +89,19 @@ orders-same x m n few h =
 pub orders-changed : (x m : List ℕ) (os : List OpenOrder) → word m 5 ≤ 64 → word m 6 ≤ 8 → ((i : ℕ) → i < 240 → (i ≡ 7 → ⊥) → word x i ≡ word m i)
     → ((i : ℕ) → 1776 ≤ i → word x i ≡ word m i) → ordersIn (ordersPart x) (word x 7) ≡ os → decode x ≡ withOrders (decode m) os
 unfolding decode
-orders-changed x m os hu ho low high e = book-same (decode x) (withOrders (decode m) os) (at 0 (omega arith)) (at 1 (omega arith)) (at 2 (omega arith)) (at 3 (omega arith)) (at 4 (omega arith)) units offers e
+orders-changed x m os hu ho low high e = book-same (decode x) (withOrders (decode m) os) (at 0 (omega arith)) (at 1 (omega arith)) (at 2 (omega arith))
+    (at 3 (omega arith)) (at 4 (omega arith)) units offers e
   where
     at : (i : ℕ) → i < 7 → word x i ≡ word m i
     at i l = low i (omega arith) (omega arith)
 
     units : table (word x 5) (unitAt x (word x 0)) ≡ table (word m 5) (unitAt m (word m 0))
-    units = rw (at 5 (omega arith), at 0 (omega arith)) (units-same x m (word m 5) (word m 0) (λ i l h. low i (omega arith) (omega arith)) (λ p c l h. high (1776 + 328 * p + c) (omega arith)))
+    units = rw (at 5 (omega arith), at 0 (omega arith)) (units-same x m (word m 5) (word m 0) (λ i l h. low i (omega arith) (omega arith))
+        (λ p c l h. high (1776 + 328 * p + c) (omega arith)))
 
     offers : table (word x 6) (offerAt x (word x 0)) ≡ table (word m 6) (offerAt m (word m 0))
-    offers = rw (at 6 (omega arith), at 0 (omega arith)) (offers-same x m (word m 6) (word m 0) (λ i l h. low i (omega arith) (omega arith)) (λ p j l h. high (2096 + 328 * p + j) (omega arith)))
+    offers = rw (at 6 (omega arith), at 0 (omega arith)) (offers-same x m (word m 6) (word m 0) (λ i l h. low i (omega arith) (omega arith))
+        (λ p j l h. high (2096 + 328 * p + j) (omega arith)))
 
 -- the words outside a part that was lent and came back, and the part
 module _ (a e : ℕ) (m ys : List ℕ) (up : a ≤ e) (fits : e ≤ length m) (same : length ys ≡ e - a) where

@@ -17,13 +17,27 @@ use Rattle.limits.specs.Units.{periods}
 use Rattle.book.specs.Book.{Book, known}
 use Rattle.book.specs.Sound.{energyIn}
 use Rattle.book.specs.Layout.{word, decode}
-use Rattle.book.specs.Refusals.{Check, firstOf, unknownUnit, unknownPartner, badPrice, badAmounts, wrongPartner, offersFull, numbersUsed, hourMisfit, termMisfit, volumeMisfit}
+use Rattle.book.specs.Refusals.{
+  Check,
+  firstOf,
+  unknownUnit,
+  unknownPartner,
+  badPrice,
+  badAmounts,
+  wrongPartner,
+  offersFull,
+  numbersUsed,
+  hourMisfit,
+  termMisfit,
+  volumeMisfit,
+}
 use Rattle.book.specs.Offer.{offerChecks, raisingAmounts}
 use Rattle.book.proofs.laws.memory.RangeFacts.{units-held, offers-held}
 use Rattle.book.proofs.laws.offer.OfferCheckLaws.{partner-not}
 
 -- a chain that gives 0 has no check that applies, since no check has number 0
-pub first-passed : (cs : List Check) → every (λ (c : Check). not (eqb (c .number) 0)) cs ≡ true → firstOf cs ≡ 0 → Each (λ (c : Check). c .applies ≡ false) cs
+pub first-passed : (cs : List Check) → every (λ (c : Check). not (eqb (c .number) 0)) cs ≡ true → firstOf cs ≡ 0
+    → Each (λ (c : Check). c .applies ≡ false) cs
 unfolding firstOf
 first-passed [] h e = tt
 first-passed (c ∷ cs) h e =
@@ -88,11 +102,15 @@ pub record Terms (m : List ℕ) (u v : ℕ) (l : List ℕ) : Type 0 where
   pub whole : length l ≡ 24 * word m 0
   pub energy : In 1 mostEnergy (total l)
 
-amounts-are : (m l : List ℕ) → not (eqb (length l) (periods (decode m .days)) && energyIn (total l)) ≡ false → (length l ≡ 24 * word m 0) × In 1 mostEnergy (total l)
+amounts-are : (m l : List ℕ) → not (eqb (length l) (periods (decode m .days)) && energyIn (total l)) ≡ false → (length l ≡ 24 * word m 0)
+    × In 1 mostEnergy (total l)
 unfolding decode
 amounts-are m l e =
-    let t : (eqb (length l) (24 * word m 0) && energyIn (total l)) ≡ true = not-false _ e in
-    (eqb-true (length l) (24 * word m 0) (and-left (eqb (length l) (24 * word m 0)) (energyIn (total l)) t), within 1 mostEnergy (total l) (and-right (eqb (length l) (24 * word m 0)) (energyIn (total l)) t))
+    let t : (eqb (length l) (24 * word m 0) && energyIn (total l)) ≡ true = not-false _ e in (
+      eqb-true (length l) (24 * word m 0) (and-left (eqb (length l) (24 * word m 0)) (energyIn (total l)) t),
+      within 1 mostEnergy (total l)
+          (and-right (eqb (length l) (24 * word m 0)) (energyIn (total l)) t),
+    )
 
 pub terms-left : (m : List ℕ) (u v q : ℕ) (l : List ℕ) (r : ℕ) → r ≡ firstOf (termsOf (decode m) u v q l) → r ≡ 0 → Terms m u v l
 terms-left m u v q l r e z =

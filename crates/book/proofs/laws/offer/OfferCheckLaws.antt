@@ -59,7 +59,8 @@ module _ (m : List ℕ) where
   unfolding decode
   price-out q h = rw (outside (word m 1) (word m 2) q h) refl
 
-  amounts-in : (l : List ℕ) → length l ≡ 24 * word m 0 → In 1 mostEnergy (total l) → not (eqb (length l) (periods (decode m .days)) && energyIn (total l)) ≡ false
+  amounts-in : (l : List ℕ) → length l ≡ 24 * word m 0 → In 1 mostEnergy (total l) → not (eqb (length l) (periods (decode m .days)) && energyIn (total l))
+      ≡ false
   unfolding decode
   amounts-in l e h = rw (eq-eqb (length l) (24 * word m 0) e, inside 1 mostEnergy (total l) h) refl
 
@@ -67,7 +68,8 @@ module _ (m : List ℕ) where
   unfolding decode
   amounts-long l e = rw (ne-eqb (length l) (24 * word m 0) e) refl
 
-  amounts-out : (l : List ℕ) → length l ≡ 24 * word m 0 → (In 1 mostEnergy (total l) → ⊥) → not (eqb (length l) (periods (decode m .days)) && energyIn (total l)) ≡ true
+  amounts-out : (l : List ℕ) → length l ≡ 24 * word m 0 → (In 1 mostEnergy (total l) → ⊥)
+      → not (eqb (length l) (periods (decode m .days)) && energyIn (total l)) ≡ true
   unfolding decode
   amounts-out l e h = rw (eq-eqb (length l) (24 * word m 0) e, outside 1 mostEnergy (total l) h) refl
 
@@ -87,7 +89,8 @@ module _ (m : List ℕ) (u v q : ℕ) (l : List ℕ) where
     terms-price p = sym (first-skip _ _ _ (unit-known m u h) ∙ first-skip _ _ _ (partner-known m v k) ∙ first-take _ _ _ (price-out m q p))
 
     module _ (p : In (word m 1) (word m 2) q) where
-      three : (b : Bool) → firstOf (unknownUnit (decode m) u ∷ unknownPartner (decode m) v ∷ badPrice (decode m) q ∷ check 9 b ∷ []) ≡ firstOf (check 9 b ∷ [])
+      three : (b : Bool) → firstOf (unknownUnit (decode m) u ∷ unknownPartner (decode m) v ∷ badPrice (decode m) q ∷ check 9 b ∷ [])
+          ≡ firstOf (check 9 b ∷ [])
       three b = first-skip _ _ _ (unit-known m u h) ∙ first-skip _ _ _ (partner-known m v k) ∙ first-skip _ _ _ (price-in m q p)
 
       pub terms-long : (length l ≡ 24 * word m 0 → ⊥) → 9 ≡ firstOf termChecks

@@ -59,7 +59,8 @@ module _ (m : List ℕ) (s : soundIn m ≡ true) where
     pub offer-fits : (l raising lowering : List ℕ) (r : ℕ) → ((p : ℕ) → getD raising p 0 ≡ getD l p 0) → ((p : ℕ) → getD lowering p 0 ≡ 0)
         → Fitted (decode m) u (declared raising lowering) r → r ≡ firstOf (fitOf (decode m) u l)
     offer-fits l raising lowering r f g w =
-        w .clean sound-ways ∙ misfit-ext (decode m) u (declared raising lowering) (raisingAmounts l) f g ∙ misfit-declared (decode m) u (raisingAmounts l) sound-fits
+        w .clean sound-ways ∙ misfit-ext (decode m) u (declared raising lowering) (raisingAmounts l) f g
+        ∙ misfit-declared (decode m) u (raisingAmounts l) sound-fits
 
 -- an amount is at most the total
 pub amount-below : (l : List ℕ) (i : ℕ) → getD l i 0 ≤ total l
@@ -93,7 +94,8 @@ copying-more z l x i fits h g =
     go k u (no e) = getD-set-other x i k (word l i) 0 e ∙ g .here k (omega arith)
 
 -- amounts copied over zeros are the amounts, wherever they are asked
-pub copied-at : (z l x : List ℕ) → ((k : ℕ) → word z k ≡ 0) → ((k : ℕ) → k < length l → word x k ≡ word l k) → ((k : ℕ) → length l ≤ k → word x k ≡ word z k) → (k : ℕ) → getD x k 0 ≡ getD l k 0
+pub copied-at : (z l x : List ℕ) → ((k : ℕ) → word z k ≡ 0) → ((k : ℕ) → k < length l → word x k ≡ word l k)
+    → ((k : ℕ) → length l ≤ k → word x k ≡ word z k) → (k : ℕ) → getD x k 0 ≡ getD l k 0
 copied-at z l x zeros here kept k = go (decLt k (length l))
   where
     go : Dec (k < length l) → getD x k 0 ≡ getD l k 0

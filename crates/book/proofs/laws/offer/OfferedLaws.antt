@@ -46,7 +46,8 @@ putting-more m j amounts x p r hj hp g =
     put q l (no e) = getD-set-other x (2096 + 328 * p + j) (2096 + 328 * q + j) (word amounts p) 0 (omega arith) ∙ g .put q (omega arith)
 
 -- the memory with one offer more
-module _ (m x : List ℕ) (unit partner price : ℕ) (amounts : List ℕ) (r : Readable m) (room : word m 6 < 8) (whole : length amounts ≡ 24 * word m 0) (long : length x ≡ length m)
+module _ (m x : List ℕ) (unit partner price : ℕ) (amounts : List ℕ) (r : Readable m) (room : word m 6 < 8) (whole : length amounts
+    ≡ 24 * word m 0) (long : length x ≡ length m)
     (put : (p : ℕ) → p < 24 * word m 0 → word x (2096 + 328 * p + word m 6) ≡ word amounts p)
     (kept : (i : ℕ) → ((p : ℕ) → p < 24 * word m 0 → i ≡ 2096 + 328 * p + word m 6 → ⊥) → word x i ≡ word m i)
     (past : drop (bookWords (word m 0)) x ≡ drop (bookWords (word m 0)) m) where
@@ -159,7 +160,8 @@ module _ (m x : List ℕ) (unit partner price : ℕ) (amounts : List ℕ) (r : R
   d0 : word more 0 ≡ word m 0
   d0 = w 0 (omega arith) (omega arith) (omega arith)
 
-  offers : table (word more 6) (offerAt more (word more 0)) ≡ table (word m 6) (offerAt m (word m 0)) ++ (record { number = word m 4 + 1; unit = unit; partner = partner; price = price; taken = 0; amounts = amounts } ∷ [])
+  offers : table (word more 6) (offerAt more (word more 0)) ≡ table (word m 6) (offerAt m (word m 0))
+      ++ (record { number = word m 4 + 1; unit = unit; partner = partner; price = price; taken = 0; amounts = amounts } ∷ [])
   offers =
       ap (λ (n : ℕ). table n (offerAt more (word more 0))) count-set
       ∙ ap (λ (d : ℕ). table (word m 6 + 1) (offerAt more d)) d0
@@ -176,17 +178,23 @@ module _ (m x : List ℕ) (unit partner price : ℕ) (amounts : List ℕ) (r : R
   pub offered-in : decode more ≡ offered (decode m) unit partner price amounts
   unfolding decode
   offered-in =
-      book-same (decode more) (offered (decode m) unit partner price amounts) d0 (w 1 (omega arith) (omega arith) (omega arith)) (w 2 (omega arith) (omega arith) (omega arith)) (w 3 (omega arith) (omega arith) (omega arith)) given-set
-      (ap (λ (k : ℕ). table k (unitAt more (word more 0))) (w 5 (omega arith) (omega arith) (omega arith)) ∙ ap (λ (d : ℕ). table (word m 5) (unitAt more d)) d0
-      ∙ units-same more m (word m 5) (word m 0) (λ i a b. low i (omega (arith, r .unitsTo)) (omega arith) (omega arith) (λ f hf e. omega (arith, r .unitsTo)))
+      book-same (decode more) (offered (decode m) unit partner price amounts) d0 (w 1 (omega arith) (omega arith) (omega arith))
+      (w 2 (omega arith) (omega arith) (omega arith)) (w 3 (omega arith) (omega arith) (omega arith)) given-set
+      (ap (λ (k : ℕ). table k (unitAt more (word more 0))) (w 5 (omega arith) (omega arith) (omega arith))
+      ∙ ap (λ (d : ℕ). table (word m 5) (unitAt more d)) d0
+      ∙ units-same more m (word m 5) (word m 0) (λ i a b. low i (omega (arith, r .unitsTo)) (omega arith) (omega arith)
+      (λ f hf e. omega (arith, r .unitsTo)))
       (λ p c hp hc. high p c (omega (arith, r .unitsTo)) (omega (arith, r .unitsTo))))
       offers
       (ap (λ (k : ℕ). ordersIn (ordersPart more) k) (w 7 (omega arith) (omega arith) (omega arith))
-      ∙ orders-same more m (word m 7) (r .ordersTo) (λ i a b. low i (omega (arith, r .ordersTo)) (omega arith) (omega arith) (λ f hf e. omega (arith, room))))
+      ∙ orders-same more m (word m 7) (r .ordersTo) (λ i a b. low i (omega (arith, r .ordersTo)) (omega arith) (omega arith)
+      (λ f hf e. omega (arith, room))))
 
   pub offered-past : drop (bookWords (word m 0)) more ≡ drop (bookWords (word m 0)) m
   offered-past =
       drop-set-lt (bookWords (word m 0)) t5 4 (word m 4 + 1) (omega arith) ∙ drop-set-lt (bookWords (word m 0)) t4 6 (word m 6 + 1) (omega arith)
-      ∙ drop-set-lt (bookWords (word m 0)) t3 (204 + 5 * word m 6) 0 (omega (arith, room)) ∙ drop-set-lt (bookWords (word m 0)) t2 (203 + 5 * word m 6) price (omega (arith, room))
-      ∙ drop-set-lt (bookWords (word m 0)) t1 (202 + 5 * word m 6) partner (omega (arith, room)) ∙ drop-set-lt (bookWords (word m 0)) t0 (201 + 5 * word m 6) unit (omega (arith, room))
+      ∙ drop-set-lt (bookWords (word m 0)) t3 (204 + 5 * word m 6) 0 (omega (arith, room))
+      ∙ drop-set-lt (bookWords (word m 0)) t2 (203 + 5 * word m 6) price (omega (arith, room))
+      ∙ drop-set-lt (bookWords (word m 0)) t1 (202 + 5 * word m 6) partner (omega (arith, room))
+      ∙ drop-set-lt (bookWords (word m 0)) t0 (201 + 5 * word m 6) unit (omega (arith, room))
       ∙ drop-set-lt (bookWords (word m 0)) x (200 + 5 * word m 6) (word m 4 + 1) (omega (arith, room)) ∙ past

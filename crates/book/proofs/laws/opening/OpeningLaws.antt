@@ -55,7 +55,8 @@ module _ (words days floor ceiling : ℕ) where
   unfolding openingRefusal firstOf
   opens h l p q = rw (inside 1 mostDays days h, le-ltb words (bookWords days) l, le-leb floor ceiling p, le-leb ceiling mostPrice q)
 
-pub opened-refused : (m : List ℕ) (days floor ceiling r : ℕ) → openingRefusal (length m) days floor ceiling ≡ r → (r ≡ 0 → ⊥) → Opened m days floor ceiling (Refused r) m
+pub opened-refused : (m : List ℕ) (days floor ceiling r : ℕ) → openingRefusal (length m) days floor ceiling ≡ r → (r ≡ 0 → ⊥)
+    → Opened m days floor ceiling (Refused r) m
 opened-refused m days floor ceiling r e n = record {
   answer = rw e refl;
   refused = λ h. refl;
@@ -82,7 +83,8 @@ headed (x0 ∷ x1 ∷ x2 ∷ x3 ∷ x4 ∷ x5 ∷ x6 ∷ []) a b c h = absurd (o
 past : (n i v : ℕ) (l k : List ℕ) → i < n → drop n l ≡ drop n k → drop n (set l i v) ≡ drop n k
 past n i v l k h e = drop-set-lt n l i v h ∙ e
 
-pub head-past : (n : ℕ) (m : List ℕ) (a b c : ℕ) → 8 ≤ n → drop n (set (set (set (set (set (set (set (set m 0 a) 1 b) 2 c) 3 0) 4 0) 5 0) 6 0) 7 0) ≡ drop n m
+pub head-past : (n : ℕ) (m : List ℕ) (a b c : ℕ) → 8 ≤ n → drop n (set (set (set (set (set (set (set (set m 0 a) 1 b) 2 c) 3 0) 4 0) 5 0) 6 0) 7 0)
+    ≡ drop n m
 head-past n m a b c h =
     let l0 = set m 0 a in
     let l1 = set l0 1 b in

@@ -46,7 +46,8 @@ unfolding lessen
 lessen-remains n x [] = ended
 lessen-remains n x (o ∷ os) = go (eqb (o .number) n) (leb (o .quantity) x) refl (lessen-remains n x os)
   where
-    go : (t z : Bool) → leb (o .quantity) x ≡ z → Remains LessOrder (lessen n x os) os → Remains LessOrder (cond t (cond z os (less o x ∷ os)) (o ∷ lessen n x os)) (o ∷ os)
+    go : (t z : Bool) → leb (o .quantity) x ≡ z → Remains LessOrder (lessen n x os) os
+        → Remains LessOrder (cond t (cond z os (less o x ∷ os)) (o ∷ lessen n x os)) (o ∷ os)
     go true true e h = gone (remains-all LessOrder same-order os)
     go true false e h =
         let l : x < o .quantity = leb-false _ _ e in
@@ -78,7 +79,8 @@ far-apart x y h = go (buys (x .direction) && sells (y .direction) && eqb (x .per
         let i = and-left (buys (x .direction) && sells (y .direction)) (eqb (x .period) (y .period)) e in
         or-right (not (buys (x .direction) && sells (y .direction) && eqb (x .period) (y .period))) (ltb (x .price) (y .price))
         (lt-ltb (x .price) (y .price)
-        (h (eqb-true _ _ (and-left (buys (x .direction)) (sells (y .direction)) i)) (eqb-true _ _ (and-right (buys (x .direction)) (sells (y .direction)) i))
+        (h (eqb-true _ _ (and-left (buys (x .direction)) (sells (y .direction)) i))
+        (eqb-true _ _ (and-right (buys (x .direction)) (sells (y .direction)) i))
         (eqb-true _ _ (and-right (buys (x .direction) && sells (y .direction)) (eqb (x .period) (y .period)) e))))
     go false e =
         or-left (not (buys (x .direction) && sells (y .direction) && eqb (x .period) (y .period))) (ltb (x .price) (y .price))
@@ -90,7 +92,8 @@ SameWay x y = x .unit ≡ y .unit → x .period ≡ y .period → x .direction �
 
 pub one-way-same : (os : List OpenOrder) → eachTwo oneWay os ≡ true → Each (λ (x : OpenOrder). Each (SameWay x) os) os
 unfolding eachTwo
-one-way-same os e = each-of (λ (x : OpenOrder). every (oneWay x) os) (λ (x : OpenOrder). Each (SameWay x) os) (λ x h. each-of (oneWay x) (SameWay x) (same x) os h) os e
+one-way-same os e = each-of (λ (x : OpenOrder). every (oneWay x) os) (λ (x : OpenOrder). Each (SameWay x) os)
+    (λ x h. each-of (oneWay x) (SameWay x) (same x) os h) os e
   where
     same : (x y : OpenOrder) → oneWay x y ≡ true → SameWay x y
     same x y h u p =

@@ -15,7 +15,21 @@ use Rattle.matching.specs.Orders.{Order as OpenOrder, sells}
 use Rattle.matching.proofs.laws.lists.EachLaws.{keep-keep}
 use Rattle.matching.specs.Memory.{orderAt, ordersIn as ordersAt}
 use Rattle.book.specs.Book.{Figures, Book, figuresOf}
-use Rattle.book.specs.Refusals.{Check, firstOf, ordersIn, unknownUnit, fewRows, badPrice, badQuantity, badPeriod, badDirection, otherDirection, twoOpen, ordersFull, numbersUsed}
+use Rattle.book.specs.Refusals.{
+  Check,
+  firstOf,
+  ordersIn,
+  unknownUnit,
+  fewRows,
+  badPrice,
+  badQuantity,
+  badPeriod,
+  badDirection,
+  otherDirection,
+  twoOpen,
+  ordersFull,
+  numbersUsed,
+}
 use Rattle.book.specs.Layout.{word, decode, ordersPart}
 use Rattle.book.specs.Order.{orderChecks}
 use Rattle.book.specs.inner.Ordering.{nameChecks, dayChecks, fitChecks, NameChecked, ofUnitAt, againstAt}
@@ -90,13 +104,15 @@ module _ (m : List ℕ) (u d p price q lent : ℕ) where
 
   pub names-rows : In 1 (word m 5) u → lent < 4464 → NameChecked m u d p price q lent 7
   unfolding nameChecks
-  names-rows h l = refused 7 (omega arith) (passes-first (unknownUnit (decode m) u) _ 7 (unknown-no h) (applies-first (fewRows lent) _ (lt-ltb lent 4464 l)))
+  names-rows h l = refused 7 (omega arith) (passes-first (unknownUnit (decode m) u) _ 7 (unknown-no h)
+      (applies-first (fewRows lent) _ (lt-ltb lent 4464 l)))
 
   pub names-price : In 1 (word m 5) u → 4464 ≤ lent → (In (word m 1) (word m 2) price → ⊥) → NameChecked m u d p price q lent 8
   unfolding nameChecks
   names-price h l n =
       refused 8 (omega arith)
-      (passes-first (unknownUnit (decode m) u) _ 8 (unknown-no h) (passes-first (fewRows lent) _ 8 (le-ltb lent 4464 l) (applies-first (badPrice (decode m) price) _ (price-yes n))))
+      (passes-first (unknownUnit (decode m) u) _ 8 (unknown-no h)
+      (passes-first (fewRows lent) _ 8 (le-ltb lent 4464 l) (applies-first (badPrice (decode m) price) _ (price-yes n))))
 
   pub names-energy : In 1 (word m 5) u → 4464 ≤ lent → In (word m 1) (word m 2) price → (In 1 mostEnergy q → ⊥) → NameChecked m u d p price q lent 9
   unfolding nameChecks
@@ -106,7 +122,8 @@ module _ (m : List ℕ) (u d p price q lent : ℕ) where
       (passes-first (fewRows lent) _ 9 (le-ltb lent 4464 l)
       (passes-first (badPrice (decode m) price) _ 9 (price-no w) (applies-first (badQuantity q) _ (rw (outside 1 mostEnergy q n) refl)))))
 
-  pub names-period : In 1 (word m 5) u → 4464 ≤ lent → In (word m 1) (word m 2) price → In 1 mostEnergy q → 24 * word m 0 ≤ p → NameChecked m u d p price q lent 10
+  pub names-period : In 1 (word m 5) u → 4464 ≤ lent → In (word m 1) (word m 2) price → In 1 mostEnergy q → 24 * word m 0 ≤ p
+      → NameChecked m u d p price q lent 10
   unfolding nameChecks
   names-period h l w e n =
       refused 10 (omega arith)
@@ -141,7 +158,8 @@ module _ {A : Type 0} where
   kept-length f [] = refl
   kept-length f (x ∷ xs) = go (f x) (kept-length f xs)
     where
-      go : (b : Bool) → length (keep f xs) ≡ sumOf (λ y. cond (f y) 1 0) xs → length (cond b (x ∷ keep f xs) (keep f xs)) ≡ cond b 1 0 + sumOf (λ y. cond (f y) 1 0) xs
+      go : (b : Bool) → length (keep f xs) ≡ sumOf (λ y. cond (f y) 1 0) xs → length (cond b (x ∷ keep f xs) (keep f xs))
+          ≡ cond b 1 0 + sumOf (λ y. cond (f y) 1 0) xs
       go true h = omega arith
       go false h = omega arith
 
@@ -162,7 +180,8 @@ module _ (m : List ℕ) (u d p : ℕ) (few : word m 7 ≤ 256) where
       kept-length ofUnit (decode m .orders)
       ∙ ap (sumOf (λ (o : OpenOrder). cond (ofUnit o) 1 0)) (orders-from m)
       ∙ sumOf-table (λ (o : OpenOrder). cond (ofUnit o) 1 0) (word m 7) (orderAt (ordersPart m))
-      ∙ sum-ext (word m 7) (λ k. cond (ofUnit (orderAt (ordersPart m) k)) 1 0) (ofUnitAt m u p) (λ k h. rw (here k 1 h (omega arith), here k 3 h (omega arith)) refl)
+      ∙ sum-ext (word m 7) (λ k. cond (ofUnit (orderAt (ordersPart m) k)) 1 0) (ofUnitAt m u p)
+      (λ k h. rw (here k 1 h (omega arith), here k 3 h (omega arith)) refl)
 
   pub against-count : length (keep otherWay (ordersIn (decode m) u p)) ≡ sum (word m 7) (againstAt m u d p)
   unfolding againstAt ordersAt
@@ -234,14 +253,16 @@ module _ (m : List ℕ) (u d p : ℕ) (few : word m 7 ≤ 256) (hu : In 1 (word 
   unfolding dayChecks
   days-against a e h =
       applies-first (otherDirection (decode m) u d p) _
-      (or-left (ltb 0 (length (keep (λ (o : OpenOrder). not (eqb (o .direction) d)) (ordersIn (decode m) u p)))) (wayAgainst d (figuresOf (decode m) u p .way))
+      (or-left (ltb 0 (length (keep (λ (o : OpenOrder). not (eqb (o .direction) d)) (ordersIn (decode m) u p))))
+      (wayAgainst d (figuresOf (decode m) u p .way))
       (lt-ltb 0 (length (keep (λ (o : OpenOrder). not (eqb (o .direction) d)) (ordersIn (decode m) u p))) (rw (against-count m u d p few, ← e) h)))
 
   pub days-way : word m (1780 + 328 * p + 5 * (u - 1)) ≡ 2 - d → 15 ≡ firstOf (dayChecks (decode m) u d p)
   unfolding dayChecks
   days-way e =
       applies-first (otherDirection (decode m) u d p) _
-      (or-right (ltb 0 (length (keep (λ (o : OpenOrder). not (eqb (o .direction) d)) (ordersIn (decode m) u p)))) (wayAgainst d (figuresOf (decode m) u p .way))
+      (or-right (ltb 0 (length (keep (λ (o : OpenOrder). not (eqb (o .direction) d)) (ordersIn (decode m) u p))))
+      (wayAgainst d (figuresOf (decode m) u p .way))
       (way-yes d (figuresOf (decode m) u p .way) hd (way-held ∙ e)))
 
   module _ (a : ℕ) (ea : a ≡ sum (word m 7) (againstAt m u d p)) (na : a ≤ 0) (nw : word m (1780 + 328 * p + 5 * (u - 1)) ≡ 2 - d → ⊥) where
@@ -277,7 +298,8 @@ module _ (m : List ℕ) (u d p : ℕ) (few : word m 7 ≤ 256) (hu : In 1 (word 
         unfolding dayChecks
         days-full h =
             passes-first (otherDirection (decode m) u d p) _ 17 other-no
-            (passes-first (twoOpen (decode m) u p) _ 17 two-no (applies-first (ordersFull (decode m)) _ (le-leb 256 (length (decode m .orders)) (rw (orders-held m) h))))
+            (passes-first (twoOpen (decode m) u p) _ 17 two-no
+            (applies-first (ordersFull (decode m)) _ (le-leb 256 (length (decode m .orders)) (rw (orders-held m) h))))
 
         module _ (nf : word m 7 < 256) where
           full-no : ordersFull (decode m) .applies ≡ false
@@ -292,14 +314,16 @@ module _ (m : List ℕ) (u d p : ℕ) (few : word m 7 ≤ 256) (hu : In 1 (word 
           days-used h =
               passes-first (otherDirection (decode m) u d p) _ 18 other-no
               (passes-first (twoOpen (decode m) u p) _ 18 two-no
-              (passes-first (ordersFull (decode m)) _ 18 full-no (applies-first (numbersUsed (decode m)) [] (le-leb 65535 (decode m .given) (rw given-is h)))))
+              (passes-first (ordersFull (decode m)) _ 18 full-no
+              (applies-first (numbersUsed (decode m)) [] (le-leb 65535 (decode m .given) (rw given-is h)))))
 
           pub days-pass : word m 4 < 65535 → 0 ≡ firstOf (dayChecks (decode m) u d p)
           unfolding dayChecks
           days-pass h =
               passes-first (otherDirection (decode m) u d p) _ 0 other-no
               (passes-first (twoOpen (decode m) u p) _ 0 two-no
-              (passes-first (ordersFull (decode m)) _ 0 full-no (passes-first (numbersUsed (decode m)) [] 0 (lt-leb 65535 (decode m .given) (rw given-is h)) none-first)))
+              (passes-first (ordersFull (decode m)) _ 0 full-no
+              (passes-first (numbersUsed (decode m)) [] 0 (lt-leb 65535 (decode m .given) (rw given-is h)) none-first)))
 
 -- the count by phase
 pub counted-call : (x s : ℕ) → x ≡ 0 → s ≡ cond (eqb x 0) s 0
@@ -314,14 +338,16 @@ module _ (b : Book) (u d p price q lent r : ℕ) where
   unfolding nameChecks dayChecks fitChecks
   order-names-first n e = first-part (nameChecks b u d p price q lent) (dayChecks b u d p ++ fitChecks b u d p q) r n e
 
-  pub order-days-first : 0 ≡ firstOf (nameChecks b u d p price q lent) → (r ≡ 0 → ⊥) → r ≡ firstOf (dayChecks b u d p) → r ≡ firstOf (orderChecks b u d p price q lent)
+  pub order-days-first : 0 ≡ firstOf (nameChecks b u d p price q lent) → (r ≡ 0 → ⊥) → r ≡ firstOf (dayChecks b u d p) → r
+      ≡ firstOf (orderChecks b u d p price q lent)
   unfolding nameChecks dayChecks fitChecks
   order-days-first z n e =
       next-part (nameChecks b u d p price q lent) (dayChecks b u d p ++ fitChecks b u d p q) r
       (omega arith, (omega arith, (omega arith, (omega arith, (omega arith, (omega arith, tt)))))) z
       (first-part (dayChecks b u d p) (fitChecks b u d p q) r n e)
 
-  pub order-fit-first : 0 ≡ firstOf (nameChecks b u d p price q lent) → 0 ≡ firstOf (dayChecks b u d p) → r ≡ firstOf (fitChecks b u d p q) → r ≡ firstOf (orderChecks b u d p price q lent)
+  pub order-fit-first : 0 ≡ firstOf (nameChecks b u d p price q lent) → 0 ≡ firstOf (dayChecks b u d p) → r ≡ firstOf (fitChecks b u d p q) → r
+      ≡ firstOf (orderChecks b u d p price q lent)
   unfolding nameChecks dayChecks fitChecks
   order-fit-first z y e =
       next-part (nameChecks b u d p price q lent) (dayChecks b u d p ++ fitChecks b u d p q) r

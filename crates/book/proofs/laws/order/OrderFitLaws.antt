@@ -114,7 +114,8 @@ none true = refl
 none false = refl
 
 module _ (m : List ℕ) (e : soundIn m ≡ true) (n u d p q r : ℕ) (from : 1 ≤ u) (upto : u ≤ word m 5) (h : p < n) where
-  checked : (raising lowering : List ℕ) → ((i : ℕ) → getD raising i 0 ≡ orderDeclares (decode m) u d p q .raising i) → ((i : ℕ) → getD lowering i 0 ≡ orderDeclares (decode m) u d p q .lowering i)
+  checked : (raising lowering : List ℕ) → ((i : ℕ) → getD raising i 0 ≡ orderDeclares (decode m) u d p q .raising i)
+      → ((i : ℕ) → getD lowering i 0 ≡ orderDeclares (decode m) u d p q .lowering i)
       → Fitted (decode m) u (declared raising lowering) r → r ≡ firstOf (fitChecks (decode m) u d p q)
   unfolding fitChecks
   checked raising lowering a b f =

@@ -17,7 +17,24 @@ use Rattle.book.specs.Book.{Book, callPhase, mostOrders, mostNumbers, un
 use Rattle.book.specs.Trades.{raises, lowers}
 use Rattle.book.specs.Fit.{Declaration, nothing}
 use Rattle.book.specs.Sound.{oneWay, sound}
-use Rattle.book.specs.Refusals.{accepted, ordersIn, unsound, unknownUnit, fewRows, badPrice, badQuantity, badPeriod, badDirection, otherDirection, twoOpen, ordersFull, numbersUsed, hourMisfit, termMisfit, volumeMisfit}
+use Rattle.book.specs.Refusals.{
+  accepted,
+  ordersIn,
+  unsound,
+  unknownUnit,
+  fewRows,
+  badPrice,
+  badQuantity,
+  badPeriod,
+  badDirection,
+  otherDirection,
+  twoOpen,
+  ordersFull,
+  numbersUsed,
+  hourMisfit,
+  termMisfit,
+  volumeMisfit,
+}
 use Rattle.book.specs.Order.{orderDeclares, orderRefusal, newOrder, ordering}
 use Rattle.book.proofs.laws.sound.RemainLaws.{each-holds}
 use Rattle.book.proofs.laws.sound.FitLaws.{Fits, fits-with, fits-after}
@@ -52,7 +69,11 @@ one-direction u d p (x ∷ os) e = go (eqb (x .unit) u && eqb (x .period) p) ref
     go : (t : Bool) → ofUnit u p x ≡ t → length (keep (otherWay d) (cond t (x ∷ mine) mine)) ≡ 0
         → (length (keep (otherWay d) mine) ≡ 0 → Each (Follows u d p) os) → Each (Follows u d p) (x ∷ os)
     go true q h ih = same (not (eqb (x .direction) d)) refl h ih
-    go false q h ih = (λ a c. absurd (not-both (eqb (x .unit) u && eqb (x .period) p) (and-true (eqb (x .unit) u) (eqb (x .period) p) (eq-eqb _ _ a) (eq-eqb _ _ c)) q), ih h)
+    go false q h ih = (
+      λ a c. absurd (not-both (eqb (x .unit) u
+          && eqb (x .period) p) (and-true (eqb (x .unit) u) (eqb (x .period) p) (eq-eqb _ _ a) (eq-eqb _ _ c)) q),
+      ih h,
+    )
 
 or-neither : (a c : Bool) → (a || c) ≡ false → (a ≡ false) × (c ≡ false)
 or-neither true c e = absurd (not-both true refl e)
@@ -88,7 +109,8 @@ module _ (b : Book) (u d p price q : ℕ) where
         room = leb-false _ _ (t .1 .1 .1 .1 .1 .1 .1 .1 .1 .0);
         left = leb-false _ _ (t .1 .1 .1 .1 .1 .1 .1 .1 .1 .1 .0);
         fits =
-            fits-with b u (orderDeclares b u d p q) (s .fits u named) (not-false _ (t .1 .1 .1 .1 .1 .1 .1 .1 .1 .1 .1 .0)) (not-false _ (t .1 .1 .1 .1 .1 .1 .1 .1 .1 .1 .1 .1 .0))
+            fits-with b u (orderDeclares b u d p q) (s .fits u named) (not-false _ (t .1 .1 .1 .1 .1 .1 .1 .1 .1 .1 .1 .0))
+            (not-false _ (t .1 .1 .1 .1 .1 .1 .1 .1 .1 .1 .1 .1 .0))
             (not-false _ (t .1 .1 .1 .1 .1 .1 .1 .1 .1 .1 .1 .1 .1 .0));
       }
     where
@@ -103,7 +125,8 @@ module _ (b : Book) (u d p price q : ℕ) where
       named : In 1 (length (b .units)) u
       named = within 1 (length (b .units)) u (not-false _ (t .1 .0))
 
-      day : (ltb 0 (length (keep (otherWay d) (ordersIn b u p))) ≡ false) × (cond (sells d) (eqb (figuresOf b u p .way) 2) (eqb (figuresOf b u p .way) 1) ≡ false)
+      day : (ltb 0 (length (keep (otherWay d) (ordersIn b u p))) ≡ false)
+          × (cond (sells d) (eqb (figuresOf b u p .way) 2) (eqb (figuresOf b u p .way) 1) ≡ false)
       day = or-neither _ _ (t .1 .1 .1 .1 .1 .1 .1 .0)
 
 -- what an order has open is what it declares
@@ -133,7 +156,8 @@ module _ (b : Book) (u d p price q : ℕ) where
           rw (← e)
           (fits-after b (withOrder b (newOrder b u d p price q)) u (orderDeclares b u d p q)
           (moved-order b u (orderDeclares b u d p q) (newOrder b u d p price q)
-          (λ at. omega (arith, declares-opens (raises (unitOf b u .kind)) u d p q at)) (λ at. omega (arith, declares-opens (lowers (unitOf b u .kind)) u d p q at)))
+          (λ at. omega (arith, declares-opens (raises (unitOf b u .kind)) u d p q at))
+          (λ at. omega (arith, declares-opens (lowers (unitOf b u .kind)) u d p q at)))
           (a .fits))
       fit (no n) =
           fits-after b (withOrder b (newOrder b u d p price q)) v nothing

@@ -87,7 +87,8 @@ sum-small (o ∷ os) h = let t = sum-small os (h .1) in let k = h .0 in omega ar
 pub orders-fit : (m rows : List ℕ) → soundIn m ≡ true → 4464 ≤ length rows → fit (ordersPart m) (word m 7) rows ≡ true
 unfolding fit
 orders-fit m rows e l =
-    and-true _ _ (and-true _ _ (and-true _ _ (and-true _ _ (le-leb _ _ few) (le-leb _ _ inside)) (le-leb (6 * word m 7) (length rows) (omega (arith, few)))) rises) (le-leb _ _ amount)
+    and-true _ _ (and-true _ _ (and-true _ _ (and-true _ _ (le-leb _ _ few) (le-leb _ _ inside)) (le-leb (6 * word m 7) (length rows) (omega (arith, few))))
+    rises) (le-leb _ _ amount)
   where
     few : word m 7 ≤ 256
     few = sound-readable m e .ordersTo
@@ -103,11 +104,13 @@ orders-fit m rows e l =
 
     amount : quantities (ordersIn (ordersPart m) (word m 7)) ≤ mostEnergy
     amount =
-        let t = sum-small (decode m .orders) (each-has (λ (o : OpenOrder). o .quantity ≤ mostCapacity) (decode m .orders) (λ o h. order-small (decode m) facts o h)) in
+        let t = sum-small (decode m .orders) (each-has (λ (o : OpenOrder). o .quantity
+        ≤ mostCapacity) (decode m .orders) (λ o h. order-small (decode m) facts o h)) in
         let w : quantities (decode m .orders) ≤ mostEnergy = omega (arith, few, orders-held m) in
         rw (orders-from m) at w
 
-module _ (m ys rows rows′ : List ℕ) (o : OpenOrder) (a : Matched) (e : soundIn m ≡ true) (l : 4464 ≤ length rows) (h : Meets (ordersPart m) rows (word m 7) o a ys rows′) where
+module _ (m ys rows rows′ : List ℕ) (o : OpenOrder) (a : Matched) (e : soundIn m ≡ true) (l : 4464
+    ≤ length rows) (h : Meets (ordersPart m) rows (word m 7) o a ys rows′) where
   pub met-unfit : answerOf a .fits ≡ false → ⊥
   met-unfit z = not-both _ (h .fits ∙ orders-fit m rows e l) z
 
@@ -131,15 +134,18 @@ rest-none m o left e =
 
 -- what is said of an order holds of an equal one
 module _ (o o′ : OpenOrder) (e : o ≡ o′) where
-  pub put-same : (m x : List ℕ) → OrdersPut m x (ordersIn (ordersPart m) (word m 7) ++ (o ∷ [])) → OrdersPut m x (ordersIn (ordersPart m) (word m 7) ++ (o′ ∷ []))
+  pub put-same : (m x : List ℕ) → OrdersPut m x (ordersIn (ordersPart m) (word m 7) ++ (o ∷ []))
+      → OrdersPut m x (ordersIn (ordersPart m) (word m 7) ++ (o′ ∷ []))
   put-same m x h = subst (λ (z : OpenOrder). OrdersPut m x (ordersIn (ordersPart m) (word m 7) ++ (z ∷ []))) e h
 
-  pub waits-same : (m x : List ℕ) (q : ℕ) → OrdersPut m x (ordersIn (ordersPart m) (word m 7) ++ waiting (leaving o q)) → OrdersPut m x (ordersIn (ordersPart m) (word m 7) ++ waiting (leaving o′ q))
+  pub waits-same : (m x : List ℕ) (q : ℕ) → OrdersPut m x (ordersIn (ordersPart m) (word m 7) ++ waiting (leaving o q))
+      → OrdersPut m x (ordersIn (ordersPart m) (word m 7) ++ waiting (leaving o′ q))
   waits-same m x q h = subst (λ (z : OpenOrder). OrdersPut m x (ordersIn (ordersPart m) (word m 7) ++ waiting (leaving z q))) e h
 
   pub rolled-same : (m x rows rows′ : List ℕ) (q n : ℕ) → Rolled m x rows rows′ o q n → Rolled m x rows rows′ o′ q n
   rolled-same m x rows rows′ q n h = subst (λ (z : OpenOrder). Rolled m x rows rows′ z q n) e h
 
-pub rest-some : (m x : List ℕ) (o : OpenOrder) (left : ℕ) → (left ≡ 0 → ⊥) → OrdersPut m x (ordersIn (ordersPart m) (word m 7) ++ (leaving o left ∷ [])) → OrdersPut m x (ordersIn (ordersPart m) (word m 7) ++ waiting (leaving o left))
+pub rest-some : (m x : List ℕ) (o : OpenOrder) (left : ℕ) → (left ≡ 0 → ⊥) → OrdersPut m x (ordersIn (ordersPart m) (word m 7) ++ (leaving o left ∷ []))
+    → OrdersPut m x (ordersIn (ordersPart m) (word m 7) ++ waiting (leaving o left))
 unfolding waiting
 rest-some m x o left n h = rw (ne-eqb left 0 n) h

@@ -55,7 +55,8 @@ unfolding matches
 matches-length q [] = omega arith
 matches-length q (o ∷ os) =
     let t = matches-length (q - min q (o .quantity)) os in
-    cond-case (λ (l : List Match). length l ≤ length (o ∷ os)) (eqb q 0) [] (record { order = o; quantity = min q (o .quantity) } ∷ matches (q - min q (o .quantity)) os) (λ e. omega arith) (λ e. omega arith)
+    cond-case (λ (l : List Match). length l ≤ length (o ∷ os)) (eqb q 0) [] (record { order = o; quantity = min q (o .quantity) }
+    ∷ matches (q - min q (o .quantity)) os) (λ e. omega arith) (λ e. omega arith)
 
 kept-fewer : (f : OpenOrder → Bool) (l : List OpenOrder) → length (keep f l) ≤ length l
 kept-fewer f [] = omega arith
@@ -84,7 +85,8 @@ module _ (m rows : List ℕ) (u d p price q : ℕ) (e : soundIn m ≡ true) (z :
 
   passed : OrderPassed (decode m) u d p price q
   unfolding orderRefusal
-  passed = order-passed (decode m) u d p price q (length rows) facts (chain-sound (decode m) (orderChecks (decode m) u d p price q (length rows)) (sound-book m e) ∙ sym z)
+  passed = order-passed (decode m) u d p price q (length rows) facts
+      (chain-sound (decode m) (orderChecks (decode m) u d p price q (length rows)) (sound-book m e) ∙ sym z)
 
   days-held : decode m .days ≡ word m 0
   unfolding decode
@@ -97,8 +99,19 @@ module _ (m rows : List ℕ) (u d p price q : ℕ) (e : soundIn m ≡ true) (z :
   pub rows-lent : 4464 ≤ length rows
   rows-lent =
       ltb-false (length rows) 4464
-      (none-applies (orderChecks (decode m) u d p price q (length rows))
-      (omega arith, (omega arith, (omega arith, (omega arith, (omega arith, (omega arith, (omega arith, (omega arith, (omega arith, (omega arith, (omega arith, (omega arith, (omega arith, tt)))))))))))))
+      (none-applies (orderChecks (decode m) u d p price q (length rows)) (
+        omega arith,
+        (
+          omega arith,
+          (
+            omega arith,
+            (
+              omega arith,
+              (omega arith, (omega arith, (omega arith, (omega arith, (omega arith, (omega arith, (omega arith, (omega arith, (omega arith, tt))))))))),
+            ),
+          ),
+        ),
+      )
       (sym z) .1 .0)
 
   pub number-left : word m 4 < 65535
@@ -200,7 +213,15 @@ module _ (m rows : List ℕ) (u d p price q : ℕ) (e : soundIn m ≡ true) (z :
           let v = ap (λ (r : Row). r .quantity) g in
           let h0 = head-same 0 (omega arith) in
           let h5 = head-same 5 (omega arith) in
-          record { period = omega arith; sellerFrom = omega arith; sellerTo = omega arith; buyerFrom = omega arith; buyerTo = omega arith; quantity = omega arith }
+          record {
+            period = omega arith;
+            sellerFrom = omega arith;
+            sellerTo = omega arith;
+            buyerFrom = omega arith;
+            buyerTo = omega arith;
+            quantity = omega
+                arith;
+          }
 
       pub rows-room : (6 * count ≤ length rows′) × (count ≤ 744)
       rows-room =
@@ -223,15 +244,18 @@ module _ (m rows : List ℕ) (u d p price q : ℕ) (e : soundIn m ≡ true) (z :
             let n = number-left in
             (omega arith, omega arith)
 
-        pub rolled-on : (t : List ℕ) → decode t ≡ numbered (decode v) → ((n : ℕ) → 1776 ≤ n → drop n t ≡ drop n v) → RolledOn m rows u d p price q count t rows′
+        pub rolled-on : (t : List ℕ) → decode t ≡ numbered (decode v) → ((n : ℕ) → 1776 ≤ n → drop n t ≡ drop n v)
+            → RolledOn m rows u d p price q count t rows′
         rolled-on t f g =
             let r = sound-readable m e in
             record {
               book =
                   f
                   ∙ ap numbered (k .book)
-                  ∙ ap (λ (rs : List Row). numbered (rowsBooked rs (decode y))) (ap (λ (l : List ℕ). rowsIn l count) handed-is ∙ ap (λ (n : ℕ). rowsIn (written rows (met .rows)) n) count-is ∙ rows-written rows (met .rows))
-                  ∙ ap (λ (b : Book). numbered (rowsBooked (met .rows) b)) (put-decoded m y (met .orders ++ waiting (leaving arrived (met .left))) both-put (r .unitsTo) (r .offersTo));
+                  ∙ ap (λ (rs : List Row). numbered (rowsBooked rs (decode y))) (ap (λ (l : List ℕ). rowsIn l count) handed-is
+                  ∙ ap (λ (n : ℕ). rowsIn (written rows (met .rows)) n) count-is ∙ rows-written rows (met .rows))
+                  ∙ ap (λ (b : Book). numbered (rowsBooked (met .rows) b)) (put-decoded m y (met .orders
+                  ++ waiting (leaving arrived (met .left))) both-put (r .unitsTo) (r .offersTo));
               handed = handed-is;
               count = count-is;
               past =

@@ -76,7 +76,12 @@ module _ (i x : OpenOrder) (e : candidate i x ≡ false) where
     where
       go : Dec (i .price < x .price) → i .price < x .price
       go (yes l) = l
-      go (no l) = absurd (not-both (candidate i x) (rw (eq-eqb (x .period) (i .period) (sym same), eq-eqb (i .direction) 1 buy, eq-eqb (x .direction) 0 sale) (le-leb (x .price) (i .price) (omega arith))) e)
+      go (no l) = absurd (not-both (candidate i x) (rw (
+        eq-eqb (x .period) (i .period) (sym same),
+        eq-eqb (i .direction) 1 buy,
+        eq-eqb
+            (x .direction) 0 sale,
+      ) (le-leb (x .price) (i .price) (omega arith))) e)
 
   far-before : Far x i
   unfolding candidate
@@ -87,7 +92,8 @@ module _ (i x : OpenOrder) (e : candidate i x ≡ false) where
       go (no l) =
           absurd
           (not-both (candidate i x)
-          (rw (eq-eqb (x .period) (i .period) same, ne-eqb (i .direction) 1 (omega arith), eq-eqb (i .direction) 0 sale, eq-eqb (x .direction) 1 buy) (le-leb (i .price) (x .price) (omega arith))) e)
+          (rw (eq-eqb (x .period) (i .period) same, ne-eqb (i .direction) 1 (omega arith), eq-eqb (i .direction) 0 sale, eq-eqb (x .direction) 1 buy)
+          (le-leb (i .price) (x .price) (omega arith))) e)
 
 -- what waits of an order
 module _ (o : OpenOrder) (left : ℕ) where
@@ -129,7 +135,14 @@ module _ (b : Book) (u d p price q : ℕ) (s : Sound b) (a : OrderPassed b u d p
   passed-in-call : OrderPassed (inPhase b callPhase) u d p price q
   passed-in-call =
       record {
-        ranges = order-after (withOrder b incoming) waited (record { days = refl; floor = refl; ceiling = refl; given = omega arith; count = omega arith; kinds = λ v i. refl }) incoming incoming (same-order incoming) (a .ranges);
+        ranges = order-after (withOrder b incoming) waited (record {
+          days = refl;
+          floor = refl;
+          ceiling = refl;
+          given = omega arith;
+          count = omega arith;
+          kinds = λ v i. refl;
+        }) incoming incoming (same-order incoming) (a .ranges);
         follows = a .follows;
         way = a .way;
         room = a .room;
@@ -142,7 +155,8 @@ module _ (b : Book) (u d p price q : ℕ) (s : Sound b) (a : OrderPassed b u d p
       let c = in-call-sound b s in
       let t = passed-in-call in
       record {
-        formed = formed-order (inPhase b callPhase) incoming (c .formed) (t .ranges) refl (a .room) (a .left) (one-way-beside incoming (b .orders) (a .follows)) (λ r. absurd (omega arith));
+        formed = formed-order (inPhase b callPhase) incoming (c .formed) (t .ranges) refl (a .room) (a .left)
+            (one-way-beside incoming (b .orders) (a .follows)) (λ r. absurd (omega arith));
         fits = order-fits (inPhase b callPhase) u d p price q c t;
       }
 
@@ -152,7 +166,8 @@ module _ (b : Book) (u d p price q : ℕ) (s : Sound b) (a : OrderPassed b u d p
       remains-append LessOrder (met-remain incoming (b .orders)) (waiting-remains incoming (met .left) (omega arith))
 
   rolled-exchanged : Exchanged (waited .orders) left (met .rows)
-  rolled-exchanged = met-exchanged incoming (b .orders) (waiting (leaving incoming (met .left))) (s .formed .ordersRise) (a .ranges .direction) (waiting-open incoming (met .left))
+  rolled-exchanged = met-exchanged incoming (b .orders) (waiting (leaving incoming (met .left))) (s .formed .ordersRise) (a .ranges .direction)
+      (waiting-open incoming (met .left))
 
   -- a row is between the incoming order's unit and another: none of its own orders goes the other way
   pub rolled-two-units : Each (TwoUnits (length (b .units))) (met .rows)
@@ -170,19 +185,22 @@ module _ (b : Book) (u d p price q : ℕ) (s : Sound b) (a : OrderPassed b u d p
           same-way : (y z : OpenOrder) → y ≡ x .waiting → z ≡ incoming → y .unit ≡ z .unit → y .period ≡ z .period → y .direction ≡ z .direction
           same-way y z e f unit period =
               ap (λ (o : OpenOrder). o .direction) e
-              ∙ follows (sym (ap (λ (o : OpenOrder). o .unit) e) ∙ unit ∙ ap (λ (o : OpenOrder). o .unit) f) (sym (ap (λ (o : OpenOrder). o .period) e) ∙ period ∙ ap (λ (o : OpenOrder). o .period) f)
+              ∙ follows (sym (ap (λ (o : OpenOrder). o .unit) e) ∙ unit ∙ ap (λ (o : OpenOrder). o .unit) f) (sym (ap (λ (o : OpenOrder). o .period) e)
+              ∙ period ∙ ap (λ (o : OpenOrder). o .period) f)
               ∙ sym (ap (λ (o : OpenOrder). o .direction) f)
 
           go : ((x .sale ≡ x .waiting) × (x .buy ≡ incoming)) ⊎ ((x .sale ≡ incoming) × (x .buy ≡ x .waiting)) → TwoUnits (length (b .units)) r
           go (inl w) = (
             rw (x .seller, w .0) (waits .unit),
             rw (x .buyer, w .1) (a .ranges .unit),
-            λ e. let k = same-way (x .sale) (x .buy) (w .0) (w .1) (sym (x .seller) ∙ e ∙ x .buyer) (x .opposite .period) in let y = x .opposite in omega arith,
+            λ e. let k = same-way (x .sale) (x .buy) (w .0) (w .1) (sym (x .seller) ∙ e
+                ∙ x .buyer) (x .opposite .period) in let y = x .opposite in omega arith,
           )
           go (inr w) = (
             rw (x .seller, w .0) (a .ranges .unit),
             rw (x .buyer, w .1) (waits .unit),
-            λ e. let k = same-way (x .buy) (x .sale) (w .1) (w .0) (sym (x .buyer) ∙ sym e ∙ x .seller) (sym (x .opposite .period)) in let y = x .opposite in omega arith,
+            λ e. let k = same-way (x .buy) (x .sale) (w .1) (w .0) (sym (x .buyer) ∙ sym e
+                ∙ x .seller) (sym (x .opposite .period)) in let y = x .opposite in omega arith,
           )
 
   rolled-apart : b .phase ≡ rollingPhase → eachTwo apart left ≡ true
@@ -209,10 +227,12 @@ module _ (b : Book) (u d p price q : ℕ) (s : Sound b) (a : OrderPassed b u d p
   pub rolled-sound : sound (orderedInRolling b incoming .book) ≡ true
   rolled-sound =
       ap sound rolled-book
-      ∙ exchanged-sound waited left (met .rows) (b .phase) waited-sound rolled-remains rolled-exchanged (two-named (length (b .units)) (met .rows) rolled-two-units) (s .formed .head .phase) rolled-apart
+      ∙ exchanged-sound waited left (met .rows) (b .phase) waited-sound rolled-remains rolled-exchanged
+      (two-named (length (b .units)) (met .rows) rolled-two-units) (s .formed .head .phase) rolled-apart
 
 -- "Rolling phase: it meets opposite orders of its period"
-pub ordering-in-rolling-sound : (b : Book) (u d p price q lent : ℕ) → (b .phase ≡ callPhase → ⊥) → sound b ≡ true → sound (ordering b u d p price q lent .book) ≡ true
+pub ordering-in-rolling-sound : (b : Book) (u d p price q lent : ℕ) → (b .phase ≡ callPhase → ⊥) → sound b ≡ true
+    → sound (ordering b u d p price q lent .book) ≡ true
 unfolding ordering
 ordering-in-rolling-sound b u d p price q lent n e =
     decided-sound (orderRefusal b u d p price q lent) b _ e

@@ -18,7 +18,8 @@ use Rattle.book.proofs.laws.check.NumberLaws.{orders-from}
 use Rattle.book.proofs.laws.memory.WordLaws.{book-same, units-same, offers-same, orders-changed, word-before, word-behind, put-length, part-back}
 
 -- the part came back with these orders, and their count stands in word 7
-pub orders-put : (m ys : List ℕ) (n : ℕ) (os : List OpenOrder) → 1776 ≤ length m → length ys ≡ 1536 → ordersIn ys n ≡ os → OrdersPut m (set (putMid 240 1536 m ys) 7 n) os
+pub orders-put : (m ys : List ℕ) (n : ℕ) (os : List OpenOrder) → 1776 ≤ length m → length ys ≡ 1536 → ordersIn ys n ≡ os
+    → OrdersPut m (set (putMid 240 1536 m ys) 7 n) os
 orders-put m ys n os long same is =
     record {
       long = simp length-set (put-length 240 1776 m ys (omega arith) long same);
@@ -39,7 +40,8 @@ unfolding ordersIn
 orders-more l n o =
     ap (λ (t : List OpenOrder). set t n o) (table-more n (orderAt l)) ∙ set-at (table n (orderAt l)) (orderAt l n) [] o n (table-length n (orderAt l))
 
-pub appended : (m ys : List ℕ) (o : OpenOrder) → 1776 ≤ length m → length ys ≡ 1536 → ordersIn ys (word m 7 + 1) ≡ set (ordersIn (ordersPart m) (word m 7 + 1)) (word m 7) o
+pub appended : (m ys : List ℕ) (o : OpenOrder) → 1776 ≤ length m → length ys ≡ 1536 → ordersIn ys (word m 7 + 1)
+    ≡ set (ordersIn (ordersPart m) (word m 7 + 1)) (word m 7) o
     → OrdersPut m (set (putMid 240 1536 m ys) 7 (word m 7 + 1)) (ordersIn (ordersPart m) (word m 7) ++ (o ∷ []))
 appended m ys o long same is =
     orders-put m ys (word m 7 + 1) (ordersIn (ordersPart m) (word m 7) ++ (o ∷ [])) long same (is ∙ orders-more (ordersPart m) (word m 7) o)
@@ -65,11 +67,15 @@ number-more m long =
     at : (i : ℕ) → (i ≡ 4 → ⊥) → word (set m 4 (word m 4 + 1)) i ≡ word m i
     at i ne = getD-set-other m 4 i (word m 4 + 1) 0 ne
 
-    units : table (word (set m 4 (word m 4 + 1)) 5) (unitAt (set m 4 (word m 4 + 1)) (word (set m 4 (word m 4 + 1)) 0)) ≡ table (word m 5) (unitAt m (word m 0))
-    units = rw (at 5 (omega arith), at 0 (omega arith)) (units-same (set m 4 (word m 4 + 1)) m (word m 5) (word m 0) (λ i l k. at i (omega arith)) (λ p c l k. at (1776 + 328 * p + c) (omega arith)))
+    units : table (word (set m 4 (word m 4 + 1)) 5) (unitAt (set m 4 (word m 4 + 1)) (word (set m 4 (word m 4 + 1)) 0))
+        ≡ table (word m 5) (unitAt m (word m 0))
+    units = rw (at 5 (omega arith), at 0 (omega arith)) (units-same (set m 4 (word m 4 + 1)) m (word m 5) (word m 0) (λ i l k. at i (omega arith))
+        (λ p c l k. at (1776 + 328 * p + c) (omega arith)))
 
-    offers : table (word (set m 4 (word m 4 + 1)) 6) (offerAt (set m 4 (word m 4 + 1)) (word (set m 4 (word m 4 + 1)) 0)) ≡ table (word m 6) (offerAt m (word m 0))
-    offers = rw (at 6 (omega arith), at 0 (omega arith)) (offers-same (set m 4 (word m 4 + 1)) m (word m 6) (word m 0) (λ i l k. at i (omega arith)) (λ p j l k. at (2096 + 328 * p + j) (omega arith)))
+    offers : table (word (set m 4 (word m 4 + 1)) 6) (offerAt (set m 4 (word m 4 + 1)) (word (set m 4 (word m 4 + 1)) 0))
+        ≡ table (word m 6) (offerAt m (word m 0))
+    offers = rw (at 6 (omega arith), at 0 (omega arith)) (offers-same (set m 4 (word m 4 + 1)) m (word m 6) (word m 0) (λ i l k. at i (omega arith))
+        (λ p j l k. at (2096 + 328 * p + j) (omega arith)))
 
     orders : ordersIn (ordersPart (set m 4 (word m 4 + 1))) (word (set m 4 (word m 4 + 1)) 7) ≡ ordersIn (ordersPart m) (word m 7)
     orders =

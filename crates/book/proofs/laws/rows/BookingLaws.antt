@@ -57,7 +57,15 @@ pub kept-fits : (m x : List ℕ) (r : Row) → Kept m x → RowFits m r → RowF
 kept-fits m x r k f =
     let a = k .head 0 (omega arith) in
     let b = k .head 5 (omega arith) in
-    record { period = omega arith; sellerFrom = f .sellerFrom; sellerTo = omega arith; buyerFrom = f .buyerFrom; buyerTo = omega arith; quantity = f .quantity }
+    record {
+      period = omega arith;
+      sellerFrom = f .sellerFrom;
+      sellerTo = omega arith;
+      buyerFrom = f .buyerFrom;
+      buyerTo = omega arith;
+      quantity =
+          f .quantity;
+    }
 
 -- memory with the same words from a place on
 pub past-dropped : (n : ℕ) (m x : List ℕ) → length x ≡ length m → ((i : ℕ) → n ≤ i → word x i ≡ word m i) → drop n x ≡ drop n m
@@ -73,18 +81,27 @@ pub small-more : (m : List ℕ) (a b : ℕ) → a ≤ b → Small m a → Small 
 small-more m a b h s k p hk hp = let t = s k p hk hp in record { raised = omega arith; lowered = omega arith; volume = omega arith }
 
 -- one party: the unit as memory has it, with its new figures, is the unit after the trade
-module _ (m x : List ℕ) (way direction p q u w : ℕ) (g : Readable m) (hp : p < 24 * word m 0) (one : 1 ≤ u) (most : u ≤ word m 5) (hw : w ≡ wayAfter way direction (word m (1780 + 328 * p + 5 * (u - 1)))) where
+module _ (m x : List ℕ) (way direction p q u w : ℕ) (g : Readable m) (hp : p < 24 * word m 0) (one : 1 ≤ u) (most : u ≤ word m 5) (hw : w
+    ≡ wayAfter way direction (word m (1780 + 328 * p + 5 * (u - 1)))) where
   figures-of : (k : ℕ) → getD (table (periods (word m 0)) (figuresAt m k)) p noFigures ≡ figuresAt m k p
   figures-of k = table-at (periods (word m 0)) (figuresAt m k) p noFigures hp
 
   traded-unit : unitTraded way direction p q (unitOf (decode m) u)
-      ≡ record { kind = word m (8 + 3 * (u - 1)); capacity = word m (9 + 3 * (u - 1)); asset = word m (10 + 3 * (u - 1)); figures = set (table (periods (word m 0)) (figuresAt m (u - 1))) p (traded (word m (8 + 3 * (u - 1))) way direction q (figuresAt m (u - 1) p)) }
+      ≡ record {
+        kind = word m (8 + 3 * (u - 1));
+        capacity = word m (9 + 3 * (u - 1));
+        asset = word m (10 + 3 * (u - 1));
+        figures = set
+            (table (periods (word m 0)) (figuresAt m (u - 1))) p (traded (word m (8 + 3 * (u - 1))) way direction q (figuresAt m (u - 1) p));
+      }
   traded-unit =
       ap (λ (t : Unit). unitTraded way direction p q t) (unit-at m u (one, most))
-      ∙ unit-same refl refl refl (ap (λ (f : Figures). set (table (periods (word m 0)) (figuresAt m (u - 1))) p (traded (word m (8 + 3 * (u - 1))) way direction q f)) (figures-of (u - 1)))
+      ∙ unit-same refl refl refl (ap (λ (f : Figures). set (table (periods (word m 0)) (figuresAt m (u - 1))) p
+      (traded (word m (8 + 3 * (u - 1))) way direction q f)) (figures-of (u - 1)))
 
   booked-by : (r l v : ℕ) → FiguresPut m x (u - 1) p r l v w
-      → traded (word m (8 + 3 * (u - 1))) way direction q (figuresAt m (u - 1) p) ≡ record { held = word m (1776 + 328 * p + 5 * (u - 1)); raised = r; lowered = l; volume = v; way = w }
+      → traded (word m (8 + 3 * (u - 1))) way direction q (figuresAt m (u - 1) p)
+      ≡ record { held = word m (1776 + 328 * p + 5 * (u - 1)); raised = r; lowered = l; volume = v; way = w }
       → decode x ≡ booked way direction p q u (decode m)
   unfolding booked
   booked-by r l v f e =
@@ -93,7 +110,8 @@ module _ (m x : List ℕ) (way direction p q u w : ℕ) (g : Readable m) (hp : p
       (sym (traded-unit ∙ unit-same refl refl refl (ap (λ (t : Figures). set (table (periods (word m 0)) (figuresAt m (u - 1))) p t) e)))
 
   pub trade-raised : raises (unitOf (decode m) u .kind) direction ≡ true
-      → FiguresPut m x (u - 1) p (word m (1777 + 328 * p + 5 * (u - 1)) + q) (word m (1778 + 328 * p + 5 * (u - 1))) (word m (1779 + 328 * p + 5 * (u - 1)) + q) w
+      → FiguresPut m x (u - 1) p (word m (1777 + 328 * p + 5 * (u - 1)) + q) (word m (1778 + 328 * p + 5 * (u - 1)))
+      (word m (1779 + 328 * p + 5 * (u - 1)) + q) w
       → Traded m x way direction p q u
   unfolding traded
   trade-raised e f = record {
@@ -103,7 +121,8 @@ module _ (m x : List ℕ) (way direction p q u w : ℕ) (g : Readable m) (hp : p
   }
 
   pub trade-lowered : raises (unitOf (decode m) u .kind) direction ≡ false
-      → FiguresPut m x (u - 1) p (word m (1777 + 328 * p + 5 * (u - 1))) (word m (1778 + 328 * p + 5 * (u - 1)) + q) (word m (1779 + 328 * p + 5 * (u - 1)) + q) w
+      → FiguresPut m x (u - 1) p (word m (1777 + 328 * p + 5 * (u - 1))) (word m (1778 + 328 * p + 5 * (u - 1)) + q)
+      (word m (1779 + 328 * p + 5 * (u - 1)) + q) w
       → Traded m x way direction p q u
   unfolding traded
   trade-lowered e f = record {
@@ -113,11 +132,13 @@ module _ (m x : List ℕ) (way direction p q u w : ℕ) (g : Readable m) (hp : p
   }
 
 -- both parties of a row
-pub row-traded : (m x y : List ℕ) (r : Row) → RowFits m r → Traded m x (r .way) 0 (r .period) (r .quantity) (r .seller) → Traded x y (r .way) 1 (r .period) (r .quantity) (r .buyer) → RowTraded m y r
+pub row-traded : (m x y : List ℕ) (r : Row) → RowFits m r → Traded m x (r .way) 0 (r .period) (r .quantity) (r .seller)
+    → Traded x y (r .way) 1 (r .period) (r .quantity) (r .buyer) → RowTraded m y r
 row-traded m x y r f a b = record {
   book = b .book ∙ ap (λ (t : Book). booked (r .way) 1 (r .period) (r .quantity) (r .buyer) t) (a .book);
   kept = kept-both m x y (a .kept) (b .kept);
-  small = λ t s. let h = f .quantity in small-more y (t + r .quantity + r .quantity) (t + 8_000_000_000) (omega arith) (b .small (t + r .quantity) (a .small t s));
+  small = λ t s. let h = f .quantity in small-more y (t + r .quantity + r .quantity) (t + 8_000_000_000) (omega arith)
+      (b .small (t + r .quantity) (a .small t s));
 }
 
 -- rows in lent memory: one more, and those that were written
@@ -142,7 +163,12 @@ pub record Booking (m x rows : List ℕ) (n : ℕ) : Type 0 where
 
 pub booking-none : (m rows : List ℕ) → Small m smallFigures → Booking m m rows 0
 unfolding rowsBooked
-booking-none m rows s = record { book = rw (rows-none rows) refl; kept = kept-none m; small = small-more m smallFigures (smallFigures + 8_000_000_000 * 0) (omega arith) s }
+booking-none m rows s = record {
+  book = rw (rows-none rows) refl;
+  kept = kept-none m;
+  small = small-more m smallFigures (smallFigures + 8_000_000_000 * 0)
+      (omega arith) s;
+}
 
 pub booking-more : (m x y rows : List ℕ) (n : ℕ) → Booking m x rows n → RowTraded x y (rowAt rows n) → Booking m y rows (n + 1)
 unfolding rowsBooked
@@ -151,7 +177,8 @@ booking-more m x y rows n b t = record {
       t .book ∙ ap (λ (z : Book). rowBooked (rowAt rows n) z) (b .book)
       ∙ sym (ap (λ (rs : List Row). rowsBooked rs (decode m)) (rows-more rows n) ∙ booked-append (rowsIn rows n) (rowAt rows n ∷ []) (decode m));
   kept = kept-both m x y (b .kept) (t .kept);
-  small = small-more y (smallFigures + 8_000_000_000 * n + 8_000_000_000) (smallFigures + 8_000_000_000 * (n + 1)) (omega arith) (t .small (smallFigures + 8_000_000_000 * n) (b .small));
+  small = small-more y (smallFigures + 8_000_000_000 * n + 8_000_000_000) (smallFigures + 8_000_000_000 * (n + 1)) (omega arith)
+      (t .small (smallFigures + 8_000_000_000 * n) (b .small));
 }
 
 pub booking-end : (m x rows : List ℕ) (n : ℕ) (i : ℕ) → i ≡ n → Booking m x rows i → RowsTraded m x rows n
@@ -160,18 +187,35 @@ booking-end m x rows n i e b = rw (← e) (record { book = b .book; kept = b .ke
 -- what a row and each of its parties ask
 pub row-asks : (m x rows : List ℕ) (n i : ℕ) → Readable m → 6 * n ≤ length rows → n ≤ 744 → RowsFit m rows n → i < n → Booking m x rows i
     → (Readable x) × (6 * i + 6 ≤ length rows) × (i < 744) × (RowFits x (rowAt rows i)) × (Small x 1_900_000_000_000_000_000)
-row-asks m x rows n i g l t f h b =
-    (kept-readable m x (b .kept) g, omega arith, omega arith, kept-fits m x (rowAt rows i) (b .kept) (f i h), small-more x (smallFigures + 8_000_000_000 * i) 1_900_000_000_000_000_000 (omega arith) (b .small))
+row-asks m x rows n i g l t f h b = (
+  kept-readable m x (b .kept) g,
+  omega arith,
+  omega arith,
+  kept-fits m x (rowAt rows i) (b .kept) (f i h),
+  small-more x
+      (smallFigures + 8_000_000_000 * i) 1_900_000_000_000_000_000 (omega arith) (b .small),
+)
 
 pub seller-asks : (m : List ℕ) (r : Row) → Readable m → RowFits m r → Small m 1_900_000_000_000_000_000
-    → (Readable m) × (r .period < 24 * word m 0) × (1 ≤ r .seller) × (r .seller ≤ word m 5) × (0 ≤ 1) × (r .quantity ≤ mostEnergy) × (SmallAt m (r .seller - 1) (r .period) 2_000_000_000_000_000_000)
+    → (Readable m) × (r .period < 24 * word m 0) × (1 ≤ r .seller) × (r .seller ≤ word m 5) × (0 ≤ 1) × (r .quantity ≤ mostEnergy)
+    × (SmallAt m (r .seller - 1) (r .period) 2_000_000_000_000_000_000)
 seller-asks m r g f s =
     let a = f .sellerFrom in
-    let b = f .sellerTo in
-    (g, f .period, f .sellerFrom, f .sellerTo, omega arith, f .quantity, small-more m 1_900_000_000_000_000_000 2_000_000_000_000_000_000 (omega arith) s (r .seller - 1) (r .period) (omega arith) (f .period))
+    let b = f .sellerTo in (
+      g,
+      f .period,
+      f .sellerFrom,
+      f .sellerTo,
+      omega arith,
+      f .quantity,
+      small-more m 1_900_000_000_000_000_000 2_000_000_000_000_000_000 (omega arith) s
+          (r .seller - 1) (r .period) (omega arith) (f .period),
+    )
 
-pub buyer-asks : (m x : List ℕ) (r : Row) → Readable m → RowFits m r → Small m 1_900_000_000_000_000_000 → Traded m x (r .way) 0 (r .period) (r .quantity) (r .seller)
-    → (Readable x) × (r .period < 24 * word x 0) × (1 ≤ r .buyer) × (r .buyer ≤ word x 5) × (1 ≤ 1) × (r .quantity ≤ mostEnergy) × (SmallAt x (r .buyer - 1) (r .period) 2_000_000_000_000_000_000)
+pub buyer-asks : (m x : List ℕ) (r : Row) → Readable m → RowFits m r → Small m 1_900_000_000_000_000_000
+    → Traded m x (r .way) 0 (r .period) (r .quantity) (r .seller)
+    → (Readable x) × (r .period < 24 * word x 0) × (1 ≤ r .buyer) × (r .buyer ≤ word x 5) × (1 ≤ 1) × (r .quantity ≤ mostEnergy)
+    × (SmallAt x (r .buyer - 1) (r .period) 2_000_000_000_000_000_000)
 buyer-asks m x r g f s t =
     let k = kept-fits m x r (t .kept) f in
     let a = k .buyerFrom in
@@ -183,5 +227,6 @@ buyer-asks m x r g f s t =
       k .buyerTo,
       omega arith,
       f .quantity,
-      small-more x (1_900_000_000_000_000_000 + r .quantity) 2_000_000_000_000_000_000 (omega arith) (t .small 1_900_000_000_000_000_000 s) (r .buyer - 1) (r .period) (omega arith) (k .period),
+      small-more x (1_900_000_000_000_000_000 + r .quantity) 2_000_000_000_000_000_000 (omega arith) (t .small 1_900_000_000_000_000_000 s) (r .buyer - 1)
+          (r .period) (omega arith) (k .period),
     )

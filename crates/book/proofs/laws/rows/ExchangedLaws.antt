@@ -26,7 +26,8 @@ module _ (os os′ : List OpenOrder) (rs : List Row) (x : Exchanged os os′ rs)
   unfolding openOrders tradedBy
   raising-lost = go (generator kind)
     where
-      go : (g : Bool) → openOrders (λ d. cond g (sells d) (buys d)) u p os′ + cond g (sold u p rs) (bought u p rs) ≡ openOrders (λ d. cond g (sells d) (buys d)) u p os
+      go : (g : Bool) → openOrders (λ d. cond g (sells d) (buys d)) u p os′ + cond g (sold u p rs) (bought u p rs)
+          ≡ openOrders (λ d. cond g (sells d) (buys d)) u p os
       go true = x .sold u p
       go false = x .bought u p
 
@@ -34,12 +35,14 @@ module _ (os os′ : List OpenOrder) (rs : List Row) (x : Exchanged os os′ rs)
   unfolding openOrders tradedBy
   lowering-lost = go (generator kind)
     where
-      go : (g : Bool) → openOrders (λ d. cond g (buys d) (sells d)) u p os′ + cond g (bought u p rs) (sold u p rs) ≡ openOrders (λ d. cond g (buys d) (sells d)) u p os
+      go : (g : Bool) → openOrders (λ d. cond g (buys d) (sells d)) u p os′ + cond g (bought u p rs) (sold u p rs)
+          ≡ openOrders (λ d. cond g (buys d) (sells d)) u p os
       go true = x .bought u p
       go false = x .sold u p
 
 -- a sound book of which the orders os are left, and whose rows trade the rest
-module _ (b : Book) (os : List OpenOrder) (rs : List Row) (phase : ℕ) (s : Sound b) (r : Remains LessOrder os (b .orders)) (x : Exchanged (b .orders) os rs) (n : Each Named rs) where
+module _ (b : Book) (os : List OpenOrder) (rs : List Row) (phase : ℕ) (s : Sound b) (r : Remains LessOrder os (b .orders)) (x : Exchanged (b .orders) os rs)
+    (n : Each Named rs) where
   abbrev traded : Book
   traded = rowsBooked rs (withOrders b os)
 
@@ -63,7 +66,8 @@ module _ (b : Book) (os : List OpenOrder) (rs : List Row) (phase : ℕ) (s : Sou
         → (figuresOf after u p .held ≡ figuresOf b u p .held)
         × (figuresOf after u p .raised + openRaising after u p ≡ figuresOf b u p .raised + openRaising b u p)
         × (figuresOf after u p .lowered + openLowering after u p ≡ figuresOf b u p .lowered + openLowering b u p)
-        × (figuresOf after u p .volume + (openRaising after u p + openLowering after u p) ≡ figuresOf b u p .volume + (openRaising b u p + openLowering b u p))
+        × (figuresOf after u p .volume + (openRaising after u p + openLowering after u p)
+        ≡ figuresOf b u p .volume + (openRaising b u p + openLowering b u p))
     exchanged-figures i h =
         let f = each-at (UnitRanges (b .days)) (b .units) (u - 1) noUnit (s .formed .units) (omega arith) .figures in
         let g = grown-rows rs (withOrders b os) u p n i (omega arith) in
@@ -95,7 +99,15 @@ module _ (b : Book) (os : List OpenOrder) (rs : List Row) (phase : ℕ) (s : Sou
       left =
           let h = s .formed .head in
           record {
-            names = record { days = refl; floor = refl; ceiling = refl; given = omega arith; count = omega (arith, keeps .count); kinds = λ u i. keeps .kind u };
+            names = record {
+              days = refl;
+              floor = refl;
+              ceiling = refl;
+              given = omega arith;
+              count = omega (arith, keeps .count);
+              kinds = λ u i. keeps .kind
+                  u;
+            };
             phase = low;
             given = h .given;
             most = omega (arith, keeps .count);

@@ -41,20 +41,28 @@ module _ (m : List ℕ) (a b c d r l v w : ℕ) (eb : b ≡ a + 1) (ec : c ≡ a
       ∙ getD-set-other (set m a r) b i l 0 nb ∙ getD-set-other m a i r 0 na
 
 pub figures-put : (m : List ℕ) (k p r l v w : ℕ) → 1780 + 328 * p + 5 * k < length m
-    → FiguresPut m (set (set (set (set m (1777 + 328 * p + 5 * k) r) (1778 + 328 * p + 5 * k) l) (1779 + 328 * p + 5 * k) v) (1780 + 328 * p + 5 * k) w) k p r l v w
+    → FiguresPut m (set (set (set (set m (1777 + 328 * p + 5 * k) r) (1778 + 328 * p + 5 * k) l) (1779 + 328 * p + 5 * k) v) (1780 + 328 * p + 5 * k) w) k p
+    r l v w
 figures-put m k p r l v w fits = record {
   long = simp length-set;
-  raised = four-first m (1777 + 328 * p + 5 * k) (1778 + 328 * p + 5 * k) (1779 + 328 * p + 5 * k) (1780 + 328 * p + 5 * k) r l v w (omega arith) (omega arith) (omega arith) fits;
-  lowered = four-second m (1777 + 328 * p + 5 * k) (1778 + 328 * p + 5 * k) (1779 + 328 * p + 5 * k) (1780 + 328 * p + 5 * k) r l v w (omega arith) (omega arith) (omega arith) fits;
-  volume = four-third m (1777 + 328 * p + 5 * k) (1778 + 328 * p + 5 * k) (1779 + 328 * p + 5 * k) (1780 + 328 * p + 5 * k) r l v w (omega arith) (omega arith) (omega arith) fits;
-  way = four-fourth m (1777 + 328 * p + 5 * k) (1778 + 328 * p + 5 * k) (1779 + 328 * p + 5 * k) (1780 + 328 * p + 5 * k) r l v w (omega arith) (omega arith) (omega arith) fits;
-  before = λ i h. four-other m (1777 + 328 * p + 5 * k) (1778 + 328 * p + 5 * k) (1779 + 328 * p + 5 * k) (1780 + 328 * p + 5 * k) r l v w (omega arith) (omega arith) (omega arith) fits i (omega arith) (omega arith) (omega arith) (omega arith);
-  behind = λ i h. four-other m (1777 + 328 * p + 5 * k) (1778 + 328 * p + 5 * k) (1779 + 328 * p + 5 * k) (1780 + 328 * p + 5 * k) r l v w (omega arith) (omega arith) (omega arith) fits i (omega arith) (omega arith) (omega arith) (omega arith);
+  raised = four-first m (1777 + 328 * p + 5 * k) (1778 + 328 * p + 5 * k) (1779 + 328 * p + 5 * k) (1780 + 328 * p + 5 * k) r l v w (omega arith)
+      (omega arith) (omega arith) fits;
+  lowered = four-second m (1777 + 328 * p + 5 * k) (1778 + 328 * p + 5 * k) (1779 + 328 * p + 5 * k) (1780 + 328 * p + 5 * k) r l v w (omega arith)
+      (omega arith) (omega arith) fits;
+  volume = four-third m (1777 + 328 * p + 5 * k) (1778 + 328 * p + 5 * k) (1779 + 328 * p + 5 * k) (1780 + 328 * p + 5 * k) r l v w (omega arith)
+      (omega arith) (omega arith) fits;
+  way = four-fourth m (1777 + 328 * p + 5 * k) (1778 + 328 * p + 5 * k) (1779 + 328 * p + 5 * k) (1780 + 328 * p + 5 * k) r l v w (omega arith)
+      (omega arith) (omega arith) fits;
+  before = λ i h. four-other m (1777 + 328 * p + 5 * k) (1778 + 328 * p + 5 * k) (1779 + 328 * p + 5 * k) (1780 + 328 * p + 5 * k) r l v w (omega arith)
+      (omega arith) (omega arith) fits i (omega arith) (omega arith) (omega arith) (omega arith);
+  behind = λ i h. four-other m (1777 + 328 * p + 5 * k) (1778 + 328 * p + 5 * k) (1779 + 328 * p + 5 * k) (1780 + 328 * p + 5 * k) r l v w (omega arith)
+      (omega arith) (omega arith) fits i (omega arith) (omega arith) (omega arith) (omega arith);
 }
 
 -- records by their fields
 pub figures-same : {a b c d e a′ b′ c′ d′ e′ : ℕ} → a ≡ a′ → b ≡ b′ → c ≡ c′ → d ≡ d′ → e ≡ e′
-    → _≡_ {A = Figures} (record { held = a; raised = b; lowered = c; volume = d; way = e }) (record { held = a′; raised = b′; lowered = c′; volume = d′; way = e′ })
+    → _≡_ {A = Figures} (record { held = a; raised = b; lowered = c; volume = d; way = e })
+    (record { held = a′; raised = b′; lowered = c′; volume = d′; way = e′ })
 figures-same ha hb hc hd he = rw (ha, hb, hc, hd, he)
 
 pub unit-same : {a b c a′ b′ c′ : ℕ} {f f′ : List Figures} → a ≡ a′ → b ≡ b′ → c ≡ c′ → f ≡ f′
@@ -62,10 +70,12 @@ pub unit-same : {a b c a′ b′ c′ : ℕ} {f f′ : List Figures} → a ≡ a
 unit-same ha hb hc hf = rw (ha, hb, hc, hf)
 
 pub offer-same : {a b c d e a′ b′ c′ d′ e′ : ℕ} {f f′ : List ℕ} → a ≡ a′ → b ≡ b′ → c ≡ c′ → d ≡ d′ → e ≡ e′ → f ≡ f′
-    → _≡_ {A = OpenOffer} (record { number = a; unit = b; partner = c; price = d; taken = e; amounts = f }) (record { number = a′; unit = b′; partner = c′; price = d′; taken = e′; amounts = f′ })
+    → _≡_ {A = OpenOffer} (record { number = a; unit = b; partner = c; price = d; taken = e; amounts = f })
+    (record { number = a′; unit = b′; partner = c′; price = d′; taken = e′; amounts = f′ })
 offer-same ha hb hc hd he hf = rw (ha, hb, hc, hd, he, hf)
 
-pub book-same : {a b c d e a′ b′ c′ d′ e′ : ℕ} {us us′ : List Unit} {fs fs′ : List OpenOffer} {os os′ : List OpenOrder} → a ≡ a′ → b ≡ b′ → c ≡ c′ → d ≡ d′ → e ≡ e′ → us ≡ us′ → fs ≡ fs′ → os ≡ os′
+pub book-same : {a b c d e a′ b′ c′ d′ e′ : ℕ} {us us′ : List Unit} {fs fs′ : List OpenOffer} {os os′ : List OpenOrder} → a ≡ a′ → b ≡ b′ → c ≡ c′ → d ≡ d′
+    → e ≡ e′ → us ≡ us′ → fs ≡ fs′ → os ≡ os′
     → _≡_ {A = Book} (record { days = a; floor = b; ceiling = c; phase = d; given = e; units = us; offers = fs; orders = os })
     (record { days = a′; floor = b′; ceiling = c′; phase = d′; given = e′; units = us′; offers = fs′; orders = os′ })
 book-same ha hb hc hd he hu hf ho = rw (ha, hb, hc, hd, he, hu, hf, ho)
@@ -83,12 +93,14 @@ orders-part-same m x e h = ext-getD 0 (ordersPart x) (ordersPart m) (simp (lengt
 module _ (m x : List ℕ) (k p r l v w : ℕ) (f : FiguresPut m x k p r l v w) (hk : k < 64) where
   cell-before : (j q : ℕ) → 328 * q + 5 * j + 3 < 328 * p + 5 * k → figuresAt x j q ≡ figuresAt m j q
   cell-before j q h =
-      figures-same (f .before (1776 + 328 * q + 5 * j) (omega arith)) (f .before (1777 + 328 * q + 5 * j) (omega arith)) (f .before (1778 + 328 * q + 5 * j) (omega arith))
+      figures-same (f .before (1776 + 328 * q + 5 * j) (omega arith)) (f .before (1777 + 328 * q + 5 * j) (omega arith))
+      (f .before (1778 + 328 * q + 5 * j) (omega arith))
       (f .before (1779 + 328 * q + 5 * j) (omega arith)) (f .before (1780 + 328 * q + 5 * j) (omega arith))
 
   cell-behind : (j q : ℕ) → 328 * p + 5 * k + 4 < 328 * q + 5 * j → figuresAt x j q ≡ figuresAt m j q
   cell-behind j q h =
-      figures-same (f .behind (1776 + 328 * q + 5 * j) (omega arith)) (f .behind (1777 + 328 * q + 5 * j) (omega arith)) (f .behind (1778 + 328 * q + 5 * j) (omega arith))
+      figures-same (f .behind (1776 + 328 * q + 5 * j) (omega arith)) (f .behind (1777 + 328 * q + 5 * j) (omega arith))
+      (f .behind (1778 + 328 * q + 5 * j) (omega arith))
       (f .behind (1779 + 328 * q + 5 * j) (omega arith)) (f .behind (1780 + 328 * q + 5 * j) (omega arith))
 
   -- another unit's figures, or another period's
@@ -119,7 +131,13 @@ module _ (m x : List ℕ) (k p r l v w : ℕ) (f : FiguresPut m x k p r l v w) (
       (table-ext (periods d) (figuresAt x j) (figuresAt m j) (λ q hq. cell-other j q hj (λ e. n (e .0))))
 
   unit-own : (d : ℕ) → p < periods d
-      → unitAt x d k ≡ record { kind = word m (8 + 3 * k); capacity = word m (9 + 3 * k); asset = word m (10 + 3 * k); figures = set (table (periods d) (figuresAt m k)) p (record { held = word m (1776 + 328 * p + 5 * k); raised = r; lowered = l; volume = v; way = w }) }
+      → unitAt x d k ≡ record {
+        kind = word m (8 + 3 * k);
+        capacity = word m (9 + 3 * k);
+        asset = word m (10 + 3 * k);
+        figures = set
+            (table (periods d) (figuresAt m k)) p (record { held = word m (1776 + 328 * p + 5 * k); raised = r; lowered = l; volume = v; way = w });
+      }
   unit-own d h =
       unit-same (f .before (8 + 3 * k) (omega arith)) (f .before (9 + 3 * k) (omega arith)) (f .before (10 + 3 * k) (omega arith))
       (table-set (periods d) (figuresAt m k) (figuresAt x k) p _ noFigures h cell-own (λ q hq n. cell-other k q hk (λ e. n (e .1))))
@@ -135,7 +153,21 @@ module _ (m x : List ℕ) (k p r l v w : ℕ) (f : FiguresPut m x k p r l v w) (
 
   -- the book that it holds
   pub put-book : Readable m → k < word m 5 → p < 24 * word m 0
-      → decode x ≡ withUnits (decode m) (set (decode m .units) k (record { kind = word m (8 + 3 * k); capacity = word m (9 + 3 * k); asset = word m (10 + 3 * k); figures = set (table (periods (word m 0)) (figuresAt m k)) p (record { held = word m (1776 + 328 * p + 5 * k); raised = r; lowered = l; volume = v; way = w }) }))
+      → decode x ≡ withUnits (decode m) (set (decode m .units) k
+      (record {
+        kind = word m (8 + 3 * k);
+        capacity = word m (9 + 3 * k);
+        asset = word m (10 + 3 * k);
+        figures = set
+            (table (periods (word m 0)) (figuresAt m k)) p (record {
+              held = word m (1776 + 328 * p + 5 * k);
+              raised = r;
+              lowered = l;
+              volume = v;
+              way =
+                  w;
+            });
+      }))
   unfolding decode
   put-book g hu hp =
       let e0 = f .before 0 (omega arith) in
@@ -143,12 +175,14 @@ module _ (m x : List ℕ) (k p r l v w : ℕ) (f : FiguresPut m x k p r l v w) (
       let e6 = f .before 6 (omega arith) in
       let e7 = f .before 7 (omega arith) in
       book-same e0 (f .before 1 (omega arith)) (f .before 2 (omega arith)) (f .before 3 (omega arith)) (f .before 4 (omega arith))
-      (rw (e0, e5) (table-set (word m 5) (unitAt m (word m 0)) (unitAt x (word m 0)) k _ noUnit hu (unit-own (word m 0) hp) (λ j hj n. unit-other (word m 0) j (omega arith) n)))
+      (rw (e0, e5) (table-set (word m 5) (unitAt m (word m 0)) (unitAt x (word m 0)) k _ noUnit hu (unit-own (word m 0) hp)
+      (λ j hj n. unit-other (word m 0) j (omega arith) n)))
       (rw (e0, e6) (table-ext (word m 6) (offerAt x (word m 0)) (offerAt m (word m 0)) (λ j hj. offer-other (word m 0) j (omega arith))))
       (rw (e7, orders-part-same m x (f .long) (λ i l′ h. f .before i (omega arith))) refl)
 
   -- figures that rose by at most q
-  pub put-small : (q most : ℕ) → r ≤ word m (1777 + 328 * p + 5 * k) + q → l ≤ word m (1778 + 328 * p + 5 * k) + q → v ≤ word m (1779 + 328 * p + 5 * k) + q → k < word m 5 → p < 24 * word m 0 → word m 5 ≤ 64
+  pub put-small : (q most : ℕ) → r ≤ word m (1777 + 328 * p + 5 * k) + q → l ≤ word m (1778 + 328 * p + 5 * k) + q → v ≤ word m (1779 + 328 * p + 5 * k) + q
+      → k < word m 5 → p < 24 * word m 0 → word m 5 ≤ 64
       → Small m most → Small x (most + q)
   put-small q most hr hl hv hu hp top s j t hj ht =
       go (ℕ-discrete j k) (ℕ-discrete t p)

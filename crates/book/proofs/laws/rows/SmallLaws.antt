@@ -37,8 +37,13 @@ module _ (b : Book) (u : ℕ) (fit : unitFits b u ≡ true) where
   hour-small p hp =
       let t = all-true _ fit in
       let e = all-at (periods (b .days)) (hourFits b u nothing) p (t .0) hp in
-      let h : figuresOf b u p .held + (raisingToday b u p + 0) ≤ hourLimit (unitOf b u .kind) (unitOf b u .capacity) (hourOf p) = leb-true _ _ (and-left (leb (figuresOf b u p .held + (raisingToday b u p + 0)) (hourLimit (unitOf b u .kind) (unitOf b u .capacity) (hourOf p))) (leb (loweringToday b u p + 0) (figuresOf b u p .held)) e) in
-      let l : loweringToday b u p + 0 ≤ figuresOf b u p .held = leb-true _ _ (and-right (leb (figuresOf b u p .held + (raisingToday b u p + 0)) (hourLimit (unitOf b u .kind) (unitOf b u .capacity) (hourOf p))) (leb (loweringToday b u p + 0) (figuresOf b u p .held)) e) in
+      let h : figuresOf b u p .held + (raisingToday b u p + 0)
+      ≤ hourLimit (unitOf b u .kind) (unitOf b u .capacity) (hourOf p) = leb-true _ _
+      (and-left (leb (figuresOf b u p .held + (raisingToday b u p + 0)) (hourLimit (unitOf b u .kind) (unitOf b u .capacity) (hourOf p)))
+      (leb (loweringToday b u p + 0) (figuresOf b u p .held)) e) in
+      let l : loweringToday b u p + 0 ≤ figuresOf b u p .held = leb-true _ _
+      (and-right (leb (figuresOf b u p .held + (raisingToday b u p + 0)) (hourLimit (unitOf b u .kind) (unitOf b u .capacity) (hourOf p)))
+      (leb (loweringToday b u p + 0) (figuresOf b u p .held)) e) in
       let c = hour-most (unitOf b u .kind) (unitOf b u .capacity) (hourOf p) in
       (omega arith, omega arith)
 
@@ -46,7 +51,8 @@ module _ (b : Book) (u : ℕ) (fit : unitFits b u ≡ true) where
   unfolding unitFits volumeFits
   volume-small p hp hc hd =
       let t = all-true _ fit in
-      let v : sum (periods (b .days)) (λ z. figuresOf b u z .volume + (openRaising b u z + openLowering b u z + (0 + 0))) ≤ volumeLimit (unitOf b u .kind) (termOf b u nothing) = leb-true _ _ (t .1 .1 .0) in
+      let v : sum (periods (b .days)) (λ z. figuresOf b u z .volume + (openRaising b u z + openLowering b u z + (0 + 0)))
+      ≤ volumeLimit (unitOf b u .kind) (termOf b u nothing) = leb-true _ _ (t .1 .1 .0) in
       let s = sum-at (periods (b .days)) (λ z. figuresOf b u z .volume + (openRaising b u z + openLowering b u z + (0 + 0))) p hp in
       let c = term-most (unitOf b u .kind) (unitOf b u .capacity) (unitOf b u .asset) (b .days) hc hd in
       let w = volume-most (unitOf b u .kind) (termOf b u nothing) c in
@@ -92,7 +98,8 @@ abbrev pub noRow : Row
 noRow = record { way = 0; period = 0; seller = 0; buyer = 0; quantity = 0; price = 0 }
 
 row-same : {a b c d e f a′ b′ c′ d′ e′ f′ : ℕ} → a ≡ a′ → b ≡ b′ → c ≡ c′ → d ≡ d′ → e ≡ e′ → f ≡ f′
-    → _≡_ {A = Row} (record { way = a; period = b; seller = c; buyer = d; quantity = e; price = f }) (record { way = a′; period = b′; seller = c′; buyer = d′; quantity = e′; price = f′ })
+    → _≡_ {A = Row} (record { way = a; period = b; seller = c; buyer = d; quantity = e; price = f })
+    (record { way = a′; period = b′; seller = c′; buyer = d′; quantity = e′; price = f′ })
 row-same ha hb hc hd he hf = rw (ha, hb, hc, hd, he, hf)
 
 skip-row : (r : Row) (l : List ℕ) (i j : ℕ) → i ≡ suc (suc (suc (suc (suc (suc j))))) → getD (flatRow r ++ l) i 0 ≡ getD l j 0

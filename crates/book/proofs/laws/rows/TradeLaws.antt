@@ -97,7 +97,8 @@ module _ (w d p q : ℕ) where
         figures = λ u.
             set-keeps (λ (y : Unit). length (y .figures)) (b .units) (v - 1) (u - 1) x noUnit
             (length-set (unitOf b v .figures) p (traded (unitOf b v .kind) w d q (getD (unitOf b v .figures) p noFigures)));
-        ranges = λ days e. each-set (UnitRanges days) (b .units) (v - 1) x e (λ l. trade-ranges days (unitOf b v) h (each-at (UnitRanges days) (b .units) (v - 1) noUnit e l));
+        ranges = λ days e. each-set (UnitRanges days) (b .units) (v - 1) x e
+            (λ l. trade-ranges days (unitOf b v) h (each-at (UnitRanges days) (b .units) (v - 1) noUnit e l));
       }
     where
       x : Unit
@@ -115,16 +116,19 @@ module _ (w d p q : ℕ) where
       mine : v ≡ u → unitOf after u ≡ unitTraded w d p q (unitOf b u)
       mine e = rw e (getD-set-same (b .units) (u - 1) (unitTraded w d p q (unitOf b u)) noUnit (omega arith))
 
-      go : Dec (v ≡ u) → Dec (p ≡ at) → figuresOf after u at ≡ cond (eqb v u && eqb p at) (traded (unitOf b u .kind) w d q (figuresOf b u at)) (figuresOf b u at)
+      go : Dec (v ≡ u) → Dec (p ≡ at) → figuresOf after u at
+          ≡ cond (eqb v u && eqb p at) (traded (unitOf b u .kind) w d q (figuresOf b u at)) (figuresOf b u at)
       go (yes e) (yes i) =
           let l : p < length (unitOf b u .figures) = omega arith in
           ap (λ (x : Unit). getD (x .figures) at noFigures) (mine e)
           ∙ rw (eq-eqb v u e, eq-eqb p at i, ← i) (getD-set-same (unitOf b u .figures) p (traded (unitOf b u .kind) w d q (figuresOf b u p)) noFigures l)
       go (yes e) (no i) =
           ap (λ (x : Unit). getD (x .figures) at noFigures) (mine e)
-          ∙ rw (eq-eqb v u e, ne-eqb p at i) (getD-set-other (unitOf b u .figures) p at (traded (unitOf b u .kind) w d q (figuresOf b u p)) noFigures (λ j. i (sym j)))
+          ∙ rw (eq-eqb v u e, ne-eqb p at i) (getD-set-other (unitOf b u .figures) p at (traded (unitOf b u .kind) w d q (figuresOf b u p)) noFigures
+          (λ j. i (sym j)))
       go (no e) i =
-          ap (λ (x : Unit). getD (x .figures) at noFigures) (getD-set-other (b .units) (v - 1) (u - 1) (unitTraded w d p q (unitOf b v)) noUnit (omega arith))
+          ap (λ (x : Unit). getD (x .figures) at noFigures) (getD-set-other (b .units) (v - 1) (u - 1) (unitTraded w d p q (unitOf b v)) noUnit
+          (omega arith))
           ∙ rw (ne-eqb v u e)
 
 -- f′ is f with r more raised and l more lowered
@@ -181,14 +185,17 @@ kept-rows (r ∷ rs) b =
     let b1 = booked (r .way) 0 (r .period) (r .quantity) (r .seller) b in
     let b2 = booked (r .way) 1 (r .period) (r .quantity) (r .buyer) b1 in
     kept-then b b2 (rowsBooked rs b2)
-    (kept-then b b1 b2 (kept-booked (r .way) 0 (r .period) (r .quantity) (r .seller) b (omega arith)) (kept-booked (r .way) 1 (r .period) (r .quantity) (r .buyer) b1 (omega arith)))
+    (kept-then b b1 b2 (kept-booked (r .way) 0 (r .period) (r .quantity) (r .seller) b (omega arith))
+    (kept-booked (r .way) 1 (r .period) (r .quantity) (r .buyer) b1 (omega arith)))
     (kept-rows rs b2)
 
 -- a unit's figures of a period after one row, and after all
 grown-row : (r : Row) (b : Book) (u p : ℕ) → Named r → In 1 (length (b .units)) u → p < length (unitOf b u .figures)
     → Grown (figuresOf b u p) (figuresOf (rowBooked r b) u p)
-    (cond (raises (unitOf b u .kind) 0) (rowTrades (λ (r : Row). r .seller) u p r) 0 + cond (raises (unitOf b u .kind) 1) (rowTrades (λ (r : Row). r .buyer) u p r) 0)
-    (cond (raises (unitOf b u .kind) 0) 0 (rowTrades (λ (r : Row). r .seller) u p r) + cond (raises (unitOf b u .kind) 1) 0 (rowTrades (λ (r : Row). r .buyer) u p r))
+    (cond (raises (unitOf b u .kind) 0) (rowTrades (λ (r : Row). r .seller) u p r) 0 + cond (raises (unitOf b u .kind) 1)
+    (rowTrades (λ (r : Row). r .buyer) u p r) 0)
+    (cond (raises (unitOf b u .kind) 0) 0 (rowTrades (λ (r : Row). r .seller) u p r) + cond (raises (unitOf b u .kind) 1) 0
+    (rowTrades (λ (r : Row). r .buyer) u p r))
 grown-row r b u p n i h = grown-then (figuresOf b u p) (figuresOf b1 u p) (figuresOf (rowBooked r b) u p) _ _ _ _ sale purchase
   where
     b1 : Book
@@ -197,14 +204,20 @@ grown-row r b u p n i h = grown-then (figuresOf b u p) (figuresOf b1 u p) (figur
     k : Kept b b1
     k = kept-booked (r .way) 0 (r .period) (r .quantity) (r .seller) b (omega arith)
 
-    sale : Grown (figuresOf b u p) (figuresOf b1 u p) (cond (raises (unitOf b u .kind) 0) (rowTrades (λ (r : Row). r .seller) u p r) 0) (cond (raises (unitOf b u .kind) 0) 0 (rowTrades (λ (r : Row). r .seller) u p r))
+    sale : Grown (figuresOf b u p) (figuresOf b1 u p) (cond (raises (unitOf b u .kind) 0) (rowTrades (λ (r : Row). r .seller) u p r) 0)
+        (cond (raises (unitOf b u .kind) 0) 0 (rowTrades (λ (r : Row). r .seller) u p r))
     sale =
         rw (booked-figures (r .way) 0 (r .period) (r .quantity) (r .seller) b u p (n .0) i h)
         (grown-trade (unitOf b u .kind) (r .way) 0 (r .quantity) (figuresOf b u p) (eqb (r .seller) u && eqb (r .period) p))
 
-    purchase : Grown (figuresOf b1 u p) (figuresOf (rowBooked r b) u p) (cond (raises (unitOf b u .kind) 1) (rowTrades (λ (r : Row). r .buyer) u p r) 0) (cond (raises (unitOf b u .kind) 1) 0 (rowTrades (λ (r : Row). r .buyer) u p r))
+    purchase : Grown (figuresOf b1 u p) (figuresOf (rowBooked r b) u p) (cond (raises (unitOf b u .kind) 1) (rowTrades (λ (r : Row). r .buyer) u p r) 0)
+        (cond (raises (unitOf b u .kind) 1) 0 (rowTrades (λ (r : Row). r .buyer) u p r))
     purchase =
-        rw (booked-figures (r .way) 1 (r .period) (r .quantity) (r .buyer) b1 u p (n .1) (omega (arith, k .count)) (omega (arith, k .figures u)), ← k .kind u)
+        rw (
+          booked-figures (r .way) 1 (r .period) (r .quantity) (r .buyer) b1 u p (n .1) (omega (arith, k .count)) (omega (arith, k .figures u)),
+          ← k .kind
+              u,
+        )
         (grown-trade (unitOf b1 u .kind) (r .way) 1 (r .quantity) (figuresOf b1 u p) (eqb (r .buyer) u && eqb (r .period) p))
 
 -- no trade, and the trades of a row and of those behind it, where g says that the unit is a generator
@@ -225,6 +238,8 @@ grown-rows [] b u p n i h = grown-none (figuresOf b u p) (generator (unitOf b u 
 grown-rows (r ∷ rs) b u p n i h =
     let k = kept-rows (r ∷ []) b in
     let rest = rw (k .kind u) at (grown-rows rs (rowBooked r b) u p (n .1) (omega (arith, k .count)) (omega (arith, k .figures u))) in
-    let sums = add-up (generator (unitOf b u .kind)) (rowTrades (λ (r : Row). r .seller) u p r) (rowTrades (λ (r : Row). r .buyer) u p r) (sold u p rs) (bought u p rs) in
+    let sums = add-up (generator (unitOf b u .kind)) (rowTrades (λ (r : Row). r .seller) u p r) (rowTrades (λ (r : Row). r .buyer) u p r) (sold u p rs)
+    (bought u p rs) in
     rw (← sums .0, ← sums .1)
-    (grown-then (figuresOf b u p) (figuresOf (rowBooked r b) u p) (figuresOf (rowsBooked rs (rowBooked r b)) u p) _ _ _ _ (grown-row r b u p (n .0) i h) rest)
+    (grown-then (figuresOf b u p) (figuresOf (rowBooked r b) u p) (figuresOf (rowsBooked rs (rowBooked r b)) u p) _ _ _ _ (grown-row r b u p (n .0) i h)
+    rest)

@@ -34,7 +34,8 @@ new-offer-differs b n e h =
     each-holds (otherNumber n) (OrderRanges b)
     (λ o r. let i = r .number in not-fails (eqb n (o .number)) (ne-eqb n (o .number) (omega arith))) (b .orders) h
 
-new-order-differs : (b : Book) (n : ℕ) → n ≡ nextNumber b → Each (OfferRanges b) (b .offers) → every (λ (f : OpenOffer). not (eqb (f .number) n)) (b .offers) ≡ true
+new-order-differs : (b : Book) (n : ℕ) → n ≡ nextNumber b → Each (OfferRanges b) (b .offers)
+    → every (λ (f : OpenOffer). not (eqb (f .number) n)) (b .offers) ≡ true
 new-order-differs b n e h =
     each-holds (λ (f : OpenOffer). not (eqb (f .number) n)) (OfferRanges b)
     (λ f r. let i = r .number in not-fails (eqb (f .number) n) (ne-eqb (f .number) n (omega arith))) (b .offers) h
@@ -47,8 +48,10 @@ formed-offer b o f r e few left =
       units = f .units;
       offers =
           each-append (OfferRanges (withOffer b o)) (b .offers) (o ∷ [])
-          (each-imp (OfferRanges b) (OfferRanges (withOffer b o)) (λ x t. offer-after b (withOffer b o) names x x (same-offer x) t) (b .offers) (f .offers)) (r, tt);
-      orders = each-imp (OrderRanges b) (OrderRanges (withOffer b o)) (λ x t. order-after b (withOffer b o) names x x (same-order x) t) (b .orders) (f .orders);
+          (each-imp (OfferRanges b) (OfferRanges (withOffer b o)) (λ x t. offer-after b (withOffer b o) names x x (same-offer x) t) (b .offers) (f .offers))
+          (r, tt);
+      orders = each-imp (OrderRanges b) (OrderRanges (withOffer b o)) (λ x t. order-after b (withOffer b o) names x x (same-order x) t) (b .orders)
+          (f .orders);
       offersRise =
           rising-append (λ (x : OpenOffer). x .number) (b .offers) o (f .offersRise)
           (each-imp (OfferRanges b) (λ (x : OpenOffer). x .number < o .number) (λ x t. let i = t .number in omega arith) (b .offers) (f .offers));
@@ -67,15 +70,26 @@ formed-offer b o f r e few left =
     head =
         let h = f .head in
         let l = length-append (b .offers) (o ∷ []) in
-        record { days = h .days; prices = h .prices; ceiling = h .ceiling; phase = h .phase; given = omega arith; units = h .units; offers = omega arith; orders = h .orders }
+        record {
+          days = h .days;
+          prices = h .prices;
+          ceiling = h .ceiling;
+          phase = h .phase;
+          given = omega arith;
+          units = h .units;
+          offers = omega arith;
+          orders = h .orders;
+        }
 
 -- a test of each two orders, with one order more
-pub two-more : (f : OpenOrder → OpenOrder → Bool) (os : List OpenOrder) (o : OpenOrder) → eachTwo f os ≡ true → every (f o) os ≡ true → every (λ a. f a o) os ≡ true
+pub two-more : (f : OpenOrder → OpenOrder → Bool) (os : List OpenOrder) (o : OpenOrder) → eachTwo f os ≡ true → every (f o) os ≡ true
+    → every (λ a. f a o) os ≡ true
     → f o o ≡ true → eachTwo f (os ++ (o ∷ [])) ≡ true
 unfolding eachTwo
 two-more f os o e to from self =
     every-append (λ a. every (f a) (os ++ (o ∷ []))) os (o ∷ [])
-    (every-both (λ a. every (f a) os) (λ a. f a o) (λ a. every (f a) (os ++ (o ∷ []))) (λ a p q. every-append (f a) os (o ∷ []) p (and-true (f a o) true q refl)) os e from)
+    (every-both (λ a. every (f a) os) (λ a. f a o) (λ a. every (f a) (os ++ (o ∷ []))) (λ a p q. every-append (f a) os (o
+    ∷ []) p (and-true (f a o) true q refl)) os e from)
     (and-true (every (f o) (os ++ (o ∷ []))) true (every-append (f o) os (o ∷ []) to (and-true (f o o) true self refl)) refl)
 
 -- how a new order stands to those that are open
@@ -90,10 +104,12 @@ formed-order b o f r e few left way cross =
     record {
       head = head;
       units = f .units;
-      offers = each-imp (OfferRanges b) (OfferRanges (withOrder b o)) (λ x t. offer-after b (withOrder b o) names x x (same-offer x) t) (b .offers) (f .offers);
+      offers = each-imp (OfferRanges b) (OfferRanges (withOrder b o)) (λ x t. offer-after b (withOrder b o) names x x (same-offer x) t) (b .offers)
+          (f .offers);
       orders =
           each-append (OrderRanges (withOrder b o)) (b .orders) (o ∷ [])
-          (each-imp (OrderRanges b) (OrderRanges (withOrder b o)) (λ x t. order-after b (withOrder b o) names x x (same-order x) t) (b .orders) (f .orders)) (r, tt);
+          (each-imp (OrderRanges b) (OrderRanges (withOrder b o)) (λ x t. order-after b (withOrder b o) names x x (same-order x) t) (b .orders) (f .orders))
+          (r, tt);
       offersRise = f .offersRise;
       ordersRise =
           rising-append (λ (x : OpenOrder). x .number) (b .orders) o (f .ordersRise)
@@ -114,7 +130,16 @@ formed-order b o f r e few left way cross =
     head =
         let h = f .head in
         let l = length-append (b .orders) (o ∷ []) in
-        record { days = h .days; prices = h .prices; ceiling = h .ceiling; phase = h .phase; given = omega arith; units = h .units; offers = h .offers; orders = omega arith }
+        record {
+          days = h .days;
+          prices = h .prices;
+          ceiling = h .ceiling;
+          phase = h .phase;
+          given = omega arith;
+          units = h .units;
+          offers = h .offers;
+          orders = omega arith;
+        }
 
 -- orders of one unit and period that go the same way
 pub same-way : (x y : OpenOrder) → (x .unit ≡ y .unit → x .period ≡ y .period → x .direction ≡ y .direction) → oneWay x y ≡ true
@@ -151,5 +176,12 @@ module _ (b : Book) (v : ℕ) (d : Declaration) where
         asset = refl;
         raising = λ p l. omega (arith, orders-more v p (raises (unitOf b v .kind)) (b .orders) o, h p);
         lowering = λ p l k. omega (arith, orders-more v p (lowers (unitOf b v .kind)) (b .orders) o, g p);
-        volume = λ p l. omega (arith, orders-more v p (raises (unitOf b v .kind)) (b .orders) o, orders-more v p (lowers (unitOf b v .kind)) (b .orders) o, h p, g p);
+        volume = λ p l. omega (
+          arith,
+          orders-more v p (raises (unitOf b v .kind)) (b .orders) o,
+          orders-more v p (lowers (unitOf b v .kind))
+              (b .orders) o,
+          h p,
+          g p,
+        );
       }

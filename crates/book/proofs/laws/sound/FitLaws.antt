@@ -11,7 +11,19 @@ use Rattle.measures.proofs.ListLaws.{and-true, and-left, and-right, or-other, a
 use Rattle.limits.specs.Units.{periods}
 use Rattle.limits.specs.Limits.{hourOf, hourLimit, termLimit, volumeLimit}
 use Rattle.book.specs.Book.{Book, unitOf, figuresOf}
-use Rattle.book.specs.Fit.{Declaration, nothing, openRaising, openLowering, raisingToday, loweringToday, hourFits, hoursFit, termFits, volumeFits, unitFits}
+use Rattle.book.specs.Fit.{
+  Declaration,
+  nothing,
+  openRaising,
+  openLowering,
+  raisingToday,
+  loweringToday,
+  hourFits,
+  hoursFit,
+  termFits,
+  volumeFits,
+  unitFits,
+}
 
 -- the figures that the limits bound, with a declaration added
 module _ (b : Book) (u : ℕ) (d : Declaration) (p : ℕ) where
@@ -110,8 +122,22 @@ fits-after b b′ u d m f =
     record {
       raising = λ p h. rw (m .kind, m .capacity) (le-trans (m .raising p (before p h)) (f .raising p (before p h)));
       lowering = λ p h. m .lowering p (before p h) (f .lowering p (before p h));
-      term = omega (arith, termSame, days (raisedTo b′ u nothing), sum-mono (periods (b .days)) (raisedTo b′ u nothing) (raisedTo b u d) (m .raising), f .term);
-      volume = omega (arith, volumeSame, days (volumeTo b′ u nothing), sum-mono (periods (b .days)) (volumeTo b′ u nothing) (volumeTo b u d) (m .volume), f .volume);
+      term = omega (
+        arith,
+        termSame,
+        days (raisedTo b′ u nothing),
+        sum-mono (periods (b .days)) (raisedTo b′ u nothing) (raisedTo b u d)
+            (m .raising),
+        f .term,
+      );
+      volume = omega (
+        arith,
+        volumeSame,
+        days (volumeTo b′ u nothing),
+        sum-mono (periods (b .days)) (volumeTo b′ u nothing) (volumeTo b u d)
+            (m .volume),
+        f .volume,
+      );
     }
   where
     before : (p : ℕ) → p < periods (b′ .days) → p < periods (b .days)

@@ -47,7 +47,8 @@ module _ (u p : ℕ) where
     pub orders-less : (xs ys : List OpenOrder) → Remains LessOrder xs ys → openOrders f u p xs ≤ openOrders f u p ys
     unfolding openOrders
     orders-less xs ys t =
-        remains-sum LessOrder (orderOpens f u p) (orderOpens f u p) (λ x y l. rw (l .is) (cond-mono (eqb (y .unit) u && eqb (y .period) p && f (y .direction)) _ _ (l .fewer))) t
+        remains-sum LessOrder (orderOpens f u p) (orderOpens f u p)
+        (λ x y l. rw (l .is) (cond-mono (eqb (y .unit) u && eqb (y .period) p && f (y .direction)) _ _ (l .fewer))) t
 
     pub orders-more : (xs : List OpenOrder) (o : OpenOrder) → openOrders f u p (xs ++ (o ∷ [])) ≡ openOrders f u p xs + orderOpens f u p o
     unfolding openOrders
@@ -111,8 +112,22 @@ idle-fits b u none s t =
   where
     raised : (p : ℕ) → p < periods (b .days) → raisedTo b u nothing p ≡ 0
     raised p h =
-        omega (arith, ap (λ (f : Figures). f .held) (none p h), ap (λ (f : Figures). f .raised) (none p h), offers-none u p (b .offers) s, orders-none u p (raises (unitOf b u .kind)) (b .orders) t)
+        omega (
+          arith,
+          ap (λ (f : Figures). f .held) (none p h),
+          ap (λ (f : Figures). f .raised) (none p h),
+          offers-none u p (b .offers) s,
+          orders-none u p
+              (raises (unitOf b u .kind)) (b .orders) t,
+        )
 
     volume : (p : ℕ) → p < periods (b .days) → volumeTo b u nothing p ≡ 0
     volume p h =
-        omega (arith, ap (λ (f : Figures). f .volume) (none p h), offers-none u p (b .offers) s, orders-none u p (raises (unitOf b u .kind)) (b .orders) t, orders-none u p (lowers (unitOf b u .kind)) (b .orders) t)
+        omega (
+          arith,
+          ap (λ (f : Figures). f .volume) (none p h),
+          offers-none u p (b .offers) s,
+          orders-none u p (raises (unitOf b u .kind))
+              (b .orders) t,
+          orders-none u p (lowers (unitOf b u .kind)) (b .orders) t,
+        )

@@ -92,7 +92,8 @@ module _ {A : Type 0} (R : A → A → Type 0) where
   remains-each P Q h (gone t) e = remains-each P Q h t (e .1)
   remains-each P Q h (kept {x = x} {y = y} r t) e = (h x y r (e .0), remains-each P Q h t (e .1))
 
-  pub remains-every : (f g : A → Bool) → ((x y : A) → R x y → f y ≡ true → g x ≡ true) → (xs ys : List A) → Remains R xs ys → every f ys ≡ true → every g xs ≡ true
+  pub remains-every : (f g : A → Bool) → ((x y : A) → R x y → f y ≡ true → g x ≡ true) → (xs ys : List A) → Remains R xs ys → every f ys ≡ true → every g xs
+      ≡ true
   remains-every f g h xs ys t e =
       each-holds g (λ x. g x ≡ true) (λ x k. k) xs
       (remains-each (λ y. f y ≡ true) (λ x. g x ≡ true) h t (each-of f (λ y. f y ≡ true) (λ y k. k) ys e))
@@ -120,7 +121,8 @@ module _ {A : Type 0} (R : A → A → Type 0) where
       (rw (h x y r) (and-left (ltb n (f y)) (every (ltb n) (map f ys)) e))
       (remains-above f h n t (and-right (ltb n (f y)) (every (ltb n) (map f ys)) e))
 
-  pub remains-rising : (f : A → ℕ) → ((x y : A) → R x y → f x ≡ f y) → {xs ys : List A} → Remains R xs ys → rising (map f ys) ≡ true → rising (map f xs) ≡ true
+  pub remains-rising : (f : A → ℕ) → ((x y : A) → R x y → f x ≡ f y) → {xs ys : List A} → Remains R xs ys → rising (map f ys) ≡ true → rising (map f xs)
+      ≡ true
   unfolding rising
   remains-rising f h ended e = refl
   remains-rising f h (gone {y = y} {ys = ys} t) e = remains-rising f h t (and-right (every (ltb (f y)) (map f ys)) (rising (map f ys)) e)

@@ -32,18 +32,23 @@ pub takes-most : (m : List ℕ) (j u q : ℕ) → takes m j u q ≡ true → q �
 unfolding takes
 takes-most m j u q e = go (eqb (word m (202 + 5 * j)) 0) e
   where
-    go : (b : Bool) → cond b (not (sameSide (decode m) (word m (201 + 5 * j)) u) && leb q (total (table (periods (word m 0)) (amountAt m j)))) (eqb (word m (202 + 5 * j)) u && eqb q (total (table (periods (word m 0)) (amountAt m j)))) ≡ true
+    go : (b : Bool) → cond b (not (sameSide (decode m) (word m (201 + 5 * j)) u)
+        && leb q (total (table (periods (word m 0)) (amountAt m j)))) (eqb (word m (202 + 5 * j)) u
+        && eqb q (total (table (periods (word m 0)) (amountAt m j)))) ≡ true
         → q ≤ total (table (periods (word m 0)) (amountAt m j))
-    go true f = leb-true q (total (table (periods (word m 0)) (amountAt m j))) (and-right (not (sameSide (decode m) (word m (201 + 5 * j)) u)) (leb q (total (table (periods (word m 0)) (amountAt m j)))) f)
+    go true f = leb-true q (total (table (periods (word m 0)) (amountAt m j)))
+        (and-right (not (sameSide (decode m) (word m (201 + 5 * j)) u)) (leb q (total (table (periods (word m 0)) (amountAt m j)))) f)
     go false f =
-        let t = eqb-true q (total (table (periods (word m 0)) (amountAt m j))) (and-right (eqb (word m (202 + 5 * j)) u) (eqb q (total (table (periods (word m 0)) (amountAt m j)))) f) in
+        let t = eqb-true q (total (table (periods (word m 0)) (amountAt m j)))
+        (and-right (eqb (word m (202 + 5 * j)) u) (eqb q (total (table (periods (word m 0)) (amountAt m j)))) f) in
         omega arith
 
 module _ (m : List ℕ) (u n q lent : ℕ) (s : soundIn m ≡ true) where
   pub checked-refused : (l : List ℕ) (r : ℕ) → 0 < r → r ≡ firstOf (partyChecks (decode m) u n q lent) → TakeChecked m u n q lent r l l
   unfolding partyChecks fitChecks
   checked-refused l r h e = record {
-    answer = e ∙ first-before (partyChecks (decode m) u n q lent) (fitChecks (decode m) u (raisingAmounts (takenParts (decode m) n q))) (λ z. absurd (omega arith));
+    answer = e ∙ first-before (partyChecks (decode m) u n q lent) (fitChecks (decode m) u (raisingAmounts (takenParts (decode m) n q)))
+        (λ z. absurd (omega arith));
     memory = λ z. absurd (omega arith);
   }
 
@@ -51,8 +56,13 @@ module _ (m : List ℕ) (u n q lent : ℕ) (s : soundIn m ≡ true) where
     passed : AllFalse (partyChecks (decode m) u n q lent)
     unfolding partyChecks
     passed =
-        all-false (partyChecks (decode m) u n q lent)
-        ((λ z. absurd (omega arith)), ((λ z. absurd (omega arith)), ((λ z. absurd (omega arith)), ((λ z. absurd (omega arith)), ((λ z. absurd (omega arith)), tt)))))
+        all-false (partyChecks (decode m) u n q lent) (
+          (λ z. absurd (omega arith)),
+          (
+            (λ z. absurd (omega arith)),
+            ((λ z. absurd (omega arith)), ((λ z. absurd (omega arith)), ((λ z. absurd (omega arith)), tt))),
+          ),
+        )
         (sym none ∙ e)
 
     found-open : j < 8
@@ -61,7 +71,8 @@ module _ (m : List ℕ) (u n q lent : ℕ) (s : soundIn m ≡ true) where
       where
         go : Dec (j < 8) → j < 8
         go (yes h) = h
-        go (no h) = absurd (not-both (offerOpen (decode m) n) (not-false _ (passed .1 .1 .1 .0)) (found-none m n j f (sound-readable m s .offersTo) (omega arith)))
+        go (no h) = absurd (not-both (offerOpen (decode m) n) (not-false _ (passed .1 .1 .1 .0))
+            (found-none m n j f (sound-readable m s .offersTo) (omega arith)))
 
     known-unit : In 1 (word m 5) u
     unfolding partyChecks
@@ -78,7 +89,8 @@ module _ (m : List ℕ) (u n q lent : ℕ) (s : soundIn m ≡ true) where
         ∙ not-false (canTake (decode m) (offerOf (decode m) n) u q) (passed .1 .1 .1 .1 .0)
 
     pub fit-asks : (l : List ℕ) → length l ≡ 744
-        → (soundIn m ≡ true) × (j < word m 6) × (1 ≤ u) × (u ≤ word m 5) × (1 ≤ q) × (q ≤ total (table (periods (word m 0)) (amountAt m j))) × (length l ≡ 744)
+        → (soundIn m ≡ true) × (j < word m 6) × (1 ≤ u) × (u ≤ word m 5) × (1 ≤ q) × (q ≤ total (table (periods (word m 0)) (amountAt m j)))
+        × (length l ≡ 744)
     fit-asks l h = (s, f .there found-open, known-unit .0, known-unit .1, energy-in .0, takes-most m j u q can-take, h)
 
     parts-are : partsAt m j q ≡ takenParts (decode m) n q

@@ -69,35 +69,43 @@ module _ (m : List ℕ) (n q j : ℕ) (f : Found m n j) (h : j < 8) where
   amounts-are = ap (λ (o : OpenOffer). parts q (o .amounts)) (found-offer m n j f h .0)
 
   taken-long : length (takenParts (decode m) n q) ≡ 24 * word m 0
-  taken-long = ap (λ (t : List ℕ). length t) amounts-are ∙ parts-length q (table (periods (word m 0)) (amountAt m j)) ∙ table-length (periods (word m 0)) (amountAt m j)
+  taken-long = ap (λ (t : List ℕ). length t) amounts-are ∙ parts-length q (table (periods (word m 0)) (amountAt m j))
+      ∙ table-length (periods (word m 0)) (amountAt m j)
 
   -- the parts as the checks leave them
   module _ (z l : List ℕ) (e : l ≡ takenParts (decode m) n q ++ drop (periods (word m 0)) z) where
     pub parts-taken : take (24 * word m 0) l ≡ takenParts (decode m) n q
-    parts-taken = ap (λ (t : List ℕ). take (24 * word m 0) t) e ∙ take-at (takenParts (decode m) n q) (drop (periods (word m 0)) z) (24 * word m 0) taken-long
+    parts-taken = ap (λ (t : List ℕ). take (24 * word m 0) t) e
+        ∙ take-at (takenParts (decode m) n q) (drop (periods (word m 0)) z) (24 * word m 0) taken-long
 
     pub parts-there : 1 ≤ q → q ≤ total (table (periods (word m 0)) (amountAt m j)) → PartsThere m j l
     parts-there some most p k =
         let a : getD l p 0 ≡ getD (takenParts (decode m) n q) p 0 =
         ap (λ (t : List ℕ). getD t p 0) e ∙ List·getD-append (takenParts (decode m) n q) (drop (periods (word m 0)) z) 0 p (omega (arith, taken-long)) in
-        let b : getD (takenParts (decode m) n q) p 0 ≡ getD (parts q (table (periods (word m 0)) (amountAt m j))) p 0 = ap (λ (t : List ℕ). getD t p 0) amounts-are in
-        let c = within-at (parts q (table (periods (word m 0)) (amountAt m j))) (table (periods (word m 0)) (amountAt m j)) (no-part-exceeds q (table (periods (word m 0)) (amountAt m j)) (omega arith) most) p (omega (arith, table-length (periods (word m 0)) (amountAt m j))) in
+        let b : getD (takenParts (decode m) n q) p 0 ≡ getD (parts q (table (periods (word m 0)) (amountAt m j))) p 0 = ap (λ (t : List ℕ). getD t p 0)
+        amounts-are in
+        let c = within-at (parts q (table (periods (word m 0)) (amountAt m j))) (table (periods (word m 0)) (amountAt m j))
+        (no-part-exceeds q (table (periods (word m 0)) (amountAt m j)) (omega arith) most) p
+        (omega (arith, table-length (periods (word m 0)) (amountAt m j))) in
         let d = table-at (periods (word m 0)) (amountAt m j) p 0 k in
         omega arith
 
-    rows-are : (u : ℕ) → takeRows (decode m) (offerAt m (word m 0) j) u (take (24 * word m 0) l) ≡ takeRows (decode m) (offerOf (decode m) n) u (takenParts (decode m) n q)
+    rows-are : (u : ℕ) → takeRows (decode m) (offerAt m (word m 0) j) u (take (24 * word m 0) l)
+        ≡ takeRows (decode m) (offerOf (decode m) n) u (takenParts (decode m) n q)
     rows-are u =
         ap (λ (s : List ℕ). takeRows (decode m) (offerAt m (word m 0) j) u s) parts-taken
         ∙ ap (λ (o : OpenOffer). takeRows (decode m) o u (takenParts (decode m) n q)) (sym (found-offer m n j f h .0))
 
     -- the offer as the definition leaves it: with less, or gone
-    left-of : total (lessEach (getD (decode m .offers) j noOffer .amounts) (takenParts (decode m) n q)) ≡ total (lessEach (table (periods (word m 0)) (amountAt m j)) (parts q (table (periods (word m 0)) (amountAt m j))))
+    left-of : total (lessEach (getD (decode m .offers) j noOffer .amounts) (takenParts (decode m) n q))
+        ≡ total (lessEach (table (periods (word m 0)) (amountAt m j)) (parts q (table (periods (word m 0)) (amountAt m j))))
     left-of =
         ap (λ (o : OpenOffer). total (lessEach (o .amounts) (takenParts (decode m) n q))) (offer-at m j (f .there h))
         ∙ ap (λ (ps : List ℕ). total (lessEach (table (periods (word m 0)) (amountAt m j)) ps)) amounts-are
 
     less-are : 1 ≤ q → q < total (table (periods (word m 0)) (amountAt m j))
-        → set (decode m .offers) j (offerLess (offerAt m (word m 0) j) (take (24 * word m 0) l)) ≡ offersLess n (takenParts (decode m) n q) (decode m .offers)
+        → set (decode m .offers) j (offerLess (offerAt m (word m 0) j) (take (24 * word m 0) l))
+        ≡ offersLess n (takenParts (decode m) n q) (decode m .offers)
     less-are some less =
         let hj = f .there h in
         ap (λ (s : List ℕ). set (decode m .offers) j (offerLess (offerAt m (word m 0) j) s)) parts-taken
@@ -110,17 +118,25 @@ module _ (m : List ℕ) (n q j : ℕ) (f : Found m n j) (h : j < 8) where
     gone-are s some all =
         let hj = f .there h in
         sym (less-goes n (takenParts (decode m) n q) (decode m .offers) j (omega (arith, offers-held m)) (met-there m n j f h)
-        (number-apart (λ (o : OpenOffer). o .number) (decode m .offers) noOffer refl (sound-rises m s .0) n j (omega (arith, offers-held m)) (eqb-true _ _ (met-there m n j f h)))
+        (number-apart (λ (o : OpenOffer). o .number) (decode m .offers) noOffer refl (sound-rises m s .0) n j (omega (arith, offers-held m))
+        (eqb-true _ _ (met-there m n j f h)))
         (left-of ∙ left-none (table (periods (word m 0)) (amountAt m j)) q some all))
 
     -- a take of some or of all that is left is the take of the definition
     module _ (x : List ℕ) (u : ℕ) (lent out : List ℕ) (k : ℕ) where
-      taken-rows : RowsPut lent out k (takeRows (decode m) (offerAt m (word m 0) j) u (take (24 * word m 0) l)) → RowsPut lent out k (takeRows (decode m) (offerOf (decode m) n) u (takenParts (decode m) n q))
-      taken-rows r = record { count = r .count ∙ ap (λ (rs : List Row). length rs) (rows-are u); rows = r .rows ∙ ap (λ (rs : List Row). written lent rs) (rows-are u) }
+      taken-rows : RowsPut lent out k (takeRows (decode m) (offerAt m (word m 0) j) u (take (24 * word m 0) l))
+          → RowsPut lent out k (takeRows (decode m) (offerOf (decode m) n) u (takenParts (decode m) n q))
+      taken-rows r = record {
+        count = r .count ∙ ap (λ (rs : List Row). length rs) (rows-are u);
+        rows = r .rows
+            ∙ ap (λ (rs : List Row). written lent rs) (rows-are u);
+      }
 
-      taken-book : (os : List OpenOffer) → decode x ≡ rowsBooked (takeRows (decode m) (offerAt m (word m 0) j) u (take (24 * word m 0) l)) (withOffers (decode m) os)
+      taken-book : (os : List OpenOffer) → decode x ≡ rowsBooked (takeRows (decode m) (offerAt m (word m 0) j) u (take (24 * word m 0) l))
+          (withOffers (decode m) os)
           → os ≡ offersLess n (takenParts (decode m) n q) (decode m .offers)
-          → decode x ≡ rowsBooked (takeRows (decode m) (offerOf (decode m) n) u (takenParts (decode m) n q)) (withOffers (decode m) (offersLess n (takenParts (decode m) n q) (decode m .offers)))
+          → decode x ≡ rowsBooked (takeRows (decode m) (offerOf (decode m) n) u (takenParts (decode m) n q))
+          (withOffers (decode m) (offersLess n (takenParts (decode m) n q) (decode m .offers)))
       taken-book os e g =
           e ∙ ap (λ (rs : List Row). rowsBooked rs (withOffers (decode m) os)) (rows-are u)
           ∙ ap (λ (z : List OpenOffer). rowsBooked (takeRows (decode m) (offerOf (decode m) n) u (takenParts (decode m) n q)) (withOffers (decode m) z)) g
@@ -132,7 +148,8 @@ module _ (m : List ℕ) (n q j : ℕ) (f : Found m n j) (h : j < 8) where
         past = t .past;
       }
 
-      pub whole-made : WholeTaken m x u n j l lent out k → soundIn m ≡ true → 1 ≤ q → q ≡ total (table (periods (word m 0)) (amountAt m j)) → TakeMade m x u n q lent out k
+      pub whole-made : WholeTaken m x u n j l lent out k → soundIn m ≡ true → 1 ≤ q → q ≡ total (table (periods (word m 0)) (amountAt m j))
+          → TakeMade m x u n q lent out k
       whole-made t s some all = record {
         book = taken-book (keep (λ (o : OpenOffer). not (eqb (o .number) n)) (decode m .offers)) (t .book) (gone-are s some all);
         rows = taken-rows (t .rows);
@@ -143,7 +160,8 @@ module _ (m : List ℕ) (n q j : ℕ) (f : Found m n j) (h : j < 8) where
 module _ (m : List ℕ) (u n q lent : ℕ) (s : soundIn m ≡ true) (e : 0 ≡ firstOf (takeChecks (decode m) u n q lent)) (j : ℕ) (f : Found m n j) where
   passed : TakePassed (decode m) u n q
   unfolding takeRefusal
-  passed = take-passed (decode m) u n q lent (sound-facts (decode m) (sound-book m s)) (chain-sound (decode m) (takeChecks (decode m) u n q lent) (sound-book m s) ∙ sym e)
+  passed = take-passed (decode m) u n q lent (sound-facts (decode m) (sound-book m s))
+      (chain-sound (decode m) (takeChecks (decode m) u n q lent) (sound-book m s) ∙ sym e)
 
   pub there : j < 8
   there = go (decLt j 8)
@@ -154,7 +172,8 @@ module _ (m : List ℕ) (u n q lent : ℕ) (s : soundIn m ≡ true) (e : 0 ≡ f
 
   pub lent-enough : 4464 ≤ lent
   lent-enough =
-      let t = none-applies (takeChecks (decode m) u n q lent) (omega arith, (omega arith, (omega arith, (omega arith, (omega arith, (omega arith, (omega arith, (omega arith, tt)))))))) (sym e) in
+      let t = none-applies (takeChecks (decode m) u n q lent)
+      (omega arith, (omega arith, (omega arith, (omega arith, (omega arith, (omega arith, (omega arith, (omega arith, tt)))))))) (sym e) in
       ltb-false lent 4464 (t .1 .0)
 
   pub take-some : 1 ≤ q
@@ -164,25 +183,37 @@ module _ (m : List ℕ) (u n q lent : ℕ) (s : soundIn m ≡ true) (e : 0 ≡ f
   take-most = let a = passed .enough in let b = ap (λ (o : OpenOffer). total (o .amounts)) (found-offer m n j f there .0) in omega arith
 
   -- all that is left, as the code sums it
-  pub take-all : (w : ℕ) → w ≡ min (total (table (periods (word m 0)) (amountAt m j))) (mostEnergy + 1) → w ≡ total (table (periods (word m 0)) (amountAt m j))
+  pub take-all : (w : ℕ) → w ≡ min (total (table (periods (word m 0)) (amountAt m j))) (mostEnergy + 1) → w
+      ≡ total (table (periods (word m 0)) (amountAt m j))
   take-all w h = let a = offer-sound m j s (f .there there) .whole in omega arith
 
-  pub take-less : (w : ℕ) → w ≡ min (total (table (periods (word m 0)) (amountAt m j))) (mostEnergy + 1) → (q ≡ w → ⊥) → q < total (table (periods (word m 0)) (amountAt m j))
+  pub take-less : (w : ℕ) → w ≡ min (total (table (periods (word m 0)) (amountAt m j))) (mostEnergy + 1) → (q ≡ w → ⊥) → q
+      < total (table (periods (word m 0)) (amountAt m j))
   take-less w h n = go (decLt q (total (table (periods (word m 0)) (amountAt m j))))
     where
       go : Dec (q < total (table (periods (word m 0)) (amountAt m j))) → q < total (table (periods (word m 0)) (amountAt m j))
       go (yes y) = y
       go (no y) = absurd (n (omega (arith, take-most, take-all w h)))
 
-  pub part-asks : (l : List ℕ) → PartsLent m n q l → (soundIn m ≡ true) × (j < word m 6) × (1 ≤ u) × (u ≤ word m 5) × (744 ≤ length l) × (4464 ≤ lent) × (PartsThere m j l)
+  pub part-asks : (l : List ℕ) → PartsLent m n q l → (soundIn m ≡ true) × (j < word m 6) × (1 ≤ u) × (u ≤ word m 5) × (744 ≤ length l) × (4464 ≤ lent)
+      × (PartsThere m j l)
   part-asks l p =
       let t = passed .taker in
       let c = units-held m in
       (s, f .there there, omega arith, omega arith, p .room, lent-enough, parts-there m n q j f there (p .behind) l (p .parts) take-some take-most)
 
   pub all-asks : (l : List ℕ) → PartsLent m n q l
-      → (soundIn m ≡ true) × (j < word m 6) × (1 ≤ u) × (u ≤ word m 5) × (744 ≤ length l) × (4464 ≤ lent) × (PartsThere m j l) × (offerOpen (decode m) n ≡ true)
+      → (soundIn m ≡ true) × (j < word m 6) × (1 ≤ u) × (u ≤ word m 5) × (744 ≤ length l) × (4464 ≤ lent) × (PartsThere m j l)
+      × (offerOpen (decode m) n ≡ true)
   all-asks l p =
       let t = passed .taker in
-      let c = units-held m in
-      (s, f .there there, omega arith, omega arith, p .room, lent-enough, parts-there m n q j f there (p .behind) l (p .parts) take-some take-most, found-offer m n j f there .1)
+      let c = units-held m in (
+        s,
+        f .there there,
+        omega arith,
+        omega arith,
+        p .room,
+        lent-enough,
+        parts-there m n q j f there (p .behind) l (p .parts) take-some take-most,
+        found-offer m n j f there .1,
+      )

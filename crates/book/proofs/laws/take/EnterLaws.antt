@@ -40,8 +40,10 @@ module _ (m : List ℕ) (w s b pr : ℕ) (hs : In 1 (word m 5) s) (hb : In 1 (wo
   from-fits (q ∷ qs) p h t i l = go (λ k n. from-fits qs (suc p) (λ z. h (suc z)) (omega arith) k n) (eqb q 0) i l
     where
       go : ((k : ℕ) → k < length (takeRowsFrom (suc p) w s b pr qs) → RowFits m (getD (takeRowsFrom (suc p) w s b pr qs) k noRow)) → (z : Bool) (k : ℕ)
-          → k < length (cond z (takeRowsFrom (suc p) w s b pr qs) (record { way = w; period = p; seller = s; buyer = b; quantity = q; price = pr } ∷ takeRowsFrom (suc p) w s b pr qs))
-          → RowFits m (getD (cond z (takeRowsFrom (suc p) w s b pr qs) (record { way = w; period = p; seller = s; buyer = b; quantity = q; price = pr } ∷ takeRowsFrom (suc p) w s b pr qs)) k noRow)
+          → k < length (cond z (takeRowsFrom (suc p) w s b pr qs) (record { way = w; period = p; seller = s; buyer = b; quantity = q; price = pr }
+          ∷ takeRowsFrom (suc p) w s b pr qs))
+          → RowFits m (getD (cond z (takeRowsFrom (suc p) w s b pr qs) (record { way = w; period = p; seller = s; buyer = b; quantity = q; price = pr }
+          ∷ takeRowsFrom (suc p) w s b pr qs)) k noRow)
       go ih true k n = ih k n
       go ih false zero n = record { period = omega arith; sellerFrom = hs .0; sellerTo = hs .1; buyerFrom = hb .0; buyerTo = hb .1; quantity = h 0 }
       go ih false (suc k) n = ih k (omega arith)
@@ -52,11 +54,13 @@ module _ (m : List ℕ) (w s b pr : ℕ) (hs : In 1 (word m 5) s) (hb : In 1 (wo
   from-few (q ∷ qs) p = go (from-few qs (suc p)) (eqb q 0)
     where
       go : length (takeRowsFrom (suc p) w s b pr qs) ≤ length qs → (z : Bool)
-          → length (cond z (takeRowsFrom (suc p) w s b pr qs) (record { way = w; period = p; seller = s; buyer = b; quantity = q; price = pr } ∷ takeRowsFrom (suc p) w s b pr qs)) ≤ suc (length qs)
+          → length (cond z (takeRowsFrom (suc p) w s b pr qs) (record { way = w; period = p; seller = s; buyer = b; quantity = q; price = pr }
+          ∷ takeRowsFrom (suc p) w s b pr qs)) ≤ suc (length qs)
       go ih true = omega arith
       go ih false = omega arith
 
-module _ (m : List ℕ) (u j : ℕ) (l : List ℕ) (s : soundIn m ≡ true) (hj : j < word m 6) (hu : In 1 (word m 5) u) (room : 744 ≤ length l) (pt : PartsThere m j l) where
+module _ (m : List ℕ) (u j : ℕ) (l : List ℕ) (s : soundIn m ≡ true) (hj : j < word m 6) (hu : In 1 (word m 5) u) (room : 744
+    ≤ length l) (pt : PartsThere m j l) where
   parts-long : length (take (24 * word m 0) l) ≡ 24 * word m 0
   parts-long = let g = sound-readable m s in length-take-le (24 * word m 0) l (omega arith)
 
@@ -75,7 +79,8 @@ module _ (m : List ℕ) (u j : ℕ) (l : List ℕ) (s : soundIn m ≡ true) (hj 
           let z = getD-past (take (24 * word m 0) l) i (omega (arith, parts-long)) in
           omega arith
 
-  pub take-fits : (i : ℕ) → i < length (takeRows (decode m) (offerAt m (word m 0) j) u (take (24 * word m 0) l)) → RowFits m (getD (takeRows (decode m) (offerAt m (word m 0) j) u (take (24 * word m 0) l)) i noRow)
+  pub take-fits : (i : ℕ) → i < length (takeRows (decode m) (offerAt m (word m 0) j) u (take (24 * word m 0) l))
+      → RowFits m (getD (takeRows (decode m) (offerAt m (word m 0) j) u (take (24 * word m 0) l)) i noRow)
   unfolding takeRows
   take-fits =
       let o = offer-sound m j s hj .unit in
@@ -91,11 +96,14 @@ module _ (m : List ℕ) (u j : ℕ) (l : List ℕ) (s : soundIn m ≡ true) (hj 
       let o = offer-sound m j s hj .unit in
       let n : length (take (24 * word m 0) l) ≤ 744 = omega (arith, parts-long) in
       cond-case (λ (t : List Row). length t ≤ 744) (generator (unitOf (decode m) (word m (201 + 5 * j)) .kind)) _ _
-      (λ e. let a = from-few m (wayOf (offerAt m (word m 0) j)) (word m (201 + 5 * j)) u (word m (203 + 5 * j)) o hu (take (24 * word m 0) l) 0 in omega arith)
-      (λ e. let a = from-few m (wayOf (offerAt m (word m 0) j)) u (word m (201 + 5 * j)) (word m (203 + 5 * j)) hu o (take (24 * word m 0) l) 0 in omega arith)
+      (λ e. let a = from-few m (wayOf (offerAt m (word m 0) j)) (word m (201 + 5 * j)) u (word m (203 + 5 * j)) o hu (take (24 * word m 0) l) 0 in omega
+      arith)
+      (λ e. let a = from-few m (wayOf (offerAt m (word m 0) j)) u (word m (201 + 5 * j)) (word m (203 + 5 * j)) hu o (take (24 * word m 0) l) 0 in omega
+      arith)
 
   -- what booking asks of the memory in between
-  pub enter-asks : (x lent out : List ℕ) (k : ℕ) (qs : List ℕ) → OfferLessened m x j qs → RowsPut lent out k (takeRows (decode m) (offerAt m (word m 0) j) u (take (24 * word m 0) l)) → 4464 ≤ length lent
+  pub enter-asks : (x lent out : List ℕ) (k : ℕ) (qs : List ℕ) → OfferLessened m x j qs
+      → RowsPut lent out k (takeRows (decode m) (offerAt m (word m 0) j) u (take (24 * word m 0) l)) → 4464 ≤ length lent
       → (Readable x) × (6 * k ≤ length out) × (k ≤ 744) × (RowsFit x out k) × (Small x smallFigures)
   enter-asks x lent out k qs f r big =
       let g = sound-readable m s in
@@ -106,7 +114,8 @@ module _ (m : List ℕ) (u j : ℕ) (l : List ℕ) (s : soundIn m ≡ true) (hj 
       let e6 = f .head 6 (omega arith) in
       let e7 = f .head 7 (omega arith) in
       let n = f .long in
-      let same : length out ≡ length lent = ap (λ (z : List ℕ). length z) (r .rows) ∙ written-length lent (takeRows (decode m) (offerAt m (word m 0) j) u (take (24 * word m 0) l)) (omega arith) in (
+      let same : length out ≡ length lent = ap (λ (z : List ℕ). length z) (r .rows)
+      ∙ written-length lent (takeRows (decode m) (offerAt m (word m 0) j) u (take (24 * word m 0) l)) (omega arith) in (
         record { daysFrom = omega arith; daysTo = omega arith; unitsTo = omega arith; offersTo = omega arith; ordersTo = omega arith; long = omega arith },
         omega arith,
         omega arith,
@@ -122,8 +131,17 @@ module _ (m : List ℕ) (u j : ℕ) (l : List ℕ) (s : soundIn m ≡ true) (hj 
           let e0 = f .head 0 (omega arith) in
           let e5 = f .head 5 (omega arith) in
           let y : RowFits x (getD (takeRows (decode m) (offerAt m (word m 0) j) u (take (24 * word m 0) l)) i noRow) =
-          record { period = omega arith; sellerFrom = t .sellerFrom; sellerTo = omega arith; buyerFrom = t .buyerFrom; buyerTo = omega arith; quantity = t .quantity } in
-          subst (λ (z : Row). RowFits x z) (sym (ap (λ (z : List ℕ). rowAt z i) (r .rows) ∙ row-written lent (takeRows (decode m) (offerAt m (word m 0) j) u (take (24 * word m 0) l)) i h′)) y
+          record {
+            period = omega arith;
+            sellerFrom = t .sellerFrom;
+            sellerTo = omega arith;
+            buyerFrom = t .buyerFrom;
+            buyerTo = omega arith;
+            quantity =
+                t .quantity;
+          } in
+          subst (λ (z : Row). RowFits x z) (sym (ap (λ (z : List ℕ). rowAt z i) (r .rows)
+          ∙ row-written lent (takeRows (decode m) (offerAt m (word m 0) j) u (take (24 * word m 0) l)) i h′)) y
 
       little : Small x smallFigures
       little v p hv hp =
@@ -131,24 +149,30 @@ module _ (m : List ℕ) (u j : ℕ) (l : List ℕ) (s : soundIn m ≡ true) (hj 
           let e0 = f .head 0 (omega arith) in
           let e5 = f .head 5 (omega arith) in
           let t = sound-small m s v p (omega arith) (omega arith) in
-          let a : word x (1777 + 328 * p + 5 * v) ≡ word m (1777 + 328 * p + 5 * v) = at (5 * v + 1) (1777 + 328 * p + 5 * v) p (omega arith) (omega arith) in
-          let b : word x (1778 + 328 * p + 5 * v) ≡ word m (1778 + 328 * p + 5 * v) = at (5 * v + 2) (1778 + 328 * p + 5 * v) p (omega arith) (omega arith) in
-          let c : word x (1779 + 328 * p + 5 * v) ≡ word m (1779 + 328 * p + 5 * v) = at (5 * v + 3) (1779 + 328 * p + 5 * v) p (omega arith) (omega arith) in
+          let a : word x (1777 + 328 * p + 5 * v) ≡ word m (1777 + 328 * p + 5 * v) = at (5 * v + 1) (1777 + 328 * p + 5 * v) p (omega arith)
+          (omega arith) in
+          let b : word x (1778 + 328 * p + 5 * v) ≡ word m (1778 + 328 * p + 5 * v) = at (5 * v + 2) (1778 + 328 * p + 5 * v) p (omega arith)
+          (omega arith) in
+          let c : word x (1779 + 328 * p + 5 * v) ≡ word m (1779 + 328 * p + 5 * v) = at (5 * v + 3) (1779 + 328 * p + 5 * v) p (omega arith)
+          (omega arith) in
           record { raised = omega arith; lowered = omega arith; volume = omega arith }
         where
           at : (c i p : ℕ) → c < 320 → i ≡ 1776 + 328 * p + c → word x i ≡ word m i
           at c i p h e = ap (word x) e ∙ f .figures p c h ∙ ap (word m) (sym e)
 
-  pub part-taken : (x y lent out : List ℕ) (k : ℕ) → OfferLessened m x j (take (24 * word m 0) l) → RowsPut lent out k (takeRows (decode m) (offerAt m (word m 0) j) u (take (24 * word m 0) l))
+  pub part-taken : (x y lent out : List ℕ) (k : ℕ) → OfferLessened m x j (take (24 * word m 0) l)
+      → RowsPut lent out k (takeRows (decode m) (offerAt m (word m 0) j) u (take (24 * word m 0) l))
       → RowsTraded x y out k → PartTaken m y u j l lent out k
   part-taken x y lent out k f r t =
       let e0 = f .head 0 (omega arith) in
       let q : rowsIn out k ≡ takeRows (decode m) (offerAt m (word m 0) j) u (take (24 * word m 0) l) =
-      ap (λ (z : List ℕ). rowsIn z k) (r .rows) ∙ ap (λ (z : ℕ). rowsIn (written lent (takeRows (decode m) (offerAt m (word m 0) j) u (take (24 * word m 0) l))) z) (r .count)
+      ap (λ (z : List ℕ). rowsIn z k) (r .rows) ∙ ap (λ (z : ℕ). rowsIn
+      (written lent (takeRows (decode m) (offerAt m (word m 0) j) u (take (24 * word m 0) l))) z) (r .count)
       ∙ rows-written lent (takeRows (decode m) (offerAt m (word m 0) j) u (take (24 * word m 0) l)) in
       record {
         rows = r;
-        book = t .book ∙ ap (λ (z : List Row). rowsBooked z (decode x)) q ∙ ap (λ (z : Book). rowsBooked (takeRows (decode m) (offerAt m (word m 0) j) u (take (24 * word m 0) l)) z) (f .book);
+        book = t .book ∙ ap (λ (z : List Row). rowsBooked z (decode x)) q
+            ∙ ap (λ (z : Book). rowsBooked (takeRows (decode m) (offerAt m (word m 0) j) u (take (24 * word m 0) l)) z) (f .book);
         past = past-dropped (bookWords (word m 0)) m y (t .kept .long ∙ f .long) (λ i h. t .kept .past i (omega arith) ∙ f .past i h);
       }
 

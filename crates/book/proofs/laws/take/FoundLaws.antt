@@ -46,7 +46,13 @@ pub found-here : (m : List ℕ) (n j : ℕ) → word m 6 ≤ 8 → j < word m 6 
 found-here m n j few h e u = record { to = omega arith; unmet = λ i a b. u i b; there = λ z. h; number = λ z. e }
 
 pub found-nowhere : (m : List ℕ) (n j : ℕ) → word m 6 ≤ j → Unmet m n j → Found m n 8
-found-nowhere m n j h u = record { to = omega arith; unmet = λ i a b. u i (omega arith); there = λ z. absurd (omega arith); number = λ z. absurd (omega arith) }
+found-nowhere m n j h u = record {
+  to = omega arith;
+  unmet = λ i a b. u i (omega arith);
+  there = λ z. absurd (omega arith);
+  number = λ z. absurd
+      (omega arith);
+}
 
 pub offer-at : (m : List ℕ) (j : ℕ) → j < word m 6 → getD (decode m .offers) j noOffer ≡ offerAt m (word m 0) j
 unfolding decode
@@ -68,47 +74,63 @@ module _ (m : List ℕ) (n r : ℕ) (f : Found m n r) where
   pub found-offer : r < 8 → (offerOf (decode m) n ≡ offerAt m (word m 0) r) × (offerOpen (decode m) n ≡ true)
   found-offer h =
       let t = f .there h in
-      let k = keep-first (λ (o : OpenOffer). eqb (o .number) n) noOffer (decode m .offers) r (omega (arith, offers-held m)) (met-there h) (unmet-before h) in
+      let k = keep-first (λ (o : OpenOffer). eqb (o .number) n) noOffer (decode m .offers) r (omega (arith, offers-held m)) (met-there h)
+      (unmet-before h) in
       (k .0 ∙ offer-at m r t, lt-ltb _ _ (k .1))
 
   pub found-none : word m 6 ≤ 8 → 8 ≤ r → offerOpen (decode m) n ≡ false
   found-none few h =
-      let k = keep-none (λ (o : OpenOffer). eqb (o .number) n) noOffer (decode m .offers) (λ i l. let u : i < word m 6 = omega (arith, offers-held m) in ne-eqb _ _ (λ e. f .unmet i u (omega arith) (sym (number-is i u) ∙ e))) in
+      let k = keep-none (λ (o : OpenOffer). eqb (o .number) n) noOffer (decode m .offers) (λ i l. let u : i
+      < word m 6 = omega (arith, offers-held m) in ne-eqb _ _ (λ e. f .unmet i u (omega arith) (sym (number-is i u) ∙ e))) in
       ap (λ (l : List OpenOffer). ltb 0 (length l)) k
 
 -- who can take the offer at place j
 module _ (m : List ℕ) (j u q whole : ℕ) (hw : whole ≡ min (total (table (periods (word m 0)) (amountAt m j))) (mostEnergy + 1)) (hq : q ≤ mostEnergy) where
   pub takes-other : (word m (202 + 5 * j) ≡ 0 → ⊥) → (word m (202 + 5 * j) ≡ u → ⊥) → false ≡ takes m j u q
   unfolding takes
-  takes-other p n = sym (cond-false (eqb (word m (202 + 5 * j)) 0) _ _ (ne-eqb _ _ p) (and-left-false (eqb (word m (202 + 5 * j)) u) (eqb q (total (table (periods (word m 0)) (amountAt m j)))) (ne-eqb _ _ n)))
+  takes-other p n = sym (cond-false (eqb (word m (202 + 5 * j)) 0) _ _ (ne-eqb _ _ p)
+      (and-left-false (eqb (word m (202 + 5 * j)) u) (eqb q (total (table (periods (word m 0)) (amountAt m j)))) (ne-eqb _ _ n)))
 
   pub takes-unlike : (word m (202 + 5 * j) ≡ 0 → ⊥) → (q ≡ whole → ⊥) → false ≡ takes m j u q
   unfolding takes
-  takes-unlike p n = sym (cond-false (eqb (word m (202 + 5 * j)) 0) _ _ (ne-eqb _ _ p) (and-right-false (eqb (word m (202 + 5 * j)) u) (eqb q (total (table (periods (word m 0)) (amountAt m j)))) (ne-eqb q (total (table (periods (word m 0)) (amountAt m j))) (λ e. n (omega arith)))))
+  takes-unlike p n = sym (cond-false (eqb (word m (202 + 5 * j)) 0) _ _ (ne-eqb _ _ p)
+      (and-right-false (eqb (word m (202 + 5 * j)) u) (eqb q (total (table (periods (word m 0)) (amountAt m j))))
+      (ne-eqb q (total (table (periods (word m 0)) (amountAt m j))) (λ e. n (omega arith)))))
 
   pub takes-whole : (word m (202 + 5 * j) ≡ 0 → ⊥) → word m (202 + 5 * j) ≡ u → q ≡ whole → true ≡ takes m j u q
   unfolding takes
-  takes-whole p e n = sym (cond-false (eqb (word m (202 + 5 * j)) 0) _ _ (ne-eqb _ _ p) (and-true (eqb (word m (202 + 5 * j)) u) (eqb q (total (table (periods (word m 0)) (amountAt m j)))) (eq-eqb _ _ e) (eq-eqb q (total (table (periods (word m 0)) (amountAt m j))) (omega arith))))
+  takes-whole p e n = sym (cond-false (eqb (word m (202 + 5 * j)) 0) _ _ (ne-eqb _ _ p)
+      (and-true (eqb (word m (202 + 5 * j)) u) (eqb q (total (table (periods (word m 0)) (amountAt m j)))) (eq-eqb _ _ e)
+      (eq-eqb q (total (table (periods (word m 0)) (amountAt m j))) (omega arith))))
 
   pub takes-over : word m (202 + 5 * j) ≡ 0 → whole < q → false ≡ takes m j u q
   unfolding takes
-  takes-over p l = sym (cond-true (eqb (word m (202 + 5 * j)) 0) _ _ (eq-eqb _ _ p) (and-right-false (not (sameSide (decode m) (word m (201 + 5 * j)) u)) (leb q (total (table (periods (word m 0)) (amountAt m j)))) (lt-leb q (total (table (periods (word m 0)) (amountAt m j))) (omega arith))))
+  takes-over p l = sym (cond-true (eqb (word m (202 + 5 * j)) 0) _ _ (eq-eqb _ _ p)
+      (and-right-false (not (sameSide (decode m) (word m (201 + 5 * j)) u)) (leb q (total (table (periods (word m 0)) (amountAt m j))))
+      (lt-leb q (total (table (periods (word m 0)) (amountAt m j))) (omega arith))))
 
   takes-by-side : word m (202 + 5 * j) ≡ 0 → q ≤ whole → not (sameSide (decode m) (word m (201 + 5 * j)) u) ≡ takes m j u q
   unfolding takes
-  takes-by-side p l = sym (cond-true (eqb (word m (202 + 5 * j)) 0) _ _ (eq-eqb _ _ p) (go (not (sameSide (decode m) (word m (201 + 5 * j)) u)) (leb q (total (table (periods (word m 0)) (amountAt m j)))) (le-leb q (total (table (periods (word m 0)) (amountAt m j))) (omega arith))))
+  takes-by-side p l = sym (cond-true (eqb (word m (202 + 5 * j)) 0) _ _ (eq-eqb _ _ p)
+      (go (not (sameSide (decode m) (word m (201 + 5 * j)) u)) (leb q (total (table (periods (word m 0)) (amountAt m j))))
+      (le-leb q (total (table (periods (word m 0)) (amountAt m j))) (omega arith))))
     where
       go : (a b : Bool) → b ≡ true → (a && b) ≡ a
       go true b e = e
       go false b e = refl
 
-  pub takes-load : word m (202 + 5 * j) ≡ 0 → q ≤ whole → (h : Bool) → generator (unitOf (decode m) (word m (201 + 5 * j)) .kind) ≡ true → h ≡ generator (unitOf (decode m) u .kind) → not h ≡ takes m j u q
+  pub takes-load : word m (202 + 5 * j) ≡ 0 → q ≤ whole → (h : Bool) → generator (unitOf (decode m) (word m (201 + 5 * j)) .kind) ≡ true → h
+      ≡ generator (unitOf (decode m) u .kind) → not h ≡ takes m j u q
   takes-load p l h e g =
-      rw g (ap not (sym (cond-true (generator (unitOf (decode m) (word m (201 + 5 * j)) .kind)) (generator (unitOf (decode m) u .kind)) (not (generator (unitOf (decode m) u .kind))) e refl)) ∙ takes-by-side p l)
+      rw g (ap not (sym (cond-true (generator (unitOf (decode m) (word m (201 + 5 * j)) .kind)) (generator (unitOf (decode m) u .kind))
+      (not (generator (unitOf (decode m) u .kind))) e refl)) ∙ takes-by-side p l)
 
-  pub takes-generator : word m (202 + 5 * j) ≡ 0 → q ≤ whole → (h : Bool) → generator (unitOf (decode m) (word m (201 + 5 * j)) .kind) ≡ false → h ≡ generator (unitOf (decode m) u .kind) → h ≡ takes m j u q
+  pub takes-generator : word m (202 + 5 * j) ≡ 0 → q ≤ whole → (h : Bool) → generator (unitOf (decode m) (word m (201 + 5 * j)) .kind) ≡ false → h
+      ≡ generator (unitOf (decode m) u .kind) → h ≡ takes m j u q
   takes-generator p l h e g =
-      g ∙ twice (generator (unitOf (decode m) u .kind)) ∙ ap not (sym (cond-false (generator (unitOf (decode m) (word m (201 + 5 * j)) .kind)) (generator (unitOf (decode m) u .kind)) (not (generator (unitOf (decode m) u .kind))) e refl)) ∙ takes-by-side p l
+      g ∙ twice (generator (unitOf (decode m) u .kind)) ∙ ap not
+      (sym (cond-false (generator (unitOf (decode m) (word m (201 + 5 * j)) .kind)) (generator (unitOf (decode m) u .kind))
+      (not (generator (unitOf (decode m) u .kind))) e refl)) ∙ takes-by-side p l
     where
       twice : (b : Bool) → b ≡ not (not b)
       twice true = refl

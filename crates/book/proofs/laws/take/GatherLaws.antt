@@ -63,7 +63,8 @@ module _ (m : List ℕ) (s : soundIn m ≡ true) where
   unfolding sound decode
   unit-in-at k h =
       let t = all-true _ (sound-book m s) in
-      ap (unitIn (word m 0)) (sym (table-at (word m 5) (unitAt m (word m 0)) k noUnit h)) ∙ every-at (unitIn (decode m .days)) (decode m .units) k noUnit (t .1 .0) (omega (arith, units-held m))
+      ap (unitIn (word m 0)) (sym (table-at (word m 5) (unitAt m (word m 0)) k noUnit h))
+      ∙ every-at (unitIn (decode m .days)) (decode m .units) k noUnit (t .1 .0) (omega (arith, units-held m))
 
   fields-in : (k : ℕ) → k < word m 5 → unitFieldsIn m k ≡ true
   unfolding unitFieldsIn unitIn
@@ -82,14 +83,17 @@ module _ (m : List ℕ) (s : soundIn m ≡ true) where
       ap (λ (x : Unit). every (λ (g : Figures). leb (g .way) 2) (x .figures)) (unit-at m u h) ∙ t .1 .1 .1 .1 .0
 
 -- the parts of a take, as they are shared and as they fit
-module _ (m : List ℕ) (u j q : ℕ) (s : soundIn m ≡ true) (hj : j < word m 6) (hu : In 1 (word m 5) u) (some : 1 ≤ q) (most : q ≤ total (table (periods (word m 0)) (amountAt m j))) where
+module _ (m : List ℕ) (u j q : ℕ) (s : soundIn m ≡ true) (hj : j < word m 6) (hu : In 1 (word m 5) u) (some : 1 ≤ q) (most : q
+    ≤ total (table (periods (word m 0)) (amountAt m j))) where
   whole-small : total (table (periods (word m 0)) (amountAt m j)) ≤ mostEnergy
   whole-small = offer-sound m j s hj .whole .1
 
-  gathered : (x₀ x : List ℕ) (n : ℕ) → n ≡ periods (word m 0) → x ≡ table (periods (word m 0)) (amountAt m j) ++ drop (periods (word m 0)) x₀ → take (n - 0) (drop 0 x) ≡ table (periods (word m 0)) (amountAt m j)
+  gathered : (x₀ x : List ℕ) (n : ℕ) → n ≡ periods (word m 0) → x ≡ table (periods (word m 0)) (amountAt m j) ++ drop (periods (word m 0)) x₀
+      → take (n - 0) (drop 0 x) ≡ table (periods (word m 0)) (amountAt m j)
   gathered x₀ x n en e =
       ap (λ (l : List ℕ). take (n - 0) l) e
-      ∙ take-at (table (periods (word m 0)) (amountAt m j)) (drop (periods (word m 0)) x₀) (n - 0) (table-length (periods (word m 0)) (amountAt m j) ∙ omega arith)
+      ∙ take-at (table (periods (word m 0)) (amountAt m j)) (drop (periods (word m 0)) x₀) (n - 0) (table-length (periods (word m 0)) (amountAt m j)
+      ∙ omega arith)
 
   shared-as : (l : List ℕ) → 744 ≤ length l → Is (sharing q (table (periods (word m 0)) (amountAt m j)) l) 0 (partsAt m j q ++ drop (periods (word m 0)) l)
   unfolding partsAt
@@ -97,9 +101,11 @@ module _ (m : List ℕ) (u j q : ℕ) (s : soundIn m ≡ true) (hj : j < word m 
       let w = whole-small in
       let g = sound-readable m s in
       let n = table-length (periods (word m 0)) (amountAt m j) in
-      is-shared q (table (periods (word m 0)) (amountAt m j)) l (omega arith) (omega arith) w most (ap (λ (k : ℕ). parts q (table (periods (word m 0)) (amountAt m j)) ++ drop k l) (sym n))
+      is-shared q (table (periods (word m 0)) (amountAt m j)) l (omega arith) (omega arith) w most
+      (ap (λ (k : ℕ). parts q (table (periods (word m 0)) (amountAt m j)) ++ drop k l) (sym n))
 
-  pub shared-parts : (x₀ x l y : List ℕ) (r n : ℕ) → n ≡ periods (word m 0) → x ≡ table (periods (word m 0)) (amountAt m j) ++ drop (periods (word m 0)) x₀ → 744 ≤ length l → Is (sharing q (take (n - 0) (drop 0 x)) l) r y
+  pub shared-parts : (x₀ x l y : List ℕ) (r n : ℕ) → n ≡ periods (word m 0) → x ≡ table (periods (word m 0)) (amountAt m j) ++ drop (periods (word m 0)) x₀
+      → 744 ≤ length l → Is (sharing q (take (n - 0) (drop 0 x)) l) r y
       → y ≡ partsAt m j q ++ drop (periods (word m 0)) l
   shared-parts x₀ x l y r n en e room i =
       i .memory ∙ ap (λ (rs : List ℕ). sharing q rs l .memory) (gathered x₀ x n en e) ∙ sym (shared-as l room .memory)
@@ -117,21 +123,24 @@ module _ (m : List ℕ) (u j q : ℕ) (s : soundIn m ≡ true) (hj : j < word m 
 
   pub raising-small : (y : List ℕ) → y ≡ partsAt m j q ++ drop (periods (word m 0)) (replicate 744 0) → small y
   raising-small y e i =
-      let a : getD y i 0 ≡ getD (partsAt m j q) i 0 = ap (λ (l : List ℕ). getD l i 0) e ∙ padded-at (partsAt m j q) (drop (periods (word m 0)) (replicate 744 0)) zeros-behind i in
+      let a : getD y i 0 ≡ getD (partsAt m j q) i 0 = ap (λ (l : List ℕ). getD l i 0) e
+      ∙ padded-at (partsAt m j q) (drop (periods (word m 0)) (replicate 744 0)) zeros-behind i in
       let b = part-most i in
       omega arith
 
   pub lowering-small : small (replicate 744 0)
   lowering-small i = let a = zeros-at 744 i in omega arith
 
-  pub take-fitted : (y l x : List ℕ) (r : ℕ) → y ≡ partsAt m j q ++ drop (periods (word m 0)) (replicate 744 0) → x ≡ partsAt m j q ++ drop (periods (word m 0)) l
+  pub take-fitted : (y l x : List ℕ) (r : ℕ) → y ≡ partsAt m j q ++ drop (periods (word m 0)) (replicate 744 0) → x ≡ partsAt m j q
+      ++ drop (periods (word m 0)) l
       → Fitted (decode m) u (declared y (replicate 744 0)) r → TakeFit m u j q r l x
   unfolding fitChecks
   take-fitted y l x r ey ex f = record {
     answer =
         f .clean (sound-ways m s u hu)
         ∙ misfit-ext (decode m) u (declared y (replicate 744 0)) (raisingAmounts (partsAt m j q))
-        (λ i. ap (λ (t : List ℕ). getD t i 0) ey ∙ padded-at (partsAt m j q) (drop (periods (word m 0)) (replicate 744 0)) zeros-behind i) (λ i. zeros-at 744 i)
+        (λ i. ap (λ (t : List ℕ). getD t i 0) ey ∙ padded-at (partsAt m j q) (drop (periods (word m 0)) (replicate 744 0)) zeros-behind i)
+        (λ i. zeros-at 744 i)
         ∙ misfit-declared (decode m) u (raisingAmounts (partsAt m j q)) (unit-fits m s u hu);
     memory = ex;
   }

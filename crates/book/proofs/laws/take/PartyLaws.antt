@@ -89,17 +89,22 @@ module _ (m : List ℕ) (u n q lent : ℕ) where
     pub party-energy : 4464 ≤ lent → (In 1 mostEnergy q → ⊥) → 9 ≡ firstOf (partyChecks (decode m) u n q lent)
     unfolding partyChecks
     party-energy h k =
-        first-skip 6 (not (known (decode m) u)) _ (is-known hu) (first-skip 7 (ltb lent 4464) _ (le-ltb lent 4464 h) (first-hit 9 (not (energyIn q)) _ (no-energy k)))
+        first-skip 6 (not (known (decode m) u)) _ (is-known hu)
+        (first-skip 7 (ltb lent 4464) _ (le-ltb lent 4464 h) (first-hit 9 (not (energyIn q)) _ (no-energy k)))
 
     module _ (hl : 4464 ≤ lent) (hq : In 1 mostEnergy q) (s : soundIn m ≡ true) (r : ℕ) (f : Found m n r) where
-      skip-energy : (x : ℕ) (cs : List Check) → x ≡ firstOf cs → x ≡ firstOf (check 6 (not (known (decode m) u)) ∷ check 7 (ltb lent 4464) ∷ check 9 (not (energyIn q)) ∷ cs)
+      skip-energy : (x : ℕ) (cs : List Check) → x ≡ firstOf cs → x
+          ≡ firstOf (check 6 (not (known (decode m) u)) ∷ check 7 (ltb lent 4464) ∷ check 9 (not (energyIn q)) ∷ cs)
       skip-energy x cs e =
           first-skip 6 (not (known (decode m) u)) (check 7 (ltb lent 4464) ∷ check 9 (not (energyIn q)) ∷ cs) (is-known hu)
           (first-skip 7 (ltb lent 4464) (check 9 (not (energyIn q)) ∷ cs) (le-ltb lent 4464 hl) (first-skip 9 (not (energyIn q)) cs (is-energy hq) e))
 
-      skip-found : r < 8 → (x : ℕ) (cs : List Check) → x ≡ firstOf cs → x ≡ firstOf (check 6 (not (known (decode m) u)) ∷ check 7 (ltb lent 4464) ∷ check 9 (not (energyIn q)) ∷ check 11 (not (offerOpen (decode m) n)) ∷ cs)
+      skip-found : r < 8 → (x : ℕ) (cs : List Check) → x ≡ firstOf cs → x
+          ≡ firstOf (check 6 (not (known (decode m) u)) ∷ check 7 (ltb lent 4464) ∷ check 9 (not (energyIn q)) ∷ check 11 (not (offerOpen (decode m) n))
+          ∷ cs)
       skip-found h x cs e =
-          skip-energy x (check 11 (not (offerOpen (decode m) n)) ∷ cs) (first-skip 11 (not (offerOpen (decode m) n)) cs (rw (found-offer m n r f h .1) refl) e)
+          skip-energy x (check 11 (not (offerOpen (decode m) n))
+          ∷ cs) (first-skip 11 (not (offerOpen (decode m) n)) cs (rw (found-offer m n r f h .1) refl) e)
 
       pub party-none : 8 ≤ r → 11 ≡ firstOf (partyChecks (decode m) u n q lent)
       unfolding partyChecks
@@ -115,7 +120,8 @@ module _ (m : List ℕ) (u n q lent : ℕ) where
 
       pub party-passed : r < 8 → takes m r u q ≡ true → 0 ≡ firstOf (partyChecks (decode m) u n q lent)
       unfolding partyChecks firstOf
-      party-passed h e = skip-found h 0 (check 12 (not (canTake (decode m) (offerOf (decode m) n) u q)) ∷ []) (first-skip 12 (not (canTake (decode m) (offerOf (decode m) n) u q)) [] (ap not (can-take h ∙ e)) refl)
+      party-passed h e = skip-found h 0 (check 12 (not (canTake (decode m) (offerOf (decode m) n) u q))
+          ∷ []) (first-skip 12 (not (canTake (decode m) (offerOf (decode m) n) u q)) [] (ap not (can-take h ∙ e)) refl)
 
 -- what asking whether a unit can take needs
 pub can-asks : (m : List ℕ) (u q n r : ℕ) → soundIn m ≡ true → Found m n r → r < 8 → In 1 (word m 5) u → q ≤ mostEnergy

@@ -154,13 +154,20 @@ module _ (n : ℕ) (ps : List ℕ) where
 
       go : (t z : Bool) → eqb (total (lessEach (o .amounts) ps)) 0 ≡ z → 0 < length (cond t (o ∷ others) others)
           → Within ps (getD (cond t (o ∷ others) others) 0 noOffer .amounts)
-          → (0 < length others → Within ps (getD others 0 noOffer .amounts) → openOffers u p (offersLess n ps os) + cond (eqb (getD others 0 noOffer .unit) u) (getD ps p 0) 0 ≡ openOffers u p os)
-          → openOffers u p (cond t (cond z os (offerLess o ps ∷ os)) (o ∷ offersLess n ps os)) + cond (eqb (getD (cond t (o ∷ others) others) 0 noOffer .unit) u) (getD ps p 0) 0 ≡ openOffers u p (o ∷ os)
+          → (0 < length others → Within ps (getD others 0 noOffer .amounts)
+          → openOffers u p (offersLess n ps os) + cond (eqb (getD others 0 noOffer .unit) u) (getD ps p 0) 0 ≡ openOffers u p os)
+          → openOffers u p (cond t (cond z os (offerLess o ps ∷ os)) (o ∷ offersLess n ps os)) + cond
+          (eqb (getD (cond t (o ∷ others) others) 0 noOffer .unit) u) (getD ps p 0) 0 ≡ openOffers u p (o ∷ os)
       go true true e l w ih =
-          let r : getD (o .amounts) p 0 ≡ getD ps p 0 = omega (arith, none-at (lessEach (o .amounts) ps) p (eqb-true _ _ e), less-at (o .amounts) ps p, within-at ps (o .amounts) p w) in
+          let r : getD (o .amounts) p 0 ≡ getD ps p 0 = omega
+          (arith, none-at (lessEach (o .amounts) ps) p (eqb-true _ _ e), less-at (o .amounts) ps p, within-at ps (o .amounts) p w) in
           rw r (omega arith)
       go true false e l w ih =
-          omega (arith, cond-add (eqb (o .unit) u) (getD (lessEach (o .amounts) ps) p 0) (getD ps p 0) (getD (o .amounts) p 0) (omega (arith, less-at (o .amounts) ps p, within-at ps (o .amounts) p w)))
+          omega (
+            arith,
+            cond-add (eqb (o .unit) u) (getD (lessEach (o .amounts) ps) p 0) (getD ps p 0) (getD (o .amounts) p 0)
+                (omega (arith, less-at (o .amounts) ps p, within-at ps (o .amounts) p w)),
+          )
       go false z e l w ih = let h = ih l w in omega arith
 
 not-itself : {X : Type 0} (g : Bool) → g ≡ not g → X
@@ -205,13 +212,18 @@ module _ (b : Book) (o : OpenOffer) (u : ℕ) (ps : List ℕ) (sides : generator
     take-trades who s t one other = go (generator (unitOf b (o .unit) .kind))
       where
         go : (g : Bool)
-            → tradedBy who v p (cond g (takeRowsFrom 0 (wayOf o) (o .unit) u (o .price) ps) (takeRowsFrom 0 (wayOf o) u (o .unit) (o .price) ps)) ≡ cond (cond g (eqb s v) (eqb t v)) (getD ps p 0) 0
+            → tradedBy who v p (cond g (takeRowsFrom 0 (wayOf o) (o .unit) u (o .price) ps) (takeRowsFrom 0 (wayOf o) u (o .unit) (o .price) ps))
+            ≡ cond (cond g (eqb s v) (eqb t v)) (getD ps p 0) 0
         go true = part-at (wayOf o) (o .unit) u (o .price) who s one v p 0 p ps (omega arith)
         go false = part-at (wayOf o) u (o .unit) (o .price) who t other v p 0 p ps (omega arith)
 
     pub take-raises : (rowsRaise (unitOf b v .kind) v p (takeRows b o u ps) ≡ cond (eqb (o .unit) v) (getD ps p 0) 0 + cond (eqb u v) (getD ps p 0) 0)
         × (rowsLower (unitOf b v .kind) v p (takeRows b o u ps) ≡ 0)
     take-raises =
-        rw (take-trades (λ (r : Row). r .seller) (o .unit) u (λ k q. refl) (λ k q. refl), take-trades (λ (r : Row). r .buyer) u (o .unit) (λ k q. refl) (λ k q. refl))
+        rw (
+          take-trades (λ (r : Row). r .seller) (o .unit) u (λ k q. refl) (λ k q. refl),
+          take-trades (λ (r : Row). r .buyer) u (o .unit) (λ k q. refl)
+              (λ k q. refl),
+        )
         (each-side (eqb (o .unit) v) (eqb u v) (generator (unitOf b (o .unit) .kind)) (generator (unitOf b v .kind)) (getD ps p 0)
         (λ e. rw (eqb-true (o .unit) v e) refl) (λ e. rw (← eqb-true u v e) sides))

@@ -26,37 +26,45 @@ way-bilateral partner n = sym (cond-false (eqb partner 0) 2 1 (ne-eqb partner 0 
 
 -- the generator sells
 module _ (m : List ℕ) (j u w k : ℕ) (ps l x : List ℕ) (hw : w ≡ cond (eqb (word m (202 + 5 * j)) 0) 2 1) where
-  pub rows-sold : generator (unitOf (decode m) (word m (201 + 5 * j)) .kind) ≡ true → RowsPut l x k (takeRowsFrom 0 w (word m (201 + 5 * j)) u (word m (203 + 5 * j)) ps)
+  pub rows-sold : generator (unitOf (decode m) (word m (201 + 5 * j)) .kind) ≡ true
+      → RowsPut l x k (takeRowsFrom 0 w (word m (201 + 5 * j)) u (word m (203 + 5 * j)) ps)
       → RowsPut l x k (takeRows (decode m) (offerAt m (word m 0) j) u ps)
   unfolding takeRows
   rows-sold e r =
       let q : takeRowsFrom 0 w (word m (201 + 5 * j)) u (word m (203 + 5 * j)) ps ≡ takeRows (decode m) (offerAt m (word m 0) j) u ps =
-      ap (λ (t : ℕ). takeRowsFrom 0 t (word m (201 + 5 * j)) u (word m (203 + 5 * j)) ps) hw ∙ sym (cond-true (generator (unitOf (decode m) (word m (201 + 5 * j)) .kind)) _ _ e refl) in
+      ap (λ (t : ℕ). takeRowsFrom 0 t (word m (201 + 5 * j)) u (word m (203 + 5 * j)) ps) hw
+      ∙ sym (cond-true (generator (unitOf (decode m) (word m (201 + 5 * j)) .kind)) _ _ e refl) in
       record { count = r .count ∙ ap (λ (rs : List Row). length rs) q; rows = r .rows ∙ ap (λ (rs : List Row). written l rs) q }
 
-  pub rows-bought : generator (unitOf (decode m) (word m (201 + 5 * j)) .kind) ≡ false → RowsPut l x k (takeRowsFrom 0 w u (word m (201 + 5 * j)) (word m (203 + 5 * j)) ps)
+  pub rows-bought : generator (unitOf (decode m) (word m (201 + 5 * j)) .kind) ≡ false
+      → RowsPut l x k (takeRowsFrom 0 w u (word m (201 + 5 * j)) (word m (203 + 5 * j)) ps)
       → RowsPut l x k (takeRows (decode m) (offerAt m (word m 0) j) u ps)
   unfolding takeRows
   rows-bought e r =
       let q : takeRowsFrom 0 w u (word m (201 + 5 * j)) (word m (203 + 5 * j)) ps ≡ takeRows (decode m) (offerAt m (word m 0) j) u ps =
-      ap (λ (t : ℕ). takeRowsFrom 0 t u (word m (201 + 5 * j)) (word m (203 + 5 * j)) ps) hw ∙ sym (cond-false (generator (unitOf (decode m) (word m (201 + 5 * j)) .kind)) _ _ e refl) in
+      ap (λ (t : ℕ). takeRowsFrom 0 t u (word m (201 + 5 * j)) (word m (203 + 5 * j)) ps) hw
+      ∙ sym (cond-false (generator (unitOf (decode m) (word m (201 + 5 * j)) .kind)) _ _ e refl) in
       record { count = r .count ∙ ap (λ (rs : List Row). length rs) q; rows = r .rows ∙ ap (λ (rs : List Row). written l rs) q }
 
 -- the first offer of a number stays, with less, or goes
 module _ (n : ℕ) (ps : List ℕ) where
-  pub less-stays : (os : List OpenOffer) (j : ℕ) → j < length os → eqb (getD os j noOffer .number) n ≡ true → ((i : ℕ) → i < j → eqb (getD os i noOffer .number) n ≡ false)
+  pub less-stays : (os : List OpenOffer) (j : ℕ) → j < length os → eqb (getD os j noOffer .number) n ≡ true
+      → ((i : ℕ) → i < j → eqb (getD os i noOffer .number) n ≡ false)
       → (total (offerLess (getD os j noOffer) ps .amounts) ≡ 0 → ⊥) → offersLess n ps os ≡ set os j (offerLess (getD os j noOffer) ps)
   unfolding offersLess
   less-stays [] j h e u t = absurd (omega arith)
   less-stays (o ∷ os) zero h e u t = cond-true (eqb (o .number) n) _ _ e (cond-false (eqb (total (offerLess o ps .amounts)) 0) _ _ (ne-eqb _ _ t) refl)
   less-stays (o ∷ os) (suc j) h e u t =
-      cond-false (eqb (o .number) n) _ _ (u 0 (omega arith)) (ap (λ (l : List OpenOffer). o ∷ l) (less-stays os j (omega arith) e (λ i k. u (suc i) (omega arith)) t))
+      cond-false (eqb (o .number) n) _ _ (u 0 (omega arith)) (ap (λ (l : List OpenOffer). o
+      ∷ l) (less-stays os j (omega arith) e (λ i k. u (suc i) (omega arith)) t))
 
-  keep-others : (os : List OpenOffer) → ((i : ℕ) → i < length os → eqb (getD os i noOffer .number) n ≡ false) → os ≡ keep (λ (o : OpenOffer). not (eqb (o .number) n)) os
+  keep-others : (os : List OpenOffer) → ((i : ℕ) → i < length os → eqb (getD os i noOffer .number) n ≡ false) → os
+      ≡ keep (λ (o : OpenOffer). not (eqb (o .number) n)) os
   keep-others [] u = refl
   keep-others (o ∷ os) u = rw (u 0 (omega arith)) (ap (λ (l : List OpenOffer). o ∷ l) (keep-others os (λ i k. u (suc i) (omega arith))))
 
-  pub less-goes : (os : List OpenOffer) (j : ℕ) → j < length os → eqb (getD os j noOffer .number) n ≡ true → ((i : ℕ) → i < length os → (i ≡ j → ⊥) → eqb (getD os i noOffer .number) n ≡ false)
+  pub less-goes : (os : List OpenOffer) (j : ℕ) → j < length os → eqb (getD os j noOffer .number) n ≡ true
+      → ((i : ℕ) → i < length os → (i ≡ j → ⊥) → eqb (getD os i noOffer .number) n ≡ false)
       → total (offerLess (getD os j noOffer) ps .amounts) ≡ 0 → offersLess n ps os ≡ keep (λ (o : OpenOffer). not (eqb (o .number) n)) os
   unfolding offersLess
   less-goes [] j h e u t = absurd (omega arith)
@@ -64,5 +72,6 @@ module _ (n : ℕ) (ps : List ℕ) where
       cond-true (eqb (o .number) n) _ _ e (cond-true (eqb (total (offerLess o ps .amounts)) 0) _ _ (eq-eqb _ _ t) refl)
       ∙ keep-others os (λ i k. u (suc i) (omega arith) (omega arith)) ∙ rw e refl
   less-goes (o ∷ os) (suc j) h e u t =
-      cond-false (eqb (o .number) n) _ _ (u 0 (omega arith) (omega arith)) (ap (λ (l : List OpenOffer). o ∷ l) (less-goes os j (omega arith) e (λ i k z. u (suc i) (omega arith) (omega arith)) t))
+      cond-false (eqb (o .number) n) _ _ (u 0 (omega arith) (omega arith)) (ap (λ (l : List OpenOffer). o
+      ∷ l) (less-goes os j (omega arith) e (λ i k z. u (suc i) (omega arith) (omega arith)) t))
       ∙ rw (u 0 (omega arith) (omega arith)) refl

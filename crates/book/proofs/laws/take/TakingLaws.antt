@@ -20,7 +20,20 @@ use Rattle.book.specs.Book.{noUnit, OpenOffer, noOffer, Book, unitOf, fi
 use Rattle.book.specs.Trades.{rowsBooked}
 use Rattle.book.specs.Fit.{openOffers, openRaising, openLowering, Declaration, nothing}
 use Rattle.book.specs.Sound.{sound}
-use Rattle.book.specs.Refusals.{accepted, sameSide, canTake, unsound, unknownUnit, fewRows, badQuantity, noSuchOffer, cannotTake, hourMisfit, termMisfit, volumeMisfit}
+use Rattle.book.specs.Refusals.{
+  accepted,
+  sameSide,
+  canTake,
+  unsound,
+  unknownUnit,
+  fewRows,
+  badQuantity,
+  noSuchOffer,
+  cannotTake,
+  hourMisfit,
+  termMisfit,
+  volumeMisfit,
+}
 use Rattle.book.specs.Offer.{raisingAmounts}
 use Rattle.book.specs.Take.{takenParts, takeRefusal, takeRows, offersLess, taking}
 use Rattle.book.proofs.laws.sound.RemainLaws.{each-at, remains-all, remains-keep, remains-each}
@@ -87,7 +100,8 @@ module _ (b : Book) (u n q : ℕ) where
         some = within 1 mostEnergy q (not-false _ (t .1 .1 .1 .0)) .0;
         enough = can .1;
         fits =
-            fits-with b u (raisingAmounts (takenParts b n q)) (s .fits u taker) (not-false _ (t .1 .1 .1 .1 .1 .1 .0)) (not-false _ (t .1 .1 .1 .1 .1 .1 .1 .0))
+            fits-with b u (raisingAmounts (takenParts b n q)) (s .fits u taker) (not-false _ (t .1 .1 .1 .1 .1 .1 .0))
+            (not-false _ (t .1 .1 .1 .1 .1 .1 .1 .0))
             (not-false _ (t .1 .1 .1 .1 .1 .1 .1 .1 .0));
       }
     where
@@ -149,7 +163,8 @@ module _ (b : Book) (u n q : ℕ) where
       }
 
   -- what a unit then has declared: the taker its parts more, the others no more than before
-  moved : Sound b → TakePassed → (v : ℕ) (d : Declaration) → In 1 (length (b .units)) v → ((p : ℕ) → cond (eqb u v) (getD ps p 0) 0 ≤ d .raising p) → Moved b after v d
+  moved : Sound b → TakePassed → (v : ℕ) (d : Declaration) → In 1 (length (b .units)) v → ((p : ℕ) → cond (eqb u v) (getD ps p 0) 0 ≤ d .raising p)
+      → Moved b after v d
   unfolding openRaising openLowering
   moved s a v d i h =
       record {
@@ -177,7 +192,8 @@ module _ (b : Book) (u n q : ℕ) where
       record { formed = formed-remaining b after (left s) (s .formed); fits = λ v i. fit v (omega (arith, stay .count)) (ℕ-discrete u v) }
     where
       fit : (v : ℕ) → In 1 (length (b .units)) v → Dec (u ≡ v) → Fits after v nothing
-      fit v i (yes e) = fits-after b after v (raisingAmounts ps) (moved s a v (raisingAmounts ps) i (λ p. rw (eq-eqb u v e) (omega arith))) (rw e at (a .fits))
+      fit v i (yes e) = fits-after b after v (raisingAmounts ps) (moved s a v (raisingAmounts ps) i (λ p. rw (eq-eqb u v e) (omega arith)))
+          (rw e at (a .fits))
       fit v i (no e) = fits-after b after v nothing (moved s a v nothing i (λ p. rw (ne-eqb u v e) (omega arith))) (s .fits v i)
 
   pub taking-sound : (lent : ℕ) → sound b ≡ true → sound (taking b u n q lent .book) ≡ true

@@ -28,14 +28,17 @@ use Rattle.book.proofs.laws.take.EnterLaws.{take-fits, take-few}
 
 fewer-kept : (f : OpenOffer → Bool) (l : List OpenOffer) → length (keep f l) ≤ length l
 fewer-kept f [] = omega arith
-fewer-kept f (o ∷ l) = let ih = fewer-kept f l in cond-case (λ (t : List OpenOffer). length t ≤ suc (length l)) (f o) _ _ (λ e. omega arith) (λ e. omega arith)
+fewer-kept f (o ∷ l) = let ih = fewer-kept f l in cond-case (λ (t : List OpenOffer). length t
+    ≤ suc (length l)) (f o) _ _ (λ e. omega arith) (λ e. omega arith)
 
 days-of : (m : List ℕ) → decode m .days ≡ word m 0
 unfolding decode
 days-of m = refl
 
-module _ (m : List ℕ) (u n j : ℕ) (l : List ℕ) (s : soundIn m ≡ true) (hj : j < word m 6) (hu : In 1 (word m 5) u) (room : 744 ≤ length l) (pt : PartsThere m j l)
-    (x : List ℕ) (dx : decode x ≡ withOffers (decode m) (keep (λ (o : OpenOffer). not (eqb (o .number) n)) (decode m .offers))) (lx : length x ≡ length m) where
+module _ (m : List ℕ) (u n j : ℕ) (l : List ℕ) (s : soundIn m ≡ true) (hj : j < word m 6) (hu : In 1 (word m 5) u) (room : 744
+    ≤ length l) (pt : PartsThere m j l)
+    (x : List ℕ) (dx : decode x ≡ withOffers (decode m) (keep (λ (o : OpenOffer). not (eqb (o .number) n)) (decode m .offers))) (lx : length x
+    ≡ length m) where
   abbrev rs : List Row
   rs = takeRows (decode m) (offerAt m (word m 0) j) u (take (24 * word m 0) l)
 
@@ -47,7 +50,8 @@ module _ (m : List ℕ) (u n j : ℕ) (l : List ℕ) (s : soundIn m ≡ true) (h
 
   w6 : word x 6 ≤ word m 6
   w6 =
-      let a : word x 6 ≡ length (keep (λ (o : OpenOffer). not (eqb (o .number) n)) (decode m .offers)) = sym (offers-held x) ∙ ap (λ (b : Book). length (b .offers)) dx in
+      let a : word x 6 ≡ length (keep (λ (o : OpenOffer). not (eqb (o .number) n)) (decode m .offers)) = sym (offers-held x)
+      ∙ ap (λ (b : Book). length (b .offers)) dx in
       let c = fewer-kept (λ (o : OpenOffer). not (eqb (o .number) n)) (decode m .offers) in
       let e = offers-held m in
       omega arith
@@ -64,7 +68,15 @@ module _ (m : List ℕ) (u n j : ℕ) (l : List ℕ) (s : soundIn m ≡ true) (h
       let d = g .offersTo in
       let e = g .ordersTo in
       let f = g .long in
-      record { daysFrom = omega (arith, w0); daysTo = omega (arith, w0); unitsTo = omega (arith, w5); offersTo = omega (arith, w6); ordersTo = omega (arith, w7); long = omega (arith, w0, lx) }
+      record {
+        daysFrom = omega (arith, w0);
+        daysTo = omega (arith, w0);
+        unitsTo = omega (arith, w5);
+        offersTo = omega (arith, w6);
+        ordersTo = omega
+            (arith, w7);
+        long = omega (arith, w0, lx);
+      }
 
   -- the figures are as they were
   figures-kept : (v p : ℕ) → v < word m 5 → p < 24 * word m 0 → figuresAt x v p ≡ figuresAt m v p
@@ -85,7 +97,8 @@ module _ (m : List ℕ) (u n j : ℕ) (l : List ℕ) (s : soundIn m ≡ true) (h
       let c = ap (λ (y : Figures). y .volume) f in
       record { raised = omega arith; lowered = omega arith; volume = omega arith }
 
-  pub whole-asks : (lent out : List ℕ) (k : ℕ) → RowsPut lent out k rs → 4464 ≤ length lent → (Readable x) × (6 * k ≤ length out) × (k ≤ 744) × (RowsFit x out k) × (Small x smallFigures)
+  pub whole-asks : (lent out : List ℕ) (k : ℕ) → RowsPut lent out k rs → 4464 ≤ length lent → (Readable x) × (6 * k ≤ length out) × (k ≤ 744)
+      × (RowsFit x out k) × (Small x smallFigures)
   whole-asks lent out k r big =
       let few = take-few m u j l s hj hu room pt in
       let c = r .count in
@@ -98,12 +111,22 @@ module _ (m : List ℕ) (u n j : ℕ) (l : List ℕ) (s : soundIn m ≡ true) (h
           let h′ : i < length rs = omega arith in
           let t = take-fits m u j l s hj hu room pt i h′ in
           let y : RowFits x (getD rs i noRow) =
-          record { period = omega (arith, w0); sellerFrom = t .sellerFrom; sellerTo = omega (arith, w5); buyerFrom = t .buyerFrom; buyerTo = omega (arith, w5); quantity = t .quantity } in
+          record {
+            period = omega (arith, w0);
+            sellerFrom = t .sellerFrom;
+            sellerTo = omega (arith, w5);
+            buyerFrom = t .buyerFrom;
+            buyerTo = omega
+                (arith, w5);
+            quantity = t .quantity;
+          } in
           subst (λ (z : Row). RowFits x z) (sym (ap (λ (z : List ℕ). rowAt z i) (r .rows) ∙ row-written lent rs i h′)) y
 
-  pub whole-taken : (y lent out : List ℕ) (k : ℕ) → drop (bookWords (word m 0)) x ≡ drop (bookWords (word m 0)) m → RowsPut lent out k rs → RowsTraded x y out k → WholeTaken m y u n j l lent out k
+  pub whole-taken : (y lent out : List ℕ) (k : ℕ) → drop (bookWords (word m 0)) x ≡ drop (bookWords (word m 0)) m → RowsPut lent out k rs
+      → RowsTraded x y out k → WholeTaken m y u n j l lent out k
   whole-taken y lent out k px r t =
-      let q : rowsIn out k ≡ rs = ap (λ (z : List ℕ). rowsIn z k) (r .rows) ∙ ap (λ (z : ℕ). rowsIn (written lent rs) z) (r .count) ∙ rows-written lent rs in
+      let q : rowsIn out k ≡ rs = ap (λ (z : List ℕ). rowsIn z k) (r .rows) ∙ ap (λ (z : ℕ). rowsIn (written lent rs) z) (r .count)
+      ∙ rows-written lent rs in
       record {
         rows = r;
         book = t .book ∙ ap (λ (z : List Row). rowsBooked z (decode x)) q ∙ ap (λ (z : Book). rowsBooked rs z) dx;

@@ -29,7 +29,8 @@ module _ (way s b pr : ℕ) (ps : List ℕ) (p : ℕ) (h : p < length ps) where
       ∙ cond-true (eqb (getD ps p 0) 0) _ _ (eq-eqb _ _ e) refl
       ∙ ap (λ (t : ℕ). takeRowsFrom t way s b pr (drop t ps)) (sym (add-one p))
 
-  rows-row : (getD ps p 0 ≡ 0 → ⊥) → takeRowsFrom p way s b pr (drop p ps) ≡ rowAs way s b pr p (getD ps p 0) ∷ takeRowsFrom (p + 1) way s b pr (drop (p + 1) ps)
+  rows-row : (getD ps p 0 ≡ 0 → ⊥) → takeRowsFrom p way s b pr (drop p ps) ≡ rowAs way s b pr p (getD ps p 0)
+      ∷ takeRowsFrom (p + 1) way s b pr (drop (p + 1) ps)
   unfolding takeRowsFrom
   rows-row n =
       ap (takeRowsFrom p way s b pr) (drop-cons ps p 0 h)
@@ -84,7 +85,8 @@ module _ (way s b pr : ℕ) (l : List ℕ) (n : ℕ) (room : n ≤ length l) (m 
   unfolding takeRowsFrom
   writing-end x p k h w =
       let e : drop p (take n l) ≡ [] = drop-of-length-le (take n l) {i = p} (omega (arith, length-take-le n l room)) in
-      let d : w .done ≡ takeRowsFrom 0 way s b pr (take n l) = sym (append-nil (w .done)) ∙ ap (λ (t : List ℕ). w .done ++ takeRowsFrom p way s b pr t) (sym e) ∙ w .rest in
+      let d : w .done ≡ takeRowsFrom 0 way s b pr (take n l) = sym (append-nil (w .done))
+      ∙ ap (λ (t : List ℕ). w .done ++ takeRowsFrom p way s b pr t) (sym e) ∙ w .rest in
       record { count = sym (w .counted) ∙ ap (λ (rs : List Row). length rs) d; rows = w .kept ∙ ap (λ (rs : List Row). written m rs) d }
 
 -- parts taken off, one by one
@@ -96,7 +98,8 @@ module _ (m : List ℕ) (j : ℕ) (ps : List ℕ) where
     pub amount-kept : word x (2096 + 328 * n + j) ≡ word m (2096 + 328 * n + j)
     amount-kept = a .other (2096 + 328 * n + j) (λ p h e. absurd (omega arith))
 
-    pub less-more : (v : ℕ) → 2096 + 328 * n + j < length m → v ≡ word x (2096 + 328 * n + j) - getD ps n 0 → AmountsLess m (set x (2096 + 328 * n + j) v) j ps (n + 1)
+    pub less-more : (v : ℕ) → 2096 + 328 * n + j < length m → v ≡ word x (2096 + 328 * n + j) - getD ps n 0
+        → AmountsLess m (set x (2096 + 328 * n + j) v) j ps (n + 1)
     less-more v fits e = record {
       long = simp length-set (a .long);
       own = own;

@@ -37,7 +37,8 @@ table-without {A} n j f g d hj before behind = table-is (n - 1) g (take j (table
     go : (k : ℕ) → k < n - 1 → Dec (k < j) → g k ≡ getD (take j (table n f) ++ drop (j + 1) (table n f)) k d
     go k hk (yes l) =
         let a : k < length (take j (table n f)) = omega (arith, lj) in
-        before k l ∙ sym (table-at n f k d (omega arith)) ∙ sym (getD-take j (table n f) k d l) ∙ sym (List·getD-append (take j (table n f)) (drop (j + 1) (table n f)) d k a)
+        before k l ∙ sym (table-at n f k d (omega arith)) ∙ sym (getD-take j (table n f) k d l)
+        ∙ sym (List·getD-append (take j (table n f)) (drop (j + 1) (table n f)) d k a)
     go k hk (no l) =
         let e : k ≡ length (take j (table n f)) + (k - j) = omega (arith, lj) in
         let s : j + 1 + (k - j) ≡ k + 1 = omega arith in
@@ -96,7 +97,8 @@ pub record Closing (m : List ℕ) (n j : ℕ) (x : List ℕ) (p : ℕ) : Type 0 
 pub closing-start : (m : List ℕ) (n j : ℕ) → Closing m n j m 0
 closing-start m n j = record { at = omega arith; long = refl; moved = λ q k l a b. absurd (omega arith); kept = λ i h. refl; past = refl }
 
-module _ (m : List ℕ) (n j : ℕ) (x y : List ℕ) (p : ℕ) (r : Readable m) (hj : j < n) (hn : n ≤ 8) (hp : p < 24 * word m 0) (g : Closing m n j x p) (same : length y ≡ length x)
+module _ (m : List ℕ) (n j : ℕ) (x y : List ℕ) (p : ℕ) (r : Readable m) (hj : j < n) (hn : n ≤ 8) (hp : p
+    < 24 * word m 0) (g : Closing m n j x p) (same : length y ≡ length x)
     (here : (i : ℕ) → 2096 + 328 * p + j ≤ i → i < 2095 + 328 * p + n → word y i ≡ word x (i + 1))
     (before : (i : ℕ) → i < 2096 + 328 * p + j → word y i ≡ word x i)
     (after : (i : ℕ) → 2095 + 328 * p + n ≤ i → word y i ≡ word x i)
@@ -143,7 +145,8 @@ offer-same x m d k l h t =
     at f i j hf e g = rw (e, g) (h f hf)
 
 -- the memory without the offer at place j: x has the amounts moved, y the heads too
-module _ (m x y : List ℕ) (n j : ℕ) (s : soundIn m ≡ true) (hj : j < word m 6) (e : word m (200 + 5 * j) ≡ n) (lx : length x ≡ length m) (ly : length y ≡ length x)
+module _ (m x y : List ℕ) (n j : ℕ) (s : soundIn m ≡ true) (hj : j < word m 6) (e : word m (200 + 5 * j) ≡ n) (lx : length x ≡ length m) (ly : length y
+    ≡ length x)
     (moved : (p k : ℕ) → p < 24 * word m 0 → j ≤ k → k < word m 6 - 1 → word x (2096 + 328 * p + k) ≡ word m (2096 + 328 * p + (k + 1)))
     (kept : (i : ℕ) → ((p k : ℕ) → p < 24 * word m 0 → j ≤ k → k < word m 6 - 1 → i ≡ 2096 + 328 * p + k → ⊥) → word x i ≡ word m i)
     (past : drop (bookWords (word m 0)) x ≡ drop (bookWords (word m 0)) m)
@@ -193,7 +196,8 @@ module _ (m x y : List ℕ) (n j : ℕ) (s : soundIn m ≡ true) (hj : j < word 
   pub withdrawn : decode less ≡ withOffers (decode m) (keep (λ (o : OpenOffer). not (eqb (o .number) n)) (decode m .offers))
   unfolding decode
   withdrawn =
-      book-same (decode less) (withOffers (decode m) (keep (λ (o : OpenOffer). not (eqb (o .number) n)) (decode m .offers))) d0 (w 1 (omega arith) (omega arith)) (w 2 (omega arith) (omega arith)) (w 3 (omega arith) (omega arith)) (w 4 (omega arith) (omega arith))
+      book-same (decode less) (withOffers (decode m) (keep (λ (o : OpenOffer). not (eqb (o .number) n)) (decode m .offers))) d0
+      (w 1 (omega arith) (omega arith)) (w 2 (omega arith) (omega arith)) (w 3 (omega arith) (omega arith)) (w 4 (omega arith) (omega arith))
       (ap (λ (k : ℕ). table k (unitAt less (word less 0))) (w 5 (omega arith) (omega arith)) ∙ ap (λ (d : ℕ). table (word m 5) (unitAt less d)) d0
       ∙ units-same less m (word m 5) (word m 0) (λ i a b. let r = sound-readable m s in low i (omega arith) (omega arith))
       (λ p c hp hc. high (1776 + 328 * p + c) (omega arith) (λ q k lq a b z. let r = sound-readable m s in omega arith)))

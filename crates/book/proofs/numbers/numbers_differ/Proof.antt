@@ -31,17 +31,22 @@ numbers-rise-requires : tie.Need-numbers-rise-requires
 numbers-rise-requires c κs = search needs
 
 returns-2 : tie.Need-returns-2
-returns-2 c = differ-orders (c .before .before .before .before .before .before .before .args .book .now) (rw (orders-from (c .before .before .before .before .before .before .before .args .book .now)) (sym (c .before .numbers-rise .ensures) ∙ not-true _ (c .if2 .taken)))
+returns-2 c =
+    let c7 = c .before .before .before .before .before .before .before in
+    differ-orders (c7 .args .book .now) (rw (orders-from (c7 .args .book .now)) (sym (c .before .numbers-rise .ensures) ∙ not-true _ (c .if2 .taken)))
 
 numbers-free-requires : tie.Need-numbers-free-requires
 numbers-free-requires c κs = search needs
 
 returns-3 : tie.Need-returns-3
 returns-3 c =
+    let c5 = c .before .before .before .before .before in
+    let c6 = c5 .before in
+    let c8 = c6 .before .before in
     c .numbers-free .ensures
-    ∙ differ-free (c .before .before .before .before .before .before .before .before .args .book .now)
-    (sym (c .before .before .before .before .before .before .offers-rise .ensures) ∙ not-false _ (c .before .before .before .before .before .if1 .left))
-    (rw (orders-from (c .before .before .before .before .before .before .before .before .args .book .now)) (sym (c .before .before .numbers-rise .ensures) ∙ not-false _ (c .before .if2 .left)))
+    ∙ differ-free (c8 .args .book .now)
+    (sym (c6 .offers-rise .ensures) ∙ not-false _ (c5 .if1 .left))
+    (rw (orders-from (c8 .args .book .now)) (sym (c .before .before .numbers-rise .ensures) ∙ not-false _ (c .before .if2 .left)))
 
 pub numbers-differ-spec : {M : Type 1} → statement M
 numbers-differ-spec =

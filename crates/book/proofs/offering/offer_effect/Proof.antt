@@ -24,7 +24,9 @@ fresh-requires : tie.Need-fresh-requires
 fresh-requires c κs = search needs
 
 put-amounts-requires : tie.Need-put-amounts-requires
-put-amounts-requires c κs = (ok (c .before .before .before .before .before .before), c .before .before .before .before .before .before .pre .1, c .before .before .before .before .before .before .pre .2)
+put-amounts-requires c κs =
+    let c6 = c .before .before .before .before .before .before in
+    (ok c6, c6 .pre .1, c6 .pre .2)
 
 mul-book : tie.Need-mul-book
 mul-book c = search needs
@@ -36,7 +38,9 @@ mul-book-2 : tie.Need-mul-book-2
 mul-book-2 c = search needs
 
 slice-write-book : tie.Need-slice-write-book
-slice-write-book c = let r = ok (c .before .before .before .before .before .before .before .before .before) in omega arith
+slice-write-book c =
+    let c9 = c .before .before .before .before .before .before .before .before .before in
+    let r = ok c9 in omega arith
 
 mul-book-3 : tie.Need-mul-book-3
 mul-book-3 c = search needs
@@ -48,7 +52,9 @@ mul-book-4 : tie.Need-mul-book-4
 mul-book-4 c = search needs
 
 slice-write-book-2 : tie.Need-slice-write-book-2
-slice-write-book-2 c = let r = ok (c .before .before .before .before .before .before .before .before .before) in simp length-set (omega arith)
+slice-write-book-2 c =
+    let c9 = c .before .before .before .before .before .before .before .before .before in
+    let r = ok c9 in simp length-set (omega arith)
 
 mul-book-5 : tie.Need-mul-book-5
 mul-book-5 c = search needs
@@ -60,7 +66,9 @@ mul-book-6 : tie.Need-mul-book-6
 mul-book-6 c = search needs
 
 slice-write-book-3 : tie.Need-slice-write-book-3
-slice-write-book-3 c = let r = ok (c .before .before .before .before .before .before .before .before .before) in simp length-set (omega arith)
+slice-write-book-3 c =
+    let c9 = c .before .before .before .before .before .before .before .before .before in
+    let r = ok c9 in simp length-set (omega arith)
 
 mul-book-7 : tie.Need-mul-book-7
 mul-book-7 c = search needs
@@ -72,7 +80,9 @@ mul-book-8 : tie.Need-mul-book-8
 mul-book-8 c = search needs
 
 slice-write-book-4 : tie.Need-slice-write-book-4
-slice-write-book-4 c = let r = ok (c .before .before .before .before .before .before .before .before .before) in simp length-set (omega arith)
+slice-write-book-4 c =
+    let c9 = c .before .before .before .before .before .before .before .before .before in
+    let r = ok c9 in simp length-set (omega arith)
 
 mul-book-9 : tie.Need-mul-book-9
 mul-book-9 c = search needs
@@ -84,29 +94,38 @@ mul-book-10 : tie.Need-mul-book-10
 mul-book-10 c = search needs
 
 slice-write-book-5 : tie.Need-slice-write-book-5
-slice-write-book-5 c = let r = ok (c .before .before .before .before .before .before .before .before .before) in simp length-set (omega arith)
+slice-write-book-5 c =
+    let c9 = c .before .before .before .before .before .before .before .before .before in
+    let r = ok c9 in simp length-set (omega arith)
 
 add-book-6 : tie.Need-add-book-6
 add-book-6 c = search needs
 
 slice-write-book-6 : tie.Need-slice-write-book-6
-slice-write-book-6 c = let r = ok (c .before .before .before .before .before .before .before .before .before) in simp length-set (omega arith)
+slice-write-book-6 c =
+    let c9 = c .before .before .before .before .before .before .before .before .before in
+    let r = ok c9 in simp length-set (omega arith)
 
 slice-write-book-7 : tie.Need-slice-write-book-7
-slice-write-book-7 c = let r = ok (c .before .before .before .before .before .before .before .before .before) in simp length-set (omega arith)
+slice-write-book-7 c =
+    let c9 = c .before .before .before .before .before .before .before .before .before in
+    let r = ok c9 in simp length-set (omega arith)
 
 same-length : tie.Need-same-length
 same-length c = simp length-set (c .before .before .put-amounts .kept .0)
 
 returns : tie.Need-returns
 returns c =
+    let c4 = c .before .before .before .before in
     let s = c .before .before .before .before .before .before .before .before .before in
     let a = s .args in
-    let e = c .before .before .before .before .fresh .ensures in
+    let e = c4 .fresh .ensures in
     let w = c .before .before .put-amounts in
     rw (e .0, e .1, e .2, e .3, e .4) (
-      offered-in (a .book .now) (w .last .0) (a .unit) (a .partner) (a .price) (a .amounts .now) (ok s) (s .pre .1) (s .pre .2) (w .kept .0) (w .ensures .0) (w .ensures .1) (w .ensures .2),
-      offered-past (a .book .now) (w .last .0) (a .unit) (a .partner) (a .price) (a .amounts .now) (ok s) (s .pre .1) (s .pre .2) (w .kept .0) (w .ensures .0) (w .ensures .1) (w .ensures .2),
+      offered-in (a .book .now) (w .last .0) (a .unit) (a .partner) (a .price) (a .amounts .now) (ok s) (s .pre .1) (s .pre .2) (w .kept .0) (w .ensures .0)
+          (w .ensures .1) (w .ensures .2),
+      offered-past (a .book .now) (w .last .0) (a .unit) (a .partner) (a .price) (a .amounts .now) (ok s) (s .pre .1) (s .pre .2) (w .kept .0)
+          (w .ensures .0) (w .ensures .1) (w .ensures .2),
     )
 
 pub offer-effect-spec : {M : Type 1} → statement M

@@ -15,7 +15,9 @@ few c = let r = sound-readable (c .args .book .now) (c .pre .0) in omega arith
 
 copied : (c : tie.After-copy-amounts) → (k : ℕ) → getD (c .copy-amounts .last .1 .0) k 0 ≡ getD (c .before .before .before .before .args .amounts .now) k 0
 copied c =
-    copied-at (replicate {A = ℕ} 744 0) (c .before .before .before .before .args .amounts .now) (c .copy-amounts .last .1 .0) (zeros-at 744) (c .copy-amounts .ensures .0) (c .copy-amounts .ensures .1)
+    let c4 = c .before .before .before .before in
+    copied-at (replicate {A = ℕ} 744 0) (c4 .args .amounts .now) (c .copy-amounts .last .1 .0) (zeros-at 744) (c .copy-amounts .ensures .0)
+    (c .copy-amounts .ensures .1)
 
 slice-aggregate-copy-amounts : tie.Need-slice-aggregate-copy-amounts
 slice-aggregate-copy-amounts c = search needs
@@ -43,9 +45,11 @@ misfit-requires c κs =
 
 returns : tie.Need-returns
 returns c =
+    let c6 = c .before .before .before .before .before .before in
     let s = c .before .before .before .before .before .before .before .before .before .before in
     let a = s .args in
-    offer-fits (a .book .now) (s .pre .0) (a .unit) (s .pre .1, s .pre .2) (a .amounts .now) (c .before .before .before .before .before .before .copy-amounts .last .1 .0) (replicate {A = ℕ} 744 0) (c .before .before .misfit .result) (copied (c .before .before .before .before .before .before)) (zeros-at 744) (c .before .before .misfit .ensures)
+    offer-fits (a .book .now) (s .pre .0) (a .unit) (s .pre .1, s .pre .2) (a .amounts .now) (c6 .copy-amounts .last .1 .0) (replicate {A = ℕ} 744 0)
+    (c .before .before .misfit .result) (copied c6) (zeros-at 744) (c .before .before .misfit .ensures)
 
 pub offer-fit-spec : {M : Type 1} → statement M
 offer-fit-spec =

@@ -15,7 +15,8 @@ shared-slice-read-if2 c = search needs
 
 returns-2 : tie.Need-returns-2
 returns-2 c =
-    let a = c .before .before .before .before .before .args in
+    let c5 = c .before .before .before .before .before in
+    let a = c5 .args in
     terms-unit (a .book .now) (a .unit) (a .partner) (a .price) (a .amounts .now) (omega arith)
 
 shared-slice-read-if3 : tie.Need-shared-slice-read-if3
@@ -23,7 +24,8 @@ shared-slice-read-if3 c = search needs
 
 returns-3 : tie.Need-returns-3
 returns-3 c =
-    let a = c .before .before .before .before .before .before .before .args in
+    let c7 = c .before .before .before .before .before .before .before in
+    let a = c7 .args in
     terms-partner (a .book .now) (a .unit) (a .partner) (a .price) (a .amounts .now) (omega arith) (omega arith)
 
 shared-slice-read-if4 : tie.Need-shared-slice-read-if4
@@ -31,7 +33,8 @@ shared-slice-read-if4 c = search needs
 
 returns-4 : tie.Need-returns-4
 returns-4 c =
-    let a = c .before .before .before .before .before .before .before .before .before .args in
+    let c9 = c .before .before .before .before .before .before .before .before .before in
+    let a = c9 .args in
     terms-price (a .book .now) (a .unit) (a .partner) (a .price) (a .amounts .now) (omega arith) (omega arith) (omega arith)
 
 shared-slice-read-if5 : tie.Need-shared-slice-read-if5
@@ -39,7 +42,8 @@ shared-slice-read-if5 c = search needs
 
 returns-5 : tie.Need-returns-5
 returns-5 c =
-    let a = c .before .before .before .before .before .before .before .before .before .before .before .args in
+    let c11 = c .before .before .before .before .before .before .before .before .before .before .before in
+    let a = c11 .args in
     terms-price (a .book .now) (a .unit) (a .partner) (a .price) (a .amounts .now) (omega arith) (omega arith) (omega arith)
 
 shared-slice-read-if6 : tie.Need-shared-slice-read-if6
@@ -50,7 +54,8 @@ mul-if6 c = search needs
 
 returns-6 : tie.Need-returns-6
 returns-6 c =
-    let a = c .before .before .before .before .before .before .before .before .before .before .before .before .before .args in
+    let c13 = c .before .before .before .before .before .before .before .before .before .before .before .before .before in
+    let a = c13 .args in
     terms-long (a .book .now) (a .unit) (a .partner) (a .price) (a .amounts .now) (omega arith) (omega arith) (omega arith) (omega arith)
 
 amounts-total-requires : tie.Need-amounts-total-requires
@@ -58,17 +63,22 @@ amounts-total-requires c κs = search needs
 
 returns-7 : tie.Need-returns-7
 returns-7 c =
-    let a = c .before .before .before .before .before .before .before .before .before .before .before .before .before .before .before .args in
+    let c15 = c .before .before .before .before .before .before .before .before .before .before .before .before .before .before .before in
+    let a = c15 .args in
     terms-energy (a .book .now) (a .unit) (a .partner) (a .price) (a .amounts .now) (omega arith) (omega arith) (omega arith) (omega arith) (omega arith)
 
 returns-8 : tie.Need-returns-8
 returns-8 c =
-    let a = c .before .before .before .before .before .before .before .before .before .before .before .before .before .before .before .before .args in
+    let c10 = c .before .before .before .before .before .before .before .before .before .before in
+    let c16 = c10 .before .before .before .before .before .before in
+    let a = c16 .args in
     terms-energy (a .book .now) (a .unit) (a .partner) (a .price) (a .amounts .now) (omega arith) (omega arith) (omega arith) (omega arith) (omega arith)
 
 returns-9 : tie.Need-returns-9
 returns-9 c =
-    let a = c .before .before .before .before .before .before .before .before .before .before .before .before .before .before .before .before .args in
+    let c10 = c .before .before .before .before .before .before .before .before .before .before in
+    let c16 = c10 .before .before .before .before .before .before in
+    let a = c16 .args in
     terms-pass (a .book .now) (a .unit) (a .partner) (a .price) (a .amounts .now) (omega arith) (omega arith) (omega arith) (omega arith) (omega arith)
 
 pub offer-terms-spec : {M : Type 1} → statement M

@@ -49,7 +49,9 @@ loop-less : tie.Need-loop-less Inv-loop μ-loop
 loop-less c = search needs
 
 loop-again : tie.Need-loop-again Inv-loop μ-loop
-loop-again c = putting-more _ _ _ _ _ (c .before .before .before .before .pre .0) (c .before .before .before .before .pre .1) (omega arith) (c .before .before .loop .inv)
+loop-again c =
+    let c4 = c .before .before .before .before in
+    putting-more _ _ _ _ _ (c4 .pre .0) (c4 .pre .1) (omega arith) (c .before .before .loop .inv)
 
 same-length : tie.Need-same-length Inv-loop μ-loop
 same-length c = search needs

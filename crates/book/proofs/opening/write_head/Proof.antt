@@ -37,7 +37,11 @@ same-length : tie.Need-same-length
 same-length c = search needs
 
 returns : tie.Need-returns
-returns c = (headed (c .args .book .now) (c .args .days) (c .args .floor) (c .args .ceiling) (omega arith), head-past 1776 (c .args .book .now) (c .args .days) (c .args .floor) (c .args .ceiling) (omega arith))
+returns c = (
+  headed (c .args .book .now) (c .args .days) (c .args .floor) (c .args .ceiling) (omega arith),
+  head-past 1776 (c .args .book .now)
+      (c .args .days) (c .args .floor) (c .args .ceiling) (omega arith),
+)
 
 pub write-head-spec : {M : Type 1} → statement M
 write-head-spec =

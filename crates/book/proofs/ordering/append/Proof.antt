@@ -37,7 +37,8 @@ same-length c = search needs
 returns : tie.Need-returns
 returns c =
     let s = c .before .before .before .before .before .before in
-    appended (s .args .book .now) (c .before .before .write .last .0) _ (omega arith) (c .before .before .write .kept .0 ∙ mid-len 240 1776 (s .args .book .now) (omega arith)) (c .before .before .write .ensures .0)
+    appended (s .args .book .now) (c .before .before .write .last .0) _ (omega arith) (c .before .before .write .kept .0
+    ∙ mid-len 240 1776 (s .args .book .now) (omega arith)) (c .before .before .write .ensures .0)
 
 pub append-spec : {M : Type 1} → statement M
 append-spec =

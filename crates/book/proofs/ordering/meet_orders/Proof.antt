@@ -37,7 +37,9 @@ enum-known-met : tie.Need-enum-known-met
 enum-known-met c = search needs
 
 slice-write-book : tie.Need-slice-write-book
-slice-write-book c = let r = ok (c .before .before .before .before .before .before .before .before .before .before .before .before .before) in omega arith
+slice-write-book c =
+    let c13 = c .before .before .before .before .before .before .before .before .before .before .before .before .before in
+    let r = ok c13 in omega arith
 
 same-length : tie.Need-same-length
 same-length c = search needs
@@ -47,8 +49,10 @@ same-length-2 c = search needs
 
 returns : tie.Need-returns
 returns c =
+    let c6 = c .before .before .before .before .before .before in
     let s = c .before .before .before .before .before .before .before .before .before .before .before .before in
-    absurd (met-unfit (s .args .book .now) (c .before .before .before .before .before .before .meet .last .0) (s .args .rows .now) (c .before .before .before .before .before .before .meet .last .1 .1 .1 .0) (orderOf (s .args .o)) (c .before .before .before .before .before .before .meet .result) (s .pre .0) (s .pre .1) (c .before .before .before .before .before .before .meet .ensures) (ap (λ (x : Matched). answerOf x .fits) (c .enum-told .given .1)))
+    absurd (met-unfit (s .args .book .now) (c6 .meet .last .0) (s .args .rows .now) (c6 .meet .last .1 .1 .1 .0) (orderOf (s .args .o)) (c6 .meet .result)
+    (s .pre .0) (s .pre .1) (c6 .meet .ensures) (ap (λ (x : Matched). answerOf x .fits) (c .enum-told .given .1)))
 
 same-length-3 : tie.Need-same-length-3
 same-length-3 c = search needs
@@ -58,10 +62,12 @@ same-length-4 c = search needs
 
 returns-2 : tie.Need-returns-2
 returns-2 c =
+    let c7 = c .before .before .before .before .before .before .before in
     let s = c .before .before .before .before .before .before .before .before .before .before .before .before .before in
     let r = ok s in
-    met-rolled (s .args .book .now) (c .before .before .before .before .before .before .before .meet .last .0) (s .args .rows .now) (c .before .before .before .before .before .before .before .meet .last .1 .1 .1 .0) (orderOf (s .args .o)) (c .before .before .before .before .before .before .before .meet .result) (s .pre .0) (s .pre .1) (c .before .before .before .before .before .before .before .meet .ensures) _ _ _
-    (ap answerOf (c .before .met .given .1)) (c .before .before .before .before .before .before .before .meet .kept .0 ∙ mid-len 240 1776 (s .args .book .now) (omega arith))
+    met-rolled (s .args .book .now) (c7 .meet .last .0) (s .args .rows .now) (c7 .meet .last .1 .1 .1 .0) (orderOf (s .args .o)) (c7 .meet .result)
+    (s .pre .0) (s .pre .1) (c7 .meet .ensures) _ _ _
+    (ap answerOf (c .before .met .given .1)) (c7 .meet .kept .0 ∙ mid-len 240 1776 (s .args .book .now) (omega arith))
 
 pub meet-orders-spec : {M : Type 1} → statement M
 meet-orders-spec =

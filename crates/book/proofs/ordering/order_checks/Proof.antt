@@ -12,8 +12,10 @@ order-names-requires c κs = sound-readable _ (c .before .pre)
 
 returns : tie.Need-returns
 returns c =
-    let s = c .before .before .before .args in
-    order-names-first (decode (s .book .now)) (s .unit) (s .direction) (s .period) (s .price) (s .quantity) (s .lent) _ (omega arith) (c .before .order-names .ensures .answer)
+    let c3 = c .before .before .before in
+    let s = c3 .args in
+    order-names-first (decode (s .book .now)) (s .unit) (s .direction) (s .period) (s .price) (s .quantity) (s .lent) _ (omega arith)
+    (c .before .order-names .ensures .answer)
 
 order-days-requires : tie.Need-order-days-requires
 order-days-requires c κs =
@@ -22,17 +24,21 @@ order-days-requires c κs =
 
 returns-2 : tie.Need-returns-2
 returns-2 c =
-    let s = c .before .before .before .before .before .args in
+    let c5 = c .before .before .before .before .before in
+    let s = c5 .args in
     let z : c .before .before .before .order-names .result ≡ 0 = omega arith in
     order-days-first (decode (s .book .now)) (s .unit) (s .direction) (s .period) (s .price) (s .quantity) (s .lent) _
     (sym z ∙ c .before .before .before .order-names .ensures .answer) (omega arith) (c .before .order-days .ensures)
 
 order-fit-requires : tie.Need-order-fit-requires
-order-fit-requires c κs = (c .before .before .before .before .before .pre, c .before .before .before .order-names .ensures .named (omega arith))
+order-fit-requires c κs =
+    let c5 = c .before .before .before .before .before in
+    (c5 .pre, c .before .before .before .order-names .ensures .named (omega arith))
 
 returns-3 : tie.Need-returns-3
 returns-3 c =
-    let s = c .before .before .before .before .before .before .args in
+    let c6 = c .before .before .before .before .before .before in
+    let s = c6 .args in
     let z : c .before .before .before .before .order-names .result ≡ 0 = omega arith in
     let y : c .before .before .order-days .result ≡ 0 = omega arith in
     order-fit-first (decode (s .book .now)) (s .unit) (s .direction) (s .period) (s .price) (s .quantity) (s .lent) _

@@ -29,14 +29,25 @@ slice-aggregate-misfit-2 c = search needs
 misfit-requires : tie.Need-misfit-requires
 misfit-requires c κs =
     let s = c .before .before .before .before .before in
-    let r = ok s in
-    ((sound-ranged _ (s .pre .0), s .pre .1 .from, s .pre .1 .upto), (alone-length 744 (s .args .period) (s .args .quantity), refl, alone-small 744 (s .args .period) (s .args .quantity) (omega arith) (s .pre .1 .quantity), zeros-small 744))
+    let r = ok s in (
+      (sound-ranged _ (s .pre .0), s .pre .1 .from, s .pre .1 .upto),
+      (
+        alone-length 744 (s .args .period) (s .args .quantity),
+        refl,
+        alone-small 744 (s .args .period) (s .args .quantity) (omega arith)
+            (s .pre .1 .quantity),
+        zeros-small 744,
+      ),
+    )
 
 returns : tie.Need-returns
 returns c =
+    let c5 = c .before .before .before .before .before in
+    let c6 = c5 .before in
     let s = c .before .before .before .before .before .before .before .before in
     let r = ok s in
-    fit-raising _ (s .pre .0) 744 _ _ _ _ _ (s .pre .1 .from) (s .pre .1 .upto) (omega arith) (sym (c .before .before .before .before .before .before .raises-net .ensures) ∙ c .before .before .before .before .before .if1 .taken) (c .before .before .misfit .ensures)
+    fit-raising _ (s .pre .0) 744 _ _ _ _ _ (s .pre .1 .from) (s .pre .1 .upto) (omega arith) (sym (c6 .raises-net .ensures)
+    ∙ c5 .if1 .taken) (c .before .before .misfit .ensures)
 
 slice-aggregate-misfit-3 : tie.Need-slice-aggregate-misfit-3
 slice-aggregate-misfit-3 c = search needs
@@ -47,14 +58,25 @@ slice-aggregate-misfit-4 c = search needs
 misfit-requires-2 : tie.Need-misfit-requires-2
 misfit-requires-2 c κs =
     let s = c .before .before .before .before .before in
-    let r = ok s in
-    ((sound-ranged _ (s .pre .0), s .pre .1 .from, s .pre .1 .upto), (refl, alone-length 744 (s .args .period) (s .args .quantity), zeros-small 744, alone-small 744 (s .args .period) (s .args .quantity) (omega arith) (s .pre .1 .quantity)))
+    let r = ok s in (
+      (sound-ranged _ (s .pre .0), s .pre .1 .from, s .pre .1 .upto),
+      (
+        refl,
+        alone-length 744 (s .args .period) (s .args .quantity),
+        zeros-small 744,
+        alone-small 744 (s .args .period) (s .args .quantity) (omega arith)
+            (s .pre .1 .quantity),
+      ),
+    )
 
 returns-2 : tie.Need-returns-2
 returns-2 c =
+    let c5 = c .before .before .before .before .before in
+    let c6 = c5 .before in
     let s = c .before .before .before .before .before .before .before .before in
     let r = ok s in
-    fit-lowering _ (s .pre .0) 744 _ _ _ _ _ (s .pre .1 .from) (s .pre .1 .upto) (omega arith) (s .pre .1 .direction) (sym (c .before .before .before .before .before .before .raises-net .ensures) ∙ c .before .before .before .before .before .if1 .left) (c .before .before .misfit2 .ensures)
+    fit-lowering _ (s .pre .0) 744 _ _ _ _ _ (s .pre .1 .from) (s .pre .1 .upto) (omega arith) (s .pre .1 .direction) (sym (c6 .raises-net .ensures)
+    ∙ c5 .if1 .left) (c .before .before .misfit2 .ensures)
 
 pub order-fit-spec : {M : Type 1} → statement M
 order-fit-spec =

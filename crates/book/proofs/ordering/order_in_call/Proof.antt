@@ -28,7 +28,8 @@ append-requires c κs = let r = ok (c .before .before .before .before) in (omega
 
 next-number-requires : tie.Need-next-number-requires
 next-number-requires c κs =
-    let r = ok (c .before .before .before .before .before .before .before .before) in
+    let c8 = c .before .before .before .before .before .before .before .before in
+    let r = ok c8 in
     let h = c .before .before .before .append .ensures in
     let a = h .low 4 (omega arith) (omega arith) in
     let l = h .long in
@@ -39,11 +40,16 @@ same-length c = search needs
 
 returns : tie.Need-returns
 returns c =
+    let c6 = c .before .before .before .before .before .before in
+    let c8 = c6 .before .before in
     let s = c .before .before .before .before .before .before .before .before .before .before .before in
     let r = ok s in
-    let h = put-same _ _ (c .before .before .before .before .before .before .before .before .fresh .ensures) _ _ (c .before .before .before .before .before .before .append .ensures) in
-    let n = c .before .before .next-number .ensures in
-    (called (s .args .book .now) _ _ _ _ _ _ _ (r .unitsTo) (r .offersTo) h (n .0), n .1 (bookWords (word (s .args .book .now) 0)) (omega arith) ∙ put-past _ _ _ h (bookWords (word (s .args .book .now) 0)) (omega arith))
+    let h = put-same _ _ (c8 .fresh .ensures) _ _ (c6 .append .ensures) in
+    let n = c .before .before .next-number .ensures in (
+      called (s .args .book .now) _ _ _ _ _ _ _ (r .unitsTo) (r .offersTo) h (n .0),
+      n .1 (bookWords (word (s .args .book .now) 0)) (omega arith)
+          ∙ put-past _ _ _ h (bookWords (word (s .args .book .now) 0)) (omega arith),
+    )
 
 pub order-in-call-spec : {M : Type 1} → statement M
 order-in-call-spec =

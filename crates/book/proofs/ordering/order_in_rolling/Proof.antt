@@ -2,7 +2,17 @@
 use native.Mathlib.Omega.{arith}
 use Rattle.book.specs.inner.Readable.{Readable}
 use Rattle.book.proofs.laws.answer.MadeLaws.{sound-readable}
-use Rattle.book.proofs.laws.order.RollCallLaws.{rows-lent, number-left, rest-room, waits-readable, waits-small, waits-rows, rows-room, number-room, rolled-on}
+use Rattle.book.proofs.laws.order.RollCallLaws.{
+  rows-lent,
+  number-left,
+  rest-room,
+  waits-readable,
+  waits-small,
+  waits-rows,
+  rows-room,
+  number-room,
+  rolled-on,
+}
 use Rattle.book.proofs.laws.order.RestWaitLaws.{waits-same, rolled-same}
 use borrow.Author.Needs.{needs}
 use Rattle.book.proofs.ordering.order_in_rolling.Statement.{statement}
@@ -17,7 +27,8 @@ slice-read-number c = let r = ok (c .before .before .before) in omega arith
 add-number : tie.Need-add-number
 add-number c =
     let s = c .before .before .before in
-    let n = number-left (s .args .book .now) (s .args .rows .now) (s .args .unit) (s .args .direction) (s .args .period) (s .args .price) (s .args .quantity) (s .pre .0) (s .pre .1) in
+    let n = number-left (s .args .book .now) (s .args .rows .now) (s .args .unit) (s .args .direction) (s .args .period) (s .args .price)
+    (s .args .quantity) (s .pre .0) (s .pre .1) in
     omega arith
 
 fresh-requires : tie.Need-fresh-requires
@@ -25,32 +36,51 @@ fresh-requires c κs = search needs
 
 meet-orders-requires : tie.Need-meet-orders-requires
 meet-orders-requires c κs =
-    let s = c .before .before .before .before .before .before in
-    (s .pre .0, rows-lent (s .args .book .now) (s .args .rows .now) (s .args .unit) (s .args .direction) (s .args .period) (s .args .price) (s .args .quantity) (s .pre .0) (s .pre .1))
+    let s = c .before .before .before .before .before .before in (
+      s .pre .0,
+      rows-lent (s .args .book .now) (s .args .rows .now) (s .args .unit) (s .args .direction) (s .args .period) (s .args .price)
+          (s .args .quantity) (s .pre .0) (s .pre .1),
+    )
 
 rest-waits-requires : tie.Need-rest-waits-requires
 rest-waits-requires c κs =
+    let c5 = c .before .before .before .before .before in
+    let c8 = c5 .before .before .before in
     let s = c .before .before .before .before .before .before .before .before .before .before .before .before in
-    rest-room (s .args .book .now) (s .args .rows .now) (s .args .unit) (s .args .direction) (s .args .period) (s .args .price) (s .args .quantity) (s .pre .0) (s .pre .1) _ _ _ _ (rolled-same _ _ (c .before .before .before .before .before .before .before .before .fresh .ensures) _ _ _ _ _ _ (c .before .before .before .before .before .meet-orders .ensures))
+    rest-room (s .args .book .now) (s .args .rows .now) (s .args .unit) (s .args .direction) (s .args .period) (s .args .price) (s .args .quantity)
+    (s .pre .0) (s .pre .1) _ _ _ _ (rolled-same _ _ (c8 .fresh .ensures) _ _ _ _ _ _ (c5 .meet-orders .ensures))
 
 book-rows-requires : tie.Need-book-rows-requires
 book-rows-requires c κs =
-    let s = c .before .before .before .before .before .before .before .before .before .before .before .before .before .before .before .before .before in
-    let h = rolled-same _ _ (c .before .before .before .before .before .before .before .before .before .before .before .before .before .fresh .ensures) _ _ _ _ _ _ (c .before .before .before .before .before .before .before .before .before .before .meet-orders .ensures) in
-    let w = waits-same _ _ (c .before .before .before .before .before .before .before .before .before .before .before .before .before .fresh .ensures) _ _ (c .before .before .before .before .before .before .before .before .before .before .meet-orders .result .left) (c .before .before .before .before .rest-waits .ensures) in
-    let t = rows-room (s .args .book .now) (s .args .rows .now) (s .args .unit) (s .args .direction) (s .args .period) (s .args .price) (s .args .quantity) (s .pre .0) (s .pre .1) _ _ _ _ h _ w in (
-      waits-readable (s .args .book .now) (s .args .rows .now) (s .args .unit) (s .args .direction) (s .args .period) (s .args .price) (s .args .quantity) (s .pre .0) (s .pre .1) _ _ _ _ h _ w,
+    let c4 = c .before .before .before .before in
+    let c10 = c4 .before .before .before .before .before .before in
+    let c13 = c10 .before .before .before in
+    let s = c13 .before .before .before .before in
+    let h = rolled-same _ _ (c13 .fresh .ensures) _ _ _ _ _ _ (c10 .meet-orders .ensures) in
+    let w = waits-same _ _ (c13 .fresh .ensures) _ _ (c10 .meet-orders .result .left) (c4 .rest-waits .ensures) in
+    let t = rows-room (s .args .book .now) (s .args .rows .now) (s .args .unit) (s .args .direction) (s .args .period) (s .args .price) (s .args .quantity)
+    (s .pre .0) (s .pre .1) _ _ _ _ h _ w in (
+      waits-readable (s .args .book .now) (s .args .rows .now) (s .args .unit) (s .args .direction) (s .args .period) (s .args .price) (s .args .quantity)
+          (s .pre .0) (s .pre .1) _ _ _ _ h _ w,
       t .0,
       t .1,
-      waits-rows (s .args .book .now) (s .args .rows .now) (s .args .unit) (s .args .direction) (s .args .period) (s .args .price) (s .args .quantity) (s .pre .0) (s .pre .1) _ _ _ _ h _ w,
-      waits-small (s .args .book .now) (s .args .rows .now) (s .args .unit) (s .args .direction) (s .args .period) (s .args .price) (s .args .quantity) (s .pre .0) (s .pre .1) _ _ _ _ h _ w,
+      waits-rows (s .args .book .now) (s .args .rows .now) (s .args .unit) (s .args .direction) (s .args .period) (s .args .price) (s .args .quantity)
+          (s .pre .0) (s .pre .1) _ _ _ _ h _ w,
+      waits-small (s .args .book .now) (s .args .rows .now) (s .args .unit) (s .args .direction) (s .args .period) (s .args .price) (s .args .quantity)
+          (s .pre .0) (s .pre .1) _ _ _ _ h _ w,
     )
 
 next-number-requires : tie.Need-next-number-requires
 next-number-requires c κs =
-    let s = c .before .before .before .before .before .before .before .before .before .before .before .before .before .before .before .before .before .before .before .before .before in
-    number-room (s .args .book .now) (s .args .rows .now) (s .args .unit) (s .args .direction) (s .args .period) (s .args .price) (s .args .quantity) (s .pre .0) (s .pre .1)
-    _ _ _ _ (rolled-same _ _ (c .before .before .before .before .before .before .before .before .before .before .before .before .before .before .before .before .before .fresh .ensures) _ _ _ _ _ _ (c .before .before .before .before .before .before .before .before .before .before .before .before .before .before .meet-orders .ensures)) _ (waits-same _ _ (c .before .before .before .before .before .before .before .before .before .before .before .before .before .before .before .before .before .fresh .ensures) _ _ (c .before .before .before .before .before .before .before .before .before .before .before .before .before .before .meet-orders .result .left) (c .before .before .before .before .before .before .before .before .rest-waits .ensures)) _ (c .before .before .before .book-rows .ensures)
+    let c3 = c .before .before .before in
+    let c8 = c3 .before .before .before .before .before in
+    let c14 = c8 .before .before .before .before .before .before in
+    let c17 = c14 .before .before .before in
+    let s = c17 .before .before .before .before in
+    number-room (s .args .book .now) (s .args .rows .now) (s .args .unit) (s .args .direction) (s .args .period) (s .args .price) (s .args .quantity)
+    (s .pre .0) (s .pre .1)
+    _ _ _ _ (rolled-same _ _ (c17 .fresh .ensures) _ _ _ _ _ _ (c14 .meet-orders .ensures)) _
+    (waits-same _ _ (c17 .fresh .ensures) _ _ (c14 .meet-orders .result .left) (c8 .rest-waits .ensures)) _ (c3 .book-rows .ensures)
 
 same-length : tie.Need-same-length
 same-length c = search needs
@@ -60,9 +90,16 @@ same-length-2 c = search needs
 
 returns : tie.Need-returns
 returns c =
-    let s = c .before .before .before .before .before .before .before .before .before .before .before .before .before .before .before .before .before .before .before .before .before .before .before .before in
-    rolled-on (s .args .book .now) (s .args .rows .now) (s .args .unit) (s .args .direction) (s .args .period) (s .args .price) (s .args .quantity) (s .pre .0) (s .pre .1)
-    _ _ _ _ (rolled-same _ _ (c .before .before .before .before .before .before .before .before .before .before .before .before .before .before .before .before .before .before .before .before .fresh .ensures) _ _ _ _ _ _ (c .before .before .before .before .before .before .before .before .before .before .before .before .before .before .before .before .before .meet-orders .ensures)) _ (waits-same _ _ (c .before .before .before .before .before .before .before .before .before .before .before .before .before .before .before .before .before .before .before .before .fresh .ensures) _ _ (c .before .before .before .before .before .before .before .before .before .before .before .before .before .before .before .before .before .meet-orders .result .left) (c .before .before .before .before .before .before .before .before .before .before .before .rest-waits .ensures)) _ (c .before .before .before .before .before .before .book-rows .ensures) _ (c .before .before .next-number .ensures .0) (c .before .before .next-number .ensures .1)
+    let c6 = c .before .before .before .before .before .before in
+    let c11 = c6 .before .before .before .before .before in
+    let c17 = c11 .before .before .before .before .before .before in
+    let c20 = c17 .before .before .before in
+    let s = c20 .before .before .before .before in
+    rolled-on (s .args .book .now) (s .args .rows .now) (s .args .unit) (s .args .direction) (s .args .period) (s .args .price) (s .args .quantity)
+    (s .pre .0) (s .pre .1)
+    _ _ _ _ (rolled-same _ _ (c20 .fresh .ensures) _ _ _ _ _ _ (c17 .meet-orders .ensures)) _
+    (waits-same _ _ (c20 .fresh .ensures) _ _ (c17 .meet-orders .result .left) (c11 .rest-waits .ensures)) _ (c6 .book-rows .ensures) _
+    (c .before .before .next-number .ensures .0) (c .before .before .next-number .ensures .1)
 
 pub order-in-rolling-spec : {M : Type 1} → statement M
 order-in-rolling-spec =

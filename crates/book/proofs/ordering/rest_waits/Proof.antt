@@ -19,7 +19,10 @@ same-length : tie.Need-same-length
 same-length c = search needs
 
 returns-2 : tie.Need-returns-2
-returns-2 c = rest-some _ _ (orderOf (c .before .before .before .before .before .before .before .args .o)) (c .before .before .before .before .before .before .before .args .left) (omega arith) (put-same _ _ (c .before .before .before .before .leaving .ensures) _ _ (c .before .before .append .ensures))
+returns-2 c =
+    let c4 = c .before .before .before .before in
+    let c7 = c4 .before .before .before in
+    rest-some _ _ (orderOf (c7 .args .o)) (c7 .args .left) (omega arith) (put-same _ _ (c4 .leaving .ensures) _ _ (c .before .before .append .ensures))
 
 pub rest-waits-spec : {M : Type 1} → statement M
 rest-waits-spec = tie.close (tie.spec returns leaving-requires append-requires same-length returns-2)

@@ -12,7 +12,8 @@ use Rattle.book.proofs.ordering.unit_orders.Statement.{statement}
 use Rattle.book.proofs.ordering.unit_orders.Tie as tie
 
 abbrev Inv-loop : tie.InvT-loop
-Inv-loop book unit direction period n stand₀ against₀ k₀ stand against k = (k ≤ word book 7) × (stand ≤ k) × (against ≤ k) × (stand ≡ sum k (ofUnitAt book unit period)) × (against ≡ sum k (againstAt book unit direction period))
+Inv-loop book unit direction period n stand₀ against₀ k₀ stand against k = (k ≤ word book 7) × (stand ≤ k) × (against ≤ k)
+    × (stand ≡ sum k (ofUnitAt book unit period)) × (against ≡ sum k (againstAt book unit direction period))
 
 abbrev μ-loop : tie.MeasureT-loop
 μ-loop book unit direction period n stand₀ against₀ k₀ stand against k = word book 7 - k
@@ -43,8 +44,15 @@ loop-less c = search needs
 
 loop-again : tie.Need-loop-again Inv-loop μ-loop
 loop-again c =
-    let l = c .before .before .before .loop in
-    (omega arith, omega arith, omega arith, counting-more _ _ _ _ (l .inv .3) (c .before .of-unit-at .ensures .1), counting-more _ _ _ _ (l .inv .4) (c .against-at .ensures .1))
+    let c3 = c .before .before .before in
+    let l = c3 .loop in (
+      omega arith,
+      omega arith,
+      omega arith,
+      counting-more _ _ _ _ (l .inv .3) (c .before .of-unit-at .ensures .1),
+      counting-more _ _ _ _ (l .inv .4)
+          (c .against-at .ensures .1),
+    )
 
 returns : tie.Need-returns Inv-loop μ-loop
 returns c = (counting-end _ _ _ _ (c .before .loop .inv .3) (omega arith), counting-end _ _ _ _ (c .before .loop .inv .4) (omega arith))

@@ -32,13 +32,15 @@ slice-aggregate-order-stands-2 c = search needs
 
 order-stands-requires : tie.Need-order-stands-requires Inv-loop μ-loop
 order-stands-requires c κs =
-    let g = c .before .before .before .before .before .before .before .before .pre in
+    let c8 = c .before .before .before .before .before .before .before .before in
+    let g = c8 .pre in
     let l = c .before .before .before .loop in
     (g .0, g .1, omega arith, g .2, g .3, g .4, g .5, l .inv .3 .passed, l .inv .1, l .inv .2, l .inv .3 .prices)
 
 returns : tie.Need-returns Inv-loop μ-loop
 returns c =
-    let l = c .before .before .before .before .before .before .before .loop in
+    let c7 = c .before .before .before .before .before .before .before in
+    let l = c7 .loop in
     stood-fails _ (l .k) (l .high) (l .low) _ _ (l .inv .3) _ (c .before .before .before .order-stands .ensures) (omega arith) (not-true _ (c .if1 .taken))
 
 add-k : tie.Need-add-k Inv-loop μ-loop
@@ -49,9 +51,16 @@ loop-less c = search needs
 
 loop-again : tie.Need-loop-again Inv-loop μ-loop
 loop-again c =
-    let l = c .before .before .before .before .before .before .before .loop in
-    let o = c .before .before .before .order-stands in
-    (search needs, o .kept .1 .1 .1 .1 .0 ∙ l .inv .1, o .kept .1 .1 .1 .1 .1 .0 ∙ l .inv .2, stood-more _ (l .k) (l .high) (l .low) _ _ (l .inv .3) _ (o .ensures) (not-false _ (c .if1 .left)))
+    let c3 = c .before .before .before in
+    let c7 = c3 .before .before .before .before in
+    let l = c7 .loop in
+    let o = c3 .order-stands in (
+      search needs,
+      o .kept .1 .1 .1 .1 .0 ∙ l .inv .1,
+      o .kept .1 .1 .1 .1 .1 .0
+          ∙ l .inv .2,
+      stood-more _ (l .k) (l .high) (l .low) _ _ (l .inv .3) _ (o .ensures) (not-false _ (c .if1 .left)),
+    )
 
 returns-2 : tie.Need-returns-2 Inv-loop μ-loop
 returns-2 c =

@@ -49,20 +49,23 @@ mul-if2 c =
 
 shared-slice-read-if2 : tie.Need-shared-slice-read-if2
 shared-slice-read-if2 c =
-    let a = c .before .before .before .before .before .args in
-    let g = c .before .before .before .before .before .pre in
+    let c5 = c .before .before .before .before .before in
+    let a = c5 .args in
+    let g = c5 .pre in
     omega (arith, order-words (a .book .now) (a .k) (g .0) (g .2) .period, g .0 .readable .daysTo)
 
 returns : tie.Need-returns
 returns c =
-    let a = c .before .before .before .before .before .before .args in
-    let g = c .before .before .before .before .before .before .pre in
+    let c6 = c .before .before .before .before .before .before in
+    let a = c6 .args in
+    let g = c6 .pre in
     ap not (buy-crosses (a .book .now) (g .0) (a .k) (g .2) (a .high .now) (a .low .now) (g .5) (g .1) (c .before .before .if1 .taken) (c .if2 .taken))
 
 returns-2 : tie.Need-returns-2
 returns-2 c =
-    let a = c .before .before .before .before .before .before .args in
-    let g = c .before .before .before .before .before .before .pre in
+    let c6 = c .before .before .before .before .before .before in
+    let a = c6 .args in
+    let g = c6 .pre in
     ap not (buy-apart (a .book .now) (g .0) (a .k) (g .2) (a .high .now) (a .low .now) (g .5) (c .before .before .if1 .taken) (c .if2 .left))
 
 mul-if3 : tie.Need-mul-if3
@@ -73,21 +76,26 @@ mul-if3 c =
 
 shared-slice-read-if3 : tie.Need-shared-slice-read-if3
 shared-slice-read-if3 c =
-    let a = c .before .before .before .before .before .args in
-    let g = c .before .before .before .before .before .pre in
+    let c5 = c .before .before .before .before .before in
+    let a = c5 .args in
+    let g = c5 .pre in
     omega (arith, order-words (a .book .now) (a .k) (g .0) (g .2) .period, g .0 .readable .daysTo)
 
 returns-3 : tie.Need-returns-3
 returns-3 c =
-    let a = c .before .before .before .before .before .before .args in
-    let g = c .before .before .before .before .before .before .pre in
-    ap not (sell-crosses (a .book .now) (g .0) (a .k) (g .2) (a .high .now) (a .low .now) (g .5) (is-sale (a .book .now) (g .0) (a .k) (g .2) (a .high .now) (a .low .now) (g .5) (c .before .before .if1 .left)) (c .if3 .taken))
+    let c6 = c .before .before .before .before .before .before in
+    let a = c6 .args in
+    let g = c6 .pre in
+    ap not (sell-crosses (a .book .now) (g .0) (a .k) (g .2) (a .high .now) (a .low .now) (g .5)
+    (is-sale (a .book .now) (g .0) (a .k) (g .2) (a .high .now) (a .low .now) (g .5) (c .before .before .if1 .left)) (c .if3 .taken))
 
 returns-4 : tie.Need-returns-4
 returns-4 c =
-    let a = c .before .before .before .before .before .before .args in
-    let g = c .before .before .before .before .before .before .pre in
-    ap not (sell-apart (a .book .now) (g .0) (a .k) (g .2) (a .high .now) (a .low .now) (g .5) (is-sale (a .book .now) (g .0) (a .k) (g .2) (a .high .now) (a .low .now) (g .5) (c .before .before .if1 .left)) (c .if3 .left))
+    let c6 = c .before .before .before .before .before .before in
+    let a = c6 .args in
+    let g = c6 .pre in
+    ap not (sell-apart (a .book .now) (g .0) (a .k) (g .2) (a .high .now) (a .low .now) (g .5)
+    (is-sale (a .book .now) (g .0) (a .k) (g .2) (a .high .now) (a .low .now) (g .5) (c .before .before .if1 .left)) (c .if3 .left))
 
 pub crosses-spec : {M : Type 1} → statement M
 crosses-spec =

@@ -66,7 +66,10 @@ shared-slice-read-if2-2 : tie.Need-shared-slice-read-if2-2 Inv-loop μ-loop
 shared-slice-read-if2-2 c = search needs
 
 returns-2 : tie.Need-returns-2 Inv-loop μ-loop
-returns-2 c = alike-by-unit _ _ _ (c .before .before .before .before .before .loop .b) (c .before .before .before .before .before .loop .inv) (c .before .before .before .before .loop-test .taken) (c .if2 .taken)
+returns-2 c =
+    let c4 = c .before .before .before .before in
+    let c5 = c4 .before in
+    alike-by-unit _ _ _ (c5 .loop .b) (c5 .loop .inv) (c4 .loop-test .taken) (c .if2 .taken)
 
 sub-if3 : tie.Need-sub-if3 Inv-loop μ-loop
 sub-if3 c = search needs
@@ -102,7 +105,10 @@ shared-slice-read-if3-2 : tie.Need-shared-slice-read-if3-2 Inv-loop μ-loop
 shared-slice-read-if3-2 c = search needs
 
 returns-3 : tie.Need-returns-3 Inv-loop μ-loop
-returns-3 c = alike-by-period _ _ (c .before .before .before .before .before .before .before .before .loop .a) _ (c .before .before .before .before .before .before .before .before .loop .inv) (c .before .before .before .before .before .before .if1 .left) (c .if3 .taken)
+returns-3 c =
+    let c6 = c .before .before .before .before .before .before in
+    let c8 = c6 .before .before in
+    alike-by-period _ _ (c8 .loop .a) _ (c8 .loop .inv) (c6 .if1 .left) (c .if3 .taken)
 
 sub-a : tie.Need-sub-a Inv-loop μ-loop
 sub-a c = search needs
@@ -124,18 +130,26 @@ shared-slice-read-b-2 c = search needs
 
 loop-less : tie.Need-loop-less Inv-loop μ-loop
 loop-less c =
-    let g = c .before .before .before .before .before .before .before .before .before .before .before .before .before .pre in
-    let l = c .before .before .before .before .before .before .before .before .before .before .loop in
+    let c10 = c .before .before .before .before .before .before .before .before .before .before in
+    let c13 = c10 .before .before .before in
+    let g = c13 .pre in
+    let l = c10 .loop in
     let w = l .inv .fewUnit in
     omega (arith, g .4 (l .a - 1) (omega arith) .to)
 
 loop-again : tie.Need-loop-again Inv-loop μ-loop
 loop-again c =
-    let g = c .before .before .before .before .before .before .before .before .before .before .before .before .before .pre in
-    let l = c .before .before .before .before .before .before .before .before .before .before .loop in
+    let c5 = c .before .before .before .before .before in
+    let c8 = c5 .before .before .before in
+    let c9 = c8 .before in
+    let c10 = c9 .before in
+    let c13 = c10 .before .before .before in
+    let g = c13 .pre in
+    let l = c10 .loop in
     let w = l .inv .fewUnit in
     let v = l .inv .fewPeriod in
-    seeking-more _ _ (l .a) (l .b) (l .inv) _ _ (c .before .before .before .before .before .before .before .before .before .loop-test .taken) (omega (arith, c .before .before .before .before .before .before .before .before .if1 .left)) (c .before .before .before .before .before .if2 .left) (c .before .before .if3 .left) (g .4 (l .a - 1) (omega arith)) (g .5 (l .b - 1) (omega arith))
+    seeking-more _ _ (l .a) (l .b) (l .inv) _ _ (c9 .loop-test .taken) (omega (arith, c8 .if1 .left)) (c5 .if2 .left) (c .before .before .if3 .left)
+    (g .4 (l .a - 1) (omega arith)) (g .5 (l .b - 1) (omega arith))
 
 returns-4 : tie.Need-returns-4 Inv-loop μ-loop
 returns-4 c = none-of-unit _ _ _ (c .before .loop .b) (c .before .loop .inv) (omega arith)

@@ -24,7 +24,11 @@ same-length : tie.Need-same-length
 same-length c = search needs
 
 returns : tie.Need-returns
-returns c = (sym (high-new _ _ _ _ (c .before .before .if1 .taken) (c .if2 .taken)), sym (low-not _ _ _ _ (λ n. absurd (n (c .before .before .if1 .taken)))))
+returns c = (
+  sym (high-new _ _ _ _ (c .before .before .if1 .taken) (c .if2 .taken)),
+  sym
+      (low-not _ _ _ _ (λ n. absurd (n (c .before .before .if1 .taken)))),
+)
 
 returns-2 : tie.Need-returns-2
 returns-2 c = (sym (high-not _ _ _ _ (λ _. c .if2 .left)), sym (low-not _ _ _ _ (λ n. absurd (n (c .before .before .if1 .taken)))))

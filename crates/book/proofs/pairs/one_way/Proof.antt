@@ -10,7 +10,8 @@ find-alike-requires c κs = search needs
 
 returns : tie.Need-returns
 returns c =
-    let g = c .before .before .before .before .before .pre in
+    let c5 = c .before .before .before .before .before in
+    let g = c5 .pre in
     let n = g .0 .readable .ordersTo in
     way-alone _ _ (omega arith) _ (c .if1 .taken) (c .before .find-alike .ensures)
 
@@ -49,7 +50,8 @@ shared-slice-read-result-2 c = search needs
 
 returns-2 : tie.Need-returns-2
 returns-2 c =
-    let g = c .before .before .before .before .before .before .before .pre in
+    let c7 = c .before .before .before .before .before .before .before in
+    let g = c7 .pre in
     let n = g .0 .readable .ordersTo in
     way-tested _ _ (omega arith) _ (c .before .before .if1 .left) (c .before .before .before .find-alike .ensures) (g .6)
 

@@ -19,7 +19,8 @@ returns-2 c = stands-called _ _ _ _ _ (c .before .before .before .one-way .ensur
 
 stands-apart-requires : tie.Need-stands-apart-requires
 stands-apart-requires c κs =
-    let g = c .before .before .before .before .before .before .before .before .before .before .before .pre in
+    let c11 = c .before .before .before .before .before .before .before .before .before .before .before in
+    let g = c11 .pre in
     (g .0, g .1, g .2, g .8, g .9, g .10 (c .before .before .if2 .left))
 
 same-length : tie.Need-same-length
@@ -29,7 +30,12 @@ same-length-2 : tie.Need-same-length-2
 same-length-2 c = search needs
 
 returns-3 : tie.Need-returns-3
-returns-3 c = stands-rolling _ _ _ _ _ _ (c .before .before .before .before .before .before .before .before .before .before .one-way .ensures) (not-false _ (c .before .before .before .before .before .before .before .before .before .if1 .left)) (c .before .before .before .before .before .before .before .if2 .left) (c .before .before .before .before .stands-apart .ensures)
+returns-3 c =
+    let c4 = c .before .before .before .before in
+    let c7 = c4 .before .before .before in
+    let c9 = c7 .before .before in
+    let c10 = c9 .before in
+    stands-rolling _ _ _ _ _ _ (c10 .one-way .ensures) (not-false _ (c9 .if1 .left)) (c7 .if2 .left) (c4 .stands-apart .ensures)
 
 pub order-stands-spec : {M : Type 1} → statement M
 order-stands-spec =

@@ -26,7 +26,8 @@ slice-aggregate-link-orders-2 c = search needs
 
 link-orders-requires : tie.Need-link-orders-requires
 link-orders-requires c κs =
-    let g = c .before .before .before .before .before .before .pre in
+    let c6 = c .before .before .before .before .before .before in
+    let g = c6 .pre in
     (g .0, omega arith, refl, zeros-below 65 0, λ k h. let d = g .0 .readable .unitsTo in omega (arith, order-words _ k (g .0) h .unit .1))
 
 slice-aggregate-all-stand : tie.Need-slice-aggregate-all-stand

@@ -55,8 +55,9 @@ shared-slice-read-note-price-2 c = search needs
 
 note-price-requires : tie.Need-note-price-requires
 note-price-requires c κs =
-    let a = c .before .before .before .before .before .before .before .before .before .before .before .before .args in
-    let g = c .before .before .before .before .before .before .before .before .before .before .before .before .pre in
+    let c12 = c .before .before .before .before .before .before .before .before .before .before .before .before in
+    let a = c12 .args in
+    let g = c12 .pre in
     let o = order-words (a .book .now) (a .k) (g .0) (g .2) in
     (omega (arith, o .period, g .0 .readable .daysTo), omega (arith, o .price .1), g .3, g .4)
 
@@ -68,10 +69,15 @@ same-length-4 c = search needs
 
 returns-2 : tie.Need-returns-2
 returns-2 c =
-    let a = c .before .before .before .before .before .before .before .before .before .before .before .before .before .before .before .before .before .args in
-    let g = c .before .before .before .before .before .before .before .before .before .before .before .before .before .before .before .before .before .pre in
-    let n = c .before .before .before .before .note-price .ensures in
-    rw (n .0, n .1) (priced (a .book .now) (g .0) (a .k) (g .2) (a .high .now) (a .low .now) (g .5) _ (c .before .before .before .before .before .before .before .before .before .before .before .crosses .ensures) (c .before .before .before .before .before .before .before .before .before .before .if1 .left) (g .3) (g .4))
+    let c4 = c .before .before .before .before in
+    let c10 = c4 .before .before .before .before .before .before in
+    let c11 = c10 .before in
+    let c17 = c11 .before .before .before .before .before .before in
+    let a = c17 .args in
+    let g = c17 .pre in
+    let n = c4 .note-price .ensures in
+    rw (n .0, n .1) (priced (a .book .now) (g .0) (a .k) (g .2) (a .high .now) (a .low .now) (g .5) _ (c11 .crosses .ensures) (c10 .if1 .left) (g .3)
+    (g .4))
 
 pub stands-apart-spec : {M : Type 1} → statement M
 stands-apart-spec =

@@ -13,8 +13,9 @@ sweep-requires c κs = search needs
 
 book-rows-requires : tie.Need-book-rows-requires
 book-rows-requires c κs =
+    let c6 = c .before .before .before .before .before .before in
     let s = c .before .before .before .before .before .before .before .before .before .before .before in
-    let w = c .before .before .before .before .before .before .sweep in
+    let w = c6 .sweep in
     let f = w .ensures .few in (
       swept-readable _ _ _ _ _ (s .pre .0) (s .pre .1) (w .ensures),
       swept-room _ _ _ _ _ (s .pre .0) (s .pre .1) (w .ensures),
@@ -25,14 +26,17 @@ book-rows-requires c κs =
 
 slice-write-book : tie.Need-slice-write-book
 slice-write-book c =
-    let r = sound-readable (c .before .before .before .before .before .before .before .before .before .before .before .before .before .before .args .book .now) (c .before .before .before .before .before .before .before .before .before .before .before .before .before .before .pre .0) in
-    let a = c .before .before .before .before .before .before .before .before .before .sweep .ensures .long in
+    let c9 = c .before .before .before .before .before .before .before .before .before in
+    let c14 = c9 .before .before .before .before .before in
+    let r = sound-readable (c14 .args .book .now) (c14 .pre .0) in
+    let a = c9 .sweep .ensures .long in
     let b = c .before .before .book-rows .ensures .kept .long in
     omega arith
 
 same-length : tie.Need-same-length
 same-length c =
-    let w = c .before .before .before .before .before .before .before .before .before .sweep in
+    let c9 = c .before .before .before .before .before .before .before .before .before in
+    let w = c9 .sweep in
     let b = c .before .before .book-rows in
     length-set (b .last .0) 3 1 ∙ b .ensures .kept .long ∙ w .ensures .long
 
@@ -40,7 +44,10 @@ same-length-2 : tie.Need-same-length-2
 same-length-2 c = search needs
 
 returns : tie.Need-returns
-returns c = all-cleared _ _ _ _ _ _ (c .before .before .before .before .before .before .before .before .before .before .before .before .before .before .pre .0) (c .before .before .before .before .before .before .before .before .before .before .before .before .before .before .pre .1) (c .before .before .before .before .before .before .before .before .before .sweep .ensures) (c .before .before .book-rows .ensures)
+returns c =
+    let c9 = c .before .before .before .before .before .before .before .before .before in
+    let c14 = c9 .before .before .before .before .before in
+    all-cleared _ _ _ _ _ _ (c14 .pre .0) (c14 .pre .1) (c9 .sweep .ensures) (c .before .before .book-rows .ensures)
 
 pub clear-effect-spec : {M : Type 1} → statement M
 clear-effect-spec =

@@ -18,8 +18,9 @@ shared-slice-read-if1-2 c = search needs
 
 returns : tie.Need-returns
 returns c =
-    let a = c .before .before .before .before .before .before .before .args in
-    stepped-by (a .orders .now) (a .rows .now) (a .n) (a .period) (a .count) (a .high .now) (a .low .now) (c .before .before .before .before .before .before .before .pre .4) (c .if1 .taken)
+    let c7 = c .before .before .before .before .before .before .before in
+    let a = c7 .args in
+    stepped-by (a .orders .now) (a .rows .now) (a .n) (a .period) (a .count) (a .high .now) (a .low .now) (c7 .pre .4) (c .if1 .taken)
 
 clear-one-requires : tie.Need-clear-one-requires
 clear-one-requires c κs = search needs

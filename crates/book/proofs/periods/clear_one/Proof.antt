@@ -25,7 +25,8 @@ part-clear-fit-end : tie.Need-part-clear-fit-end
 part-clear-fit-end c = search needs
 
 clear-fit-requires : tie.Need-clear-fit-requires
-clear-fit-requires c κs = let s = c .before .before .before .before in fit-part (s .args .orders .now) (s .args .rows .now) (s .args .n) (s .args .period) (s .args .count) (s .pre)
+clear-fit-requires c κs = let s = c .before .before .before .before in fit-part (s .args .orders .now) (s .args .rows .now) (s .args .n) (s .args .period)
+    (s .args .count) (s .pre)
 
 enum-told : tie.Need-enum-told
 enum-told c = search needs
@@ -35,8 +36,11 @@ enum-known-l c = search needs
 
 add-t18 : tie.Need-add-t18
 add-t18 c =
-    let f : c .before .l .given .0 .1 .0 ≤ 256 = step-few _ _ _ _ _ (c .before .before .before .before .before .before .before .before .before .before .before .before .pre) _ _ _ (c .before .before .before .before .before .before .before .clear-fit .ensures) _ (ap (λ (a : Matched). answerOf a .count) (c .before .l .given .1)) in
-    let r = c .before .before .before .before .before .before .before .before .before .before .before .before .pre .lent in
+    let c7 = c .before .before .before .before .before .before .before in
+    let c12 = c7 .before .before .before .before .before in
+    let f : c .before .l .given .0 .1 .0 ≤ 256 = step-few _ _ _ _ _ (c12 .pre) _ _ _ (c7 .clear-fit .ensures) _
+    (ap (λ (a : Matched). answerOf a .count) (c .before .l .given .1)) in
+    let r = c12 .pre .lent in
     omega arith
 
 same-length : tie.Need-same-length
@@ -46,7 +50,10 @@ same-length-2 : tie.Need-same-length-2
 same-length-2 c = search needs
 
 returns : tie.Need-returns
-returns c = never-unfit _ _ _ _ _ (c .before .before .before .before .before .before .before .before .before .before .before .pre) _ _ _ (c .before .before .before .before .before .before .clear-fit .ensures) (ap (λ (a : Matched). answerOf a .fits) (c .enum-told .given .1))
+returns c =
+    let c6 = c .before .before .before .before .before .before in
+    let c11 = c6 .before .before .before .before .before in
+    never-unfit _ _ _ _ _ (c11 .pre) _ _ _ (c6 .clear-fit .ensures) (ap (λ (a : Matched). answerOf a .fits) (c .enum-told .given .1))
 
 same-length-3 : tie.Need-same-length-3
 same-length-3 c = search needs
@@ -55,7 +62,11 @@ same-length-4 : tie.Need-same-length-4
 same-length-4 c = search needs
 
 returns-2 : tie.Need-returns-2
-returns-2 c = stepped _ _ _ _ _ (c .before .before .before .before .before .before .before .before .before .before .before .before .pre) _ _ _ (c .before .before .before .before .before .before .before .clear-fit .ensures) _ _ (ap (λ (a : Matched). answerOf a .count) (c .before .l .given .1)) (ap (λ (a : Matched). answerOf a .standing) (c .before .l .given .1))
+returns-2 c =
+    let c7 = c .before .before .before .before .before .before .before in
+    let c12 = c7 .before .before .before .before .before in
+    stepped _ _ _ _ _ (c12 .pre) _ _ _ (c7 .clear-fit .ensures) _ _ (ap (λ (a : Matched). answerOf a .count) (c .before .l .given .1))
+    (ap (λ (a : Matched). answerOf a .standing) (c .before .l .given .1))
 
 pub clear-one-spec : {M : Type 1} → statement M
 clear-one-spec =

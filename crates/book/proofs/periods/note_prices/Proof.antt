@@ -55,8 +55,10 @@ shared-slice-read-note-price-3 c = search needs
 
 note-price-requires : tie.Need-note-price-requires Inv-loop μ-loop
 note-price-requires c κs =
-    let g = c .before .before .before .before .before .before .before .before .before .before .pre in
-    let l = c .before .before .before .before .before .before .loop in
+    let c6 = c .before .before .before .before .before .before in
+    let c10 = c6 .before .before .before .before in
+    let g = c10 .pre in
+    let l = c6 .loop in
     let t = g .4 (l .k) (omega arith) in
     (t .0, t .1, l .inv .1, l .inv .2)
 
@@ -68,11 +70,20 @@ loop-less c = search needs
 
 loop-again : tie.Need-loop-again Inv-loop μ-loop
 loop-again c =
-    let a = c .before .before .before .before .before .before .before .before .before .before .before .before .before .before .before .args in
-    let l = c .before .before .before .before .before .before .before .before .before .before .before .loop in
-    let d = c .before .before .before .before .note-price in
-    let t = c .before .before .before .before .before .before .before .before .before .before .before .before .before .before .before .pre .4 (l .k) (omega arith) in
-    (search needs, d .kept .1 .1 .1 .0 ∙ l .inv .1, d .kept .1 .1 .1 .1 .0 ∙ l .inv .2, rw (d .ensures .0, d .ensures .1) (noted-more (a .orders .now) (l .high) (l .low) (l .k) (l .inv .3) (omega (arith, l .inv .1, t .0)) (omega (arith, l .inv .2, t .0))))
+    let c4 = c .before .before .before .before in
+    let c11 = c4 .before .before .before .before .before .before .before in
+    let c15 = c11 .before .before .before .before in
+    let a = c15 .args in
+    let l = c11 .loop in
+    let d = c4 .note-price in
+    let t = c15 .pre .4 (l .k) (omega arith) in (
+      search needs,
+      d .kept .1 .1 .1 .0 ∙ l .inv .1,
+      d .kept .1 .1 .1 .1 .0
+          ∙ l .inv .2,
+      rw (d .ensures .0, d .ensures .1) (noted-more (a .orders .now) (l .high) (l .low) (l .k) (l .inv .3) (omega (arith, l .inv .1, t .0))
+          (omega (arith, l .inv .2, t .0))),
+    )
 
 same-length : tie.Need-same-length Inv-loop μ-loop
 same-length c = search needs

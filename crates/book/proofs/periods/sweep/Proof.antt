@@ -37,7 +37,9 @@ clear-orders-requires c κs =
     (clear-asks _ _ (s .pre .0) (s .pre .1), omega arith, orders-below _ (s .pre .0))
 
 slice-write-book : tie.Need-slice-write-book
-slice-write-book c = let r = ok (c .before .before .before .before .before .before .before .before .before .before .before) in omega arith
+slice-write-book c =
+    let c11 = c .before .before .before .before .before .before .before .before .before .before .before in
+    let r = ok c11 in omega arith
 
 same-length : tie.Need-same-length
 same-length c = search needs
@@ -47,9 +49,10 @@ same-length-2 c = search needs
 
 returns : tie.Need-returns
 returns c =
+    let c4 = c .before .before .before .before in
     let s = c .before .before .before .before .before .before .before .before .before .before .before in
     let r = ok s in
-    swept _ _ _ _ _ _ (s .pre .0) (c .before .before .before .before .clear-orders .kept .0 ∙ mid-len 240 1776 (s .args .book .now) (omega arith)) (c .before .before .before .before .clear-orders .ensures)
+    swept _ _ _ _ _ _ (s .pre .0) (c4 .clear-orders .kept .0 ∙ mid-len 240 1776 (s .args .book .now) (omega arith)) (c4 .clear-orders .ensures)
 
 pub sweep-spec : {M : Type 1} → statement M
 sweep-spec =

@@ -61,7 +61,17 @@ returns-10 : tie.Need-returns-10
 returns-10 c =
     sym
     (head-holds _
-    (record { days = omega arith; prices = omega arith; ceiling = omega arith; phase = omega arith; given = omega arith; units = omega arith; offers = omega arith; orders = omega arith }))
+    (record {
+      days = omega arith;
+      prices = omega arith;
+      ceiling = omega arith;
+      phase = omega arith;
+      given = omega arith;
+      units = omega arith;
+      offers = omega
+          arith;
+      orders = omega arith;
+    }))
 
 pub head-in-spec : {M : Type 1} → statement M
 head-in-spec =

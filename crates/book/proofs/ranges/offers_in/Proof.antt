@@ -30,7 +30,9 @@ offer-in-requires : tie.Need-offer-in-requires Inv-loop μ-loop
 offer-in-requires c κs = search needs
 
 returns : tie.Need-returns Inv-loop μ-loop
-returns c = sym (offers-every _ ∙ all-fails _ _ (c .before .before .before .loop .j) (omega arith) (sym (c .before .offer-in .ensures) ∙ not-true _ (c .if1 .taken)))
+returns c =
+    let c3 = c .before .before .before in
+    sym (offers-every _ ∙ all-fails _ _ (c3 .loop .j) (omega arith) (sym (c .before .offer-in .ensures) ∙ not-true _ (c .if1 .taken)))
 
 add-j : tie.Need-add-j Inv-loop μ-loop
 add-j c = search needs
@@ -39,7 +41,9 @@ loop-less : tie.Need-loop-less Inv-loop μ-loop
 loop-less c = search needs
 
 loop-again : tie.Need-loop-again Inv-loop μ-loop
-loop-again c = (search needs, all-more (c .before .before .before .loop .j) _ (c .before .before .before .loop .inv .1) (sym (c .before .offer-in .ensures) ∙ not-false _ (c .if1 .left)))
+loop-again c =
+    let c3 = c .before .before .before in
+    (search needs, all-more (c3 .loop .j) _ (c3 .loop .inv .1) (sym (c .before .offer-in .ensures) ∙ not-false _ (c .if1 .left)))
 
 returns-2 : tie.Need-returns-2 Inv-loop μ-loop
 returns-2 c =

@@ -30,7 +30,9 @@ order-in-requires : tie.Need-order-in-requires Inv-loop μ-loop
 order-in-requires c κs = search needs
 
 returns : tie.Need-returns Inv-loop μ-loop
-returns c = sym (orders-every _ ∙ all-fails _ _ (c .before .before .before .loop .k) (omega arith) (sym (c .before .order-in .ensures) ∙ not-true _ (c .if1 .taken)))
+returns c =
+    let c3 = c .before .before .before in
+    sym (orders-every _ ∙ all-fails _ _ (c3 .loop .k) (omega arith) (sym (c .before .order-in .ensures) ∙ not-true _ (c .if1 .taken)))
 
 add-k : tie.Need-add-k Inv-loop μ-loop
 add-k c = search needs
@@ -39,7 +41,9 @@ loop-less : tie.Need-loop-less Inv-loop μ-loop
 loop-less c = search needs
 
 loop-again : tie.Need-loop-again Inv-loop μ-loop
-loop-again c = (search needs, all-more (c .before .before .before .loop .k) _ (c .before .before .before .loop .inv .1) (sym (c .before .order-in .ensures) ∙ not-false _ (c .if1 .left)))
+loop-again c =
+    let c3 = c .before .before .before in
+    (search needs, all-more (c3 .loop .k) _ (c3 .loop .inv .1) (sym (c .before .order-in .ensures) ∙ not-false _ (c .if1 .left)))
 
 returns-2 : tie.Need-returns-2 Inv-loop μ-loop
 returns-2 c =

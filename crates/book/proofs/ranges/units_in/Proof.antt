@@ -37,7 +37,9 @@ loop-less : tie.Need-loop-less Inv-loop μ-loop
 loop-less c = search needs
 
 loop-again : tie.Need-loop-again Inv-loop μ-loop
-loop-again c = (search needs, all-more (c .before .before .before .loop .k) _ (c .before .before .before .loop .inv .1) (sym (c .before .unit-in .ensures) ∙ not-false _ (c .if1 .left)))
+loop-again c =
+    let c3 = c .before .before .before in
+    (search needs, all-more (c3 .loop .k) _ (c3 .loop .inv .1) (sym (c .before .unit-in .ensures) ∙ not-false _ (c .if1 .left)))
 
 returns-2 : tie.Need-returns-2 Inv-loop μ-loop
 returns-2 c =

@@ -24,7 +24,8 @@ use Rattle.book.proofs.sound.sound_book.Tie as tie
 headed : (c : tie.Else3) → headIn (decode (c .before .before .before .before .before .before .args .book .now)) ≡ true
 headed c = sym (c .before .before .before .head-in .ensures) ∙ not-false _ (c .before .before .if2 .left)
 
-long-enough : (c : tie.Else3) → bookWords (word (c .before .before .before .before .before .before .args .book .now) 0) ≤ length (c .before .before .before .before .before .before .args .book .now)
+long-enough : (c : tie.Else3) → bookWords (word (c .before .before .before .before .before .before .args .book .now) 0)
+    ≤ length (c .before .before .before .before .before .before .args .book .now)
 long-enough c = omega arith
 
 can-read : (c : tie.Else3) → Readable (c .before .before .before .before .before .before .args .book .now)
@@ -33,8 +34,10 @@ can-read c = readable _ (head-facts _ (headed c)) (long-enough c)
 -- and once the ranges passed
 in-range : (c : tie.Else6) → Ranged (c .before .before .before .before .before .before .before .before .before .before .before .before .args .book .now)
 in-range c =
-    ranged _ (long-enough (c .before .before .before .before .before .before)) (headed (c .before .before .before .before .before .before))
-    (sym (c .before .before .before .before .before .units-in .ensures) ∙ not-false _ (c .before .before .before .before .if4 .left))
+    let c5 = c .before .before .before .before .before in
+    let c6 = c5 .before in
+    ranged _ (long-enough c6) (headed c6)
+    (sym (c5 .units-in .ensures) ∙ not-false _ (c .before .before .before .before .if4 .left))
     (sym (c .before .before .before .offers-in .ensures) ∙ not-false _ (c .before .before .if5 .left))
     (sym (c .before .orders-in .ensures) ∙ not-false _ (c .if6 .left))
 
@@ -51,13 +54,19 @@ shared-slice-read-days : tie.Need-shared-slice-read-days
 shared-slice-read-days c = search needs
 
 mul-if3 : tie.Need-mul-if3
-mul-if3 c = let h = head-facts (c .before .before .before .before .before .args .book .now) (sym (c .before .before .head-in .ensures) ∙ not-false _ (c .before .if2 .left)) in omega arith
+mul-if3 c =
+    let c5 = c .before .before .before .before .before in
+    let h = head-facts (c5 .args .book .now) (sym (c .before .before .head-in .ensures) ∙ not-false _ (c .before .if2 .left)) in omega arith
 
 add-if3 : tie.Need-add-if3
-add-if3 c = let h = head-facts (c .before .before .before .before .before .args .book .now) (sym (c .before .before .head-in .ensures) ∙ not-false _ (c .before .if2 .left)) in omega arith
+add-if3 c =
+    let c5 = c .before .before .before .before .before in
+    let h = head-facts (c5 .args .book .now) (sym (c .before .before .head-in .ensures) ∙ not-false _ (c .before .if2 .left)) in omega arith
 
 returns-3 : tie.Need-returns-3
-returns-3 c = sound-fails (c .before .before .before .before .before .before .args .book .now) (λ s. let l = s .long in omega arith)
+returns-3 c =
+    let c6 = c .before .before .before .before .before .before in
+    sound-fails (c6 .args .book .now) (λ s. let l = s .long in omega arith)
 
 units-in-requires : tie.Need-units-in-requires
 units-in-requires c κs = can-read c
@@ -78,7 +87,9 @@ returns-6 : tie.Need-returns-6
 returns-6 c = sound-fails _ (λ s. not-both _ (s .orders) (sym (c .before .orders-in .ensures) ∙ not-true _ (c .if6 .taken)))
 
 numbers-differ-requires : tie.Need-numbers-differ-requires
-numbers-differ-requires c κs = can-read (c .before .before .before .before .before .before)
+numbers-differ-requires c κs =
+    let c6 = c .before .before .before .before .before .before in
+    can-read c6
 
 returns-7 : tie.Need-returns-7
 returns-7 c = sound-fails _ (λ s. not-both _ (s .numbers) (sym (c .before .numbers-differ .ensures) ∙ not-true _ (c .if7 .taken)))
@@ -99,8 +110,11 @@ slice-aggregate-orders-fit c = search needs
 
 orders-fit-requires : tie.Need-orders-fit-requires
 orders-fit-requires c κs =
-    let t = c .before .before .before .link-orders in
-    (in-range (c .before .before .before .before .before .before .before .before), head-facts _ (headed (c .before .before .before .before .before .before .before .before .before .before .before .before .before .before)) .ceiling, t .kept .1 .1 .1 .0, t .ensures .ofOrder)
+    let c3 = c .before .before .before in
+    let c8 = c3 .before .before .before .before .before in
+    let c14 = c8 .before .before .before .before .before .before in
+    let t = c3 .link-orders in
+    (in-range c8, head-facts _ (headed c14) .ceiling, t .kept .1 .1 .1 .0, t .ensures .ofOrder)
 
 returns-8 : tie.Need-returns-8
 returns-8 c = sound-fails _ (λ s. not-both _ (s .pairs) (sym (c .before .orders-fit .ensures) ∙ not-true _ (c .if8 .taken)))
@@ -112,14 +126,24 @@ slice-aggregate-units-fit-2 : tie.Need-slice-aggregate-units-fit-2
 slice-aggregate-units-fit-2 c = search needs
 
 units-fit-requires : tie.Need-units-fit-requires
-units-fit-requires c κs = let t = c .before .before .before .before .before .before .before .link-orders in (in-range (c .before .before .before .before .before .before .before .before .before .before .before .before), t .kept .1 .1 .0, t .kept .1 .1 .1 .0, t .ensures)
+units-fit-requires c κs =
+    let c7 = c .before .before .before .before .before .before .before in
+    let c12 = c7 .before .before .before .before .before in
+    let t = c7 .link-orders in (in-range c12, t .kept .1 .1 .0, t .kept .1 .1 .1 .0, t .ensures)
 
 returns-9 : tie.Need-returns-9
 returns-9 c =
-    let r = in-range (c .before .before .before .before .before .before .before .before .before .before .before .before .before) in
+    let c3 = c .before .before .before in
+    let c4 = c3 .before in
+    let c11 = c4 .before .before .before .before .before .before .before in
+    let c12 = c11 .before in
+    let c13 = c12 .before in
+    let c19 = c13 .before .before .before .before .before .before in
+    let c25 = c19 .before .before .before .before .before .before in
+    let r = in-range c13 in
     c .units-fit .ensures
-    ∙ sound-by-units (c .before .before .before .before .before .before .before .before .before .before .before .before .before .before .before .before .before .before .before .before .before .before .before .before .before .args .book .now) (long-enough (c .before .before .before .before .before .before .before .before .before .before .before .before .before .before .before .before .before .before .before)) (headed (c .before .before .before .before .before .before .before .before .before .before .before .before .before .before .before .before .before .before .before)) (r .units) (r .offers) (r .orders)
-    (sym (c .before .before .before .before .before .before .before .before .before .before .before .before .numbers-differ .ensures) ∙ not-false _ (c .before .before .before .before .before .before .before .before .before .before .before .if7 .left)) (sym (c .before .before .before .before .orders-fit .ensures) ∙ not-false _ (c .before .before .before .if8 .left))
+    ∙ sound-by-units (c25 .args .book .now) (long-enough c19) (headed c19) (r .units) (r .offers) (r .orders)
+    (sym (c12 .numbers-differ .ensures) ∙ not-false _ (c11 .if7 .left)) (sym (c4 .orders-fit .ensures) ∙ not-false _ (c3 .if8 .left))
 
 pub sound-book-spec : {M : Type 1} → statement M
 sound-book-spec =

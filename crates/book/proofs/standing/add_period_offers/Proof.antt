@@ -62,10 +62,17 @@ shared-slice-read-raising c = search needs
 
 add-raising-3 : tie.Need-add-raising-3 Inv-loop μ-loop
 add-raising-3 c =
+    let c3 = c .before .before .before in
     let l = c .before .before .before .before in
     let s = c .before .before .before .before .before .before in
     let k = word (s .args .book .now) (201 + 5 * l .loop .j) - 1 in
-    omega (arith, l .loop .inv .1 .grown k, s .pre .3 k, amount-small (s .args .book .now) (l .loop .j) (s .args .p) (s .pre .0) (c .before .before .before .loop-test .taken) (s .pre .1))
+    omega (
+      arith,
+      l .loop .inv .1 .grown k,
+      s .pre .3 k,
+      amount-small (s .args .book .now) (l .loop .j) (s .args .p) (s .pre .0) (c3 .loop-test .taken)
+          (s .pre .1),
+    )
 
 mul-raising-4 : tie.Need-mul-raising-4 Inv-loop μ-loop
 mul-raising-4 c = omega (arith, facts (c .before .before .before))
@@ -80,7 +87,11 @@ loop-less : tie.Need-loop-less Inv-loop μ-loop
 loop-less c = search needs
 
 loop-again : tie.Need-loop-again Inv-loop μ-loop
-loop-again c = (search needs, offers-more _ _ _ _ _ (c .before .before .before .before .before .before .pre .0) (c .before .before .before .before .before .before .pre .1) (c .before .before .before .loop-test .taken) (omega arith) (c .before .before .before .before .loop .inv .1))
+loop-again c =
+    let c3 = c .before .before .before in
+    let c4 = c3 .before in
+    let c6 = c4 .before .before in
+    (search needs, offers-more _ _ _ _ _ (c6 .pre .0) (c6 .pre .1) (c3 .loop-test .taken) (omega arith) (c4 .loop .inv .1))
 
 same-length : tie.Need-same-length Inv-loop μ-loop
 same-length c = search needs

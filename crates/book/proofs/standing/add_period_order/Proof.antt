@@ -52,10 +52,14 @@ raises-net-requires : tie.Need-raises-net-requires
 raises-net-requires c κs = let s = c .before .before .before .before .before .before in (s .pre .0 .readable, facts s .unit .0, facts s .unit .1)
 
 mul-raising : tie.Need-mul-raising
-mul-raising c = omega (arith, facts (c .before .before .before .before .before .before .before .before))
+mul-raising c =
+    let c8 = c .before .before .before .before .before .before .before .before in
+    omega (arith, facts c8)
 
 slice-read-raising : tie.Need-slice-read-raising
-slice-read-raising c = omega (arith, facts (c .before .before .before .before .before .before .before .before .before))
+slice-read-raising c =
+    let c9 = c .before .before .before .before .before .before .before .before .before in
+    omega (arith, facts c9)
 
 add-raising : tie.Need-add-raising
 add-raising c =
@@ -63,16 +67,24 @@ add-raising c =
     omega (arith, facts s, s .pre .5 (word (s .args .book .now) (240 + 6 * s .args .i + 1) - 1))
 
 mul-raising-2 : tie.Need-mul-raising-2
-mul-raising-2 c = omega (arith, facts (c .before .before .before .before .before .before .before .before .before))
+mul-raising-2 c =
+    let c9 = c .before .before .before .before .before .before .before .before .before in
+    omega (arith, facts c9)
 
 slice-write-raising : tie.Need-slice-write-raising
-slice-write-raising c = omega (arith, facts (c .before .before .before .before .before .before .before .before .before))
+slice-write-raising c =
+    let c9 = c .before .before .before .before .before .before .before .before .before in
+    omega (arith, facts c9)
 
 mul-lowering : tie.Need-mul-lowering
-mul-lowering c = omega (arith, facts (c .before .before .before .before .before .before .before .before))
+mul-lowering c =
+    let c8 = c .before .before .before .before .before .before .before .before in
+    omega (arith, facts c8)
 
 slice-read-lowering : tie.Need-slice-read-lowering
-slice-read-lowering c = omega (arith, facts (c .before .before .before .before .before .before .before .before .before))
+slice-read-lowering c =
+    let c9 = c .before .before .before .before .before .before .before .before .before in
+    omega (arith, facts c9)
 
 add-lowering : tie.Need-add-lowering
 add-lowering c =
@@ -80,10 +92,14 @@ add-lowering c =
     omega (arith, facts s, s .pre .6 (word (s .args .book .now) (240 + 6 * s .args .i + 1) - 1))
 
 mul-lowering-2 : tie.Need-mul-lowering-2
-mul-lowering-2 c = omega (arith, facts (c .before .before .before .before .before .before .before .before .before))
+mul-lowering-2 c =
+    let c9 = c .before .before .before .before .before .before .before .before .before in
+    omega (arith, facts c9)
 
 slice-write-lowering : tie.Need-slice-write-lowering
-slice-write-lowering c = omega (arith, facts (c .before .before .before .before .before .before .before .before .before))
+slice-write-lowering c =
+    let c9 = c .before .before .before .before .before .before .before .before .before in
+    omega (arith, facts c9)
 
 same-length : tie.Need-same-length
 same-length c = search needs

@@ -30,8 +30,15 @@ add-period-order-requires : tie.Need-add-period-order-requires Inv-loop μ-loop
 add-period-order-requires c κs =
     let l = c .before .before .before in
     let s = c .before .before .before .before .before .before .before .before .before .before in
-    let w = l .loop .inv in
-    (s .pre .0, omega arith, w .own (c .before .before .loop-test .taken), omega arith, omega arith, (λ i. omega (arith, w .raising .grown i, s .pre .7 i)), (λ i. omega (arith, w .lowering .grown i, s .pre .8 i)))
+    let w = l .loop .inv in (
+      s .pre .0,
+      omega arith,
+      w .own (c .before .before .loop-test .taken),
+      omega arith,
+      omega arith,
+      (λ i. omega (arith, w .raising .grown i, s .pre .7 i)),
+      (λ i. omega (arith, w .lowering .grown i, s .pre .8 i)),
+    )
 
 mul-at-2 : tie.Need-mul-at-2 Inv-loop μ-loop
 mul-at-2 c = search needs
@@ -40,10 +47,19 @@ shared-slice-read-at-2 : tie.Need-shared-slice-read-at-2 Inv-loop μ-loop
 shared-slice-read-at-2 c = search needs
 
 loop-less : tie.Need-loop-less Inv-loop μ-loop
-loop-less c = omega (arith, c .before .before .before .before .before .before .before .before .before .before .before .before .before .before .before .before .pre .4 .ofOrder (c .before .before .before .before .before .before .before .before .before .loop .at - 1) (omega arith) .to)
+loop-less c =
+    let c9 = c .before .before .before .before .before .before .before .before .before in
+    let c16 = c9 .before .before .before .before .before .before .before in
+    omega (arith, c16 .pre .4 .ofOrder (c9 .loop .at - 1) (omega arith) .to)
 
 loop-again : tie.Need-loop-again Inv-loop μ-loop
-loop-again c = walking-more _ _ _ _ _ _ _ _ _ _ (c .before .before .before .before .before .before .before .before .before .before .before .before .before .before .before .before .pre .0) (c .before .before .before .before .before .before .before .before .loop-test .taken) (c .before .before .before .before .before .before .before .before .before .loop .inv) (c .before .before .before .before .before .before .before .before .before .before .before .before .before .before .before .before .pre .4 .ofOrder _ (omega arith)) (c .before .before .before .before .before .add-period-order .ensures)
+loop-again c =
+    let c5 = c .before .before .before .before .before in
+    let c8 = c5 .before .before .before in
+    let c9 = c8 .before in
+    let c16 = c9 .before .before .before .before .before .before .before in
+    walking-more _ _ _ _ _ _ _ _ _ _ (c16 .pre .0) (c8 .loop-test .taken) (c9 .loop .inv) (c16 .pre .4 .ofOrder _ (omega arith))
+    (c5 .add-period-order .ensures)
 
 same-length : tie.Need-same-length Inv-loop μ-loop
 same-length c = search needs

@@ -16,7 +16,8 @@ abbrev μ-loop : tie.MeasureT-loop
 
 -- the value of the order in turn has a place
 inside : (c : tie.In-loop Inv-loop μ-loop)
-    → word (c .before .before .before .args .book .now) (240 + 6 * c .before .loop .k + c .before .before .before .args .field) < length (c .before .before .before .args .last .now)
+    → word (c .before .before .before .args .book .now) (240 + 6 * c .before .loop .k + c .before .before .before .args .field)
+    < length (c .before .before .before .args .last .now)
 inside c = c .before .before .before .pre .4 _ (c .loop-test .taken)
 
 shared-slice-read-n : tie.Need-shared-slice-read-n Inv-loop μ-loop
@@ -68,7 +69,10 @@ loop-less : tie.Need-loop-less Inv-loop μ-loop
 loop-less c = search needs
 
 loop-again : tie.Need-loop-again Inv-loop μ-loop
-loop-again c = linking-more _ _ _ _ _ _ (c .before .before .before .before .before .pre .0) (c .before .before .loop-test .taken) (inside (c .before .before)) (c .before .before .before .loop .inv)
+loop-again c =
+    let c3 = c .before .before .before in
+    let c5 = c3 .before .before in
+    linking-more _ _ _ _ _ _ (c5 .pre .0) (c .before .before .loop-test .taken) (inside (c .before .before)) (c3 .loop .inv)
 
 same-length : tie.Need-same-length Inv-loop μ-loop
 same-length c = search needs

@@ -52,10 +52,16 @@ is-generator-requires-2 : tie.Need-is-generator-requires-2
 is-generator-requires-2 c κs = search needs
 
 returns-5 : tie.Need-returns-5
-returns-5 c = takes-load _ _ _ _ _ (c .before .before .before .before .before .before .before .offer-total .ensures) (omega arith) (omega arith) (omega arith) _ (sym (c .before .before .is-generator .ensures) ∙ c .if5 .taken) (c .before .is-generator2 .ensures)
+returns-5 c =
+    let c7 = c .before .before .before .before .before .before .before in
+    takes-load _ _ _ _ _ (c7 .offer-total .ensures) (omega arith) (omega arith) (omega arith) _ (sym (c .before .before .is-generator .ensures)
+    ∙ c .if5 .taken) (c .before .is-generator2 .ensures)
 
 returns-6 : tie.Need-returns-6
-returns-6 c = takes-generator _ _ _ _ _ (c .before .before .before .before .before .before .before .offer-total .ensures) (omega arith) (omega arith) (omega arith) _ (sym (c .before .before .is-generator .ensures) ∙ c .if5 .left) (c .before .is-generator2 .ensures)
+returns-6 c =
+    let c7 = c .before .before .before .before .before .before .before in
+    takes-generator _ _ _ _ _ (c7 .offer-total .ensures) (omega arith) (omega arith) (omega arith) _ (sym (c .before .before .is-generator .ensures)
+    ∙ c .if5 .left) (c .before .is-generator2 .ensures)
 
 pub can-take-spec : {M : Type 1} → statement M
 can-take-spec =

@@ -32,7 +32,9 @@ shared-slice-read-if1 : tie.Need-shared-slice-read-if1 Inv-loop μ-loop
 shared-slice-read-if1 c = search needs
 
 returns : tie.Need-returns Inv-loop μ-loop
-returns c = found-here _ _ (c .before .before .before .loop .j) (omega arith) (c .before .before .loop-test .taken) (c .if1 .taken) (c .before .before .before .loop .inv .1)
+returns c =
+    let c3 = c .before .before .before in
+    found-here _ _ (c3 .loop .j) (omega arith) (c .before .before .loop-test .taken) (c .if1 .taken) (c3 .loop .inv .1)
 
 add-j : tie.Need-add-j Inv-loop μ-loop
 add-j c = search needs
@@ -41,7 +43,10 @@ loop-less : tie.Need-loop-less Inv-loop μ-loop
 loop-less c = search needs
 
 loop-again : tie.Need-loop-again Inv-loop μ-loop
-loop-again c = (search needs, unmet-more (c .before .before .before .before .before .args .book .now) (c .before .before .before .before .before .args .number) (c .before .before .before .loop .j) (c .if1 .left) (c .before .before .before .loop .inv .1))
+loop-again c =
+    let c3 = c .before .before .before in
+    let c5 = c3 .before .before in
+    (search needs, unmet-more (c5 .args .book .now) (c5 .args .number) (c3 .loop .j) (c .if1 .left) (c3 .loop .inv .1))
 
 returns-2 : tie.Need-returns-2 Inv-loop μ-loop
 returns-2 c = found-nowhere _ _ (c .before .loop .j) (omega arith) (c .before .loop .inv .1)

@@ -12,7 +12,8 @@ use Rattle.book.proofs.taking.gather.Statement.{statement}
 use Rattle.book.proofs.taking.gather.Tie as tie
 
 abbrev Inv-loop : tie.InvT-loop
-Inv-loop book j amounts₀ top p₀ amounts p = (p ≤ 24 * word book 0) × (length amounts ≡ length amounts₀) × (amounts ≡ table p (amountAt book j) ++ drop p amounts₀)
+Inv-loop book j amounts₀ top p₀ amounts p = (p ≤ 24 * word book 0) × (length amounts ≡ length amounts₀)
+    × (amounts ≡ table p (amountAt book j) ++ drop p amounts₀)
 
 abbrev μ-loop : tie.MeasureT-loop
 μ-loop book j amounts₀ top p₀ amounts p = 24 * word book 0 - p
@@ -54,7 +55,12 @@ loop-less : tie.Need-loop-less Inv-loop μ-loop
 loop-less c = search needs
 
 loop-again : tie.Need-loop-again Inv-loop μ-loop
-loop-again c = (omega arith, simp length-set (omega arith), gather-more _ _ _ (c .before .before .loop .p) _ (omega arith) refl (c .before .before .loop .inv .2))
+loop-again c = (
+  omega arith,
+  simp length-set (omega arith),
+  gather-more _ _ _ (c .before .before .loop .p) _ (omega arith) refl
+      (c .before .before .loop .inv .2),
+)
 
 same-length : tie.Need-same-length Inv-loop μ-loop
 same-length c = c .before .loop .inv .1

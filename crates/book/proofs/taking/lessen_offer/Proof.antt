@@ -23,7 +23,9 @@ same-length : tie.Need-same-length
 same-length c = search needs
 
 returns : tie.Need-returns
-returns c ps e = lessened _ _ _ _ ps (c .before .before .before .before .before .before .pre .0) (c .before .before .before .before .before .before .pre .1) (c .before .before .take-off .ensures) e
+returns c ps e =
+    let c6 = c .before .before .before .before .before .before in
+    lessened _ _ _ _ ps (c6 .pre .0) (c6 .pre .1) (c .before .before .take-off .ensures) e
 
 pub lessen-offer-spec : {M : Type 1} → statement M
 lessen-offer-spec =

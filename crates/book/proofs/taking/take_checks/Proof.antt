@@ -16,13 +16,21 @@ find-offer-requires : tie.Need-find-offer-requires
 find-offer-requires c κs = sound-readable _ (c .before .before .before .before .pre .0)
 
 take-fit-requires : tie.Need-take-fit-requires
-take-fit-requires c κs = fit-asks _ _ _ _ _ (c .before .before .before .before .before .before .pre .0) _ (omega arith) (c .before .before .before .take-party .ensures) _ (c .before .find-offer .ensures) (c .before .before .before .before .before .before .args .parts .now) (c .before .before .before .before .before .before .pre .1)
+take-fit-requires c κs =
+    let c3 = c .before .before .before in
+    let c6 = c3 .before .before .before in
+    fit-asks _ _ _ _ _ (c6 .pre .0) _ (omega arith) (c3 .take-party .ensures) _ (c .before .find-offer .ensures) (c6 .args .parts .now) (c6 .pre .1)
 
 same-length : tie.Need-same-length
 same-length c = search needs
 
 returns-2 : tie.Need-returns-2
-returns-2 c = checked-fit _ _ _ _ _ (c .before .before .before .before .before .before .before .before .before .pre .0) (c .before .before .before .before .before .before .take-party .result) (omega arith) (c .before .before .before .before .before .before .take-party .ensures) _ (c .before .before .before .before .find-offer .ensures) _ _ _ (c .before .before .take-fit .ensures)
+returns-2 c =
+    let c4 = c .before .before .before .before in
+    let c6 = c4 .before .before in
+    let c9 = c6 .before .before .before in
+    checked-fit _ _ _ _ _ (c9 .pre .0) (c6 .take-party .result) (omega arith) (c6 .take-party .ensures) _ (c4 .find-offer .ensures) _ _ _
+    (c .before .before .take-fit .ensures)
 
 pub take-checks-spec : {M : Type 1} → statement M
 take-checks-spec =

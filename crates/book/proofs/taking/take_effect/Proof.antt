@@ -12,15 +12,21 @@ find-offer-requires c κs = sound-readable _ (c .before .before .before .before 
 
 offer-total-requires : tie.Need-offer-total-requires
 offer-total-requires c κs =
-    let a = c .before .before .before .before .before .before .args in
-    let p = c .before .before .before .before .before .before .pre in
-    (sound-readable _ (p .0), there (a .book .now) (a .unit) (a .number) (a .quantity) (length (a .rows .now)) (p .0) (p .1) _ (c .before .find-offer .ensures))
+    let c6 = c .before .before .before .before .before .before in
+    let a = c6 .args in
+    let p = c6 .pre in (
+      sound-readable _ (p .0),
+      there (a .book .now) (a .unit) (a .number) (a .quantity) (length (a .rows .now)) (p .0) (p .1) _
+          (c .before .find-offer .ensures),
+    )
 
 take-whole-requires : tie.Need-take-whole-requires
 take-whole-requires c κs =
-    let a = c .before .before .before .before .before .before .before .before .before .before .args in
-    let p = c .before .before .before .before .before .before .before .before .before .before .pre in
-    all-asks (a .book .now) (a .unit) (a .number) (a .quantity) (length (a .rows .now)) (p .0) (p .1) _ (c .before .before .before .before .before .find-offer .ensures) (a .parts .now) (p .2)
+    let c5 = c .before .before .before .before .before in
+    let c10 = c5 .before .before .before .before .before in
+    let a = c10 .args in
+    let p = c10 .pre in
+    all-asks (a .book .now) (a .unit) (a .number) (a .quantity) (length (a .rows .now)) (p .0) (p .1) _ (c5 .find-offer .ensures) (a .parts .now) (p .2)
 
 same-length : tie.Need-same-length
 same-length c = search needs
@@ -30,18 +36,26 @@ same-length-2 c = search needs
 
 returns : tie.Need-returns
 returns c =
-    let a = c .before .before .before .before .before .before .before .before .before .before .before .before .before .before .before .args in
-    let p = c .before .before .before .before .before .before .before .before .before .before .before .before .before .before .before .pre in
-    let f = c .before .before .before .before .before .before .before .before .before .before .find-offer .ensures in
-    whole-made (a .book .now) (a .number) (a .quantity) _ f (there (a .book .now) (a .unit) (a .number) (a .quantity) (length (a .rows .now)) (p .0) (p .1) _ f) (p .2 .behind) (a .parts .now) (p .2 .parts) _ (a .unit) _ _ _
-    (c .before .before .before .before .take-whole .ensures) (p .0) (take-some (a .book .now) (a .unit) (a .number) (a .quantity) (length (a .rows .now)) (p .0) (p .1) _ f)
-    (c .before .before .before .before .before .before .before .if1 .taken ∙ take-all (a .book .now) (a .unit) (a .number) (a .quantity) (length (a .rows .now)) (p .0) (p .1) _ f _ (c .before .before .before .before .before .before .before .before .offer-total .ensures))
+    let c4 = c .before .before .before .before in
+    let c7 = c4 .before .before .before in
+    let c8 = c7 .before in
+    let c10 = c8 .before .before in
+    let c15 = c10 .before .before .before .before .before in
+    let a = c15 .args in
+    let p = c15 .pre in
+    let f = c10 .find-offer .ensures in
+    whole-made (a .book .now) (a .number) (a .quantity) _ f (there (a .book .now) (a .unit) (a .number) (a .quantity) (length (a .rows .now)) (p .0)
+    (p .1) _ f) (p .2 .behind) (a .parts .now) (p .2 .parts) _ (a .unit) _ _ _
+    (c4 .take-whole .ensures) (p .0) (take-some (a .book .now) (a .unit) (a .number) (a .quantity) (length (a .rows .now)) (p .0) (p .1) _ f)
+    (c7 .if1 .taken ∙ take-all (a .book .now) (a .unit) (a .number) (a .quantity) (length (a .rows .now)) (p .0) (p .1) _ f _ (c8 .offer-total .ensures))
 
 take-part-requires : tie.Need-take-part-requires
 take-part-requires c κs =
-    let a = c .before .before .before .before .before .before .before .before .before .before .args in
-    let p = c .before .before .before .before .before .before .before .before .before .before .pre in
-    part-asks (a .book .now) (a .unit) (a .number) (a .quantity) (length (a .rows .now)) (p .0) (p .1) _ (c .before .before .before .before .before .find-offer .ensures) (a .parts .now) (p .2)
+    let c5 = c .before .before .before .before .before in
+    let c10 = c5 .before .before .before .before .before in
+    let a = c10 .args in
+    let p = c10 .pre in
+    part-asks (a .book .now) (a .unit) (a .number) (a .quantity) (length (a .rows .now)) (p .0) (p .1) _ (c5 .find-offer .ensures) (a .parts .now) (p .2)
 
 same-length-3 : tie.Need-same-length-3
 same-length-3 c = search needs
@@ -51,12 +65,18 @@ same-length-4 c = search needs
 
 returns-2 : tie.Need-returns-2
 returns-2 c =
-    let a = c .before .before .before .before .before .before .before .before .before .before .before .before .before .before .before .args in
-    let p = c .before .before .before .before .before .before .before .before .before .before .before .before .before .before .before .pre in
-    let f = c .before .before .before .before .before .before .before .before .before .before .find-offer .ensures in
-    part-made (a .book .now) (a .number) (a .quantity) _ f (there (a .book .now) (a .unit) (a .number) (a .quantity) (length (a .rows .now)) (p .0) (p .1) _ f) (p .2 .behind) (a .parts .now) (p .2 .parts) _ (a .unit) _ _ _
-    (c .before .before .before .before .take-part .ensures) (take-some (a .book .now) (a .unit) (a .number) (a .quantity) (length (a .rows .now)) (p .0) (p .1) _ f)
-    (take-less (a .book .now) (a .unit) (a .number) (a .quantity) (length (a .rows .now)) (p .0) (p .1) _ f _ (c .before .before .before .before .before .before .before .before .offer-total .ensures) (c .before .before .before .before .before .before .before .if1 .left))
+    let c4 = c .before .before .before .before in
+    let c7 = c4 .before .before .before in
+    let c8 = c7 .before in
+    let c10 = c8 .before .before in
+    let c15 = c10 .before .before .before .before .before in
+    let a = c15 .args in
+    let p = c15 .pre in
+    let f = c10 .find-offer .ensures in
+    part-made (a .book .now) (a .number) (a .quantity) _ f (there (a .book .now) (a .unit) (a .number) (a .quantity) (length (a .rows .now)) (p .0)
+    (p .1) _ f) (p .2 .behind) (a .parts .now) (p .2 .parts) _ (a .unit) _ _ _
+    (c4 .take-part .ensures) (take-some (a .book .now) (a .unit) (a .number) (a .quantity) (length (a .rows .now)) (p .0) (p .1) _ f)
+    (take-less (a .book .now) (a .unit) (a .number) (a .quantity) (length (a .rows .now)) (p .0) (p .1) _ f _ (c8 .offer-total .ensures) (c7 .if1 .left))
 
 pub take-effect-spec : {M : Type 1} → statement M
 take-effect-spec =

@@ -19,7 +19,9 @@ slice-aggregate-gather : tie.Need-slice-aggregate-gather
 slice-aggregate-gather c = search needs
 
 gather-requires : tie.Need-gather-requires
-gather-requires c κs = let g = sound-readable (c .before .before .before .before .args .book .now) (c .before .before .before .before .pre .0) in (g, omega arith, refl)
+gather-requires c κs =
+    let c4 = c .before .before .before .before in
+    let g = sound-readable (c4 .args .book .now) (c4 .pre .0) in (g, omega arith, refl)
 
 sub-share : tie.Need-sub-share
 sub-share c = search needs
@@ -28,7 +30,9 @@ part-share-start : tie.Need-part-share-start
 part-share-start c = search needs
 
 part-share-end : tie.Need-part-share-end
-part-share-end c = let g = sound-readable (c .before .before .before .before .before .before .before .args .book .now) (c .before .before .before .before .before .before .before .pre .0) in search needs
+part-share-end c =
+    let c7 = c .before .before .before .before .before .before .before in
+    let g = sound-readable (c7 .args .book .now) (c7 .pre .0) in search needs
 
 share-requires : tie.Need-share-requires
 share-requires c κs = search needs
@@ -40,7 +44,9 @@ part-share-start-2 : tie.Need-part-share-start-2
 part-share-start-2 c = search needs
 
 part-share-end-2 : tie.Need-part-share-end-2
-part-share-end-2 c = let g = sound-readable (c .before .before .before .before .before .before .before .before .before .before .before .before .before .args .book .now) (c .before .before .before .before .before .before .before .before .before .before .before .before .before .pre .0) in search needs
+part-share-end-2 c =
+    let c13 = c .before .before .before .before .before .before .before .before .before .before .before .before .before in
+    let g = sound-readable (c13 .args .book .now) (c13 .pre .0) in search needs
 
 slice-aggregate-share : tie.Need-slice-aggregate-share
 slice-aggregate-share c = search needs
@@ -56,14 +62,18 @@ slice-aggregate-misfit-2 c = search needs
 
 misfit-requires : tie.Need-misfit-requires
 misfit-requires c κs =
-    let a = c .before .before .before .before .before .before .before .before .before .before .before .before .before .before .before .before .before .before .before .args in
-    let p = c .before .before .before .before .before .before .before .before .before .before .before .before .before .before .before .before .before .before .before .pre in (
+    let c3 = c .before .before .before in
+    let c14 = c3 .before .before .before .before .before .before .before .before .before .before .before in
+    let c19 = c14 .before .before .before .before .before in
+    let a = c19 .args in
+    let p = c19 .pre in (
       (sound-ranged (a .book .now) (p .0), p .2, p .3),
       (
         search needs,
         refl,
         raising-small (a .book .now) (a .unit) (a .j) (a .quantity) (p .0) (p .1) (p .2, p .3) (p .4) (p .5) _
-            (shared-parts (a .book .now) (a .unit) (a .j) (a .quantity) (p .0) (p .1) (p .2, p .3) (p .4) (p .5) _ _ _ _ _ (24 * word (a .book .now) 0) refl (c .before .before .before .before .before .before .before .before .before .before .before .before .before .before .gather .ensures) (omega arith) (c .before .before .before .share2 .ensures)),
+            (shared-parts (a .book .now) (a .unit) (a .j) (a .quantity) (p .0) (p .1) (p .2, p .3) (p .4) (p .5) _ _ _ _ _ (24 * word (a .book .now) 0) refl
+            (c14 .gather .ensures) (omega arith) (c3 .share2 .ensures)),
         lowering-small (a .book .now) (a .unit) (a .j) (a .quantity) (p .0) (p .1) (p .2, p .3) (p .4) (p .5),
       ),
     )
@@ -73,11 +83,17 @@ same-length c = search needs
 
 returns : tie.Need-returns
 returns c =
-    let a = c .before .before .before .before .before .before .before .before .before .before .before .before .before .before .before .before .before .before .before .before .before .before .args in
-    let p = c .before .before .before .before .before .before .before .before .before .before .before .before .before .before .before .before .before .before .before .before .before .before .pre in
+    let c6 = c .before .before .before .before .before .before in
+    let c12 = c6 .before .before .before .before .before .before in
+    let c17 = c12 .before .before .before .before .before in
+    let c22 = c17 .before .before .before .before .before in
+    let a = c22 .args in
+    let p = c22 .pre in
     take-fitted (a .book .now) (a .unit) (a .j) (a .quantity) (p .0) (p .1) (p .2, p .3) (p .4) (p .5) _ _ _ _
-    (shared-parts (a .book .now) (a .unit) (a .j) (a .quantity) (p .0) (p .1) (p .2, p .3) (p .4) (p .5) _ _ _ _ _ (24 * word (a .book .now) 0) refl (c .before .before .before .before .before .before .before .before .before .before .before .before .before .before .before .before .before .gather .ensures) (omega arith) (c .before .before .before .before .before .before .share2 .ensures))
-    (shared-parts (a .book .now) (a .unit) (a .j) (a .quantity) (p .0) (p .1) (p .2, p .3) (p .4) (p .5) _ _ _ _ _ (24 * word (a .book .now) 0) refl (c .before .before .before .before .before .before .before .before .before .before .before .before .before .before .before .before .before .gather .ensures) (omega arith) (c .before .before .before .before .before .before .before .before .before .before .before .before .share .ensures))
+    (shared-parts (a .book .now) (a .unit) (a .j) (a .quantity) (p .0) (p .1) (p .2, p .3) (p .4) (p .5) _ _ _ _ _ (24 * word (a .book .now) 0) refl
+    (c17 .gather .ensures) (omega arith) (c6 .share2 .ensures))
+    (shared-parts (a .book .now) (a .unit) (a .j) (a .quantity) (p .0) (p .1) (p .2, p .3) (p .4) (p .5) _ _ _ _ _ (24 * word (a .book .now) 0) refl
+    (c17 .gather .ensures) (omega arith) (c12 .share .ensures))
     (c .before .before .misfit .ensures)
 
 pub take-fit-spec : {M : Type 1} → statement M

@@ -47,8 +47,10 @@ shared-slice-read-left c = search needs
 
 sub-left : tie.Need-sub-left Inv-loop μ-loop
 sub-left c =
-    let a = amount-kept (c .before .before .before .before .before .args .book .now) (c .before .before .before .before .before .args .j) (c .before .before .before .before .before .args .parts .now) (c .before .before .before .loop .book) (c .before .before .before .loop .p) (c .before .before .before .loop .inv .1) in
-    let t = c .before .before .before .before .before .pre .3 (c .before .before .before .loop .p) (c .before .before .loop-test .taken) in
+    let c3 = c .before .before .before in
+    let c5 = c3 .before .before in
+    let a = amount-kept (c5 .args .book .now) (c5 .args .j) (c5 .args .parts .now) (c3 .loop .book) (c3 .loop .p) (c3 .loop .inv .1) in
+    let t = c5 .pre .3 (c3 .loop .p) (c .before .before .loop-test .taken) in
     omega arith
 
 mul-book : tie.Need-mul-book Inv-loop μ-loop

@@ -26,19 +26,33 @@ returns-5 : tie.Need-returns-5
 returns-5 c = party-energy _ _ _ _ _ (omega arith) (omega arith) (omega arith)
 
 find-offer-requires : tie.Need-find-offer-requires
-find-offer-requires c κs = sound-readable _ (c .before .before .before .before .before .before .before .pre)
+find-offer-requires c κs =
+    let c7 = c .before .before .before .before .before .before .before in
+    sound-readable _ (c7 .pre)
 
 returns-6 : tie.Need-returns-6
-returns-6 c = party-none _ _ _ _ _ (omega arith) (omega arith) (omega arith) (c .before .before .before .before .before .before .before .before .before .pre) _ (c .before .find-offer .ensures) (omega arith)
+returns-6 c =
+    let c9 = c .before .before .before .before .before .before .before .before .before in
+    party-none _ _ _ _ _ (omega arith) (omega arith) (omega arith) (c9 .pre) _ (c .before .find-offer .ensures) (omega arith)
 
 can-take-requires : tie.Need-can-take-requires
-can-take-requires c κs = can-asks _ _ _ _ _ (c .before .before .before .before .before .before .before .before .before .pre) (c .before .find-offer .ensures) (omega arith) (omega arith) (omega arith)
+can-take-requires c κs =
+    let c9 = c .before .before .before .before .before .before .before .before .before in
+    can-asks _ _ _ _ _ (c9 .pre) (c .before .find-offer .ensures) (omega arith) (omega arith) (omega arith)
 
 returns-7 : tie.Need-returns-7
-returns-7 c = party-cannot _ _ _ _ _ (omega arith) (omega arith) (omega arith) (c .before .before .before .before .before .before .before .before .before .before .before .pre) _ (c .before .before .before .find-offer .ensures) (omega arith) (sym (c .before .can-take .ensures) ∙ not-true _ (c .if7 .taken))
+returns-7 c =
+    let c3 = c .before .before .before in
+    let c11 = c3 .before .before .before .before .before .before .before .before in
+    party-cannot _ _ _ _ _ (omega arith) (omega arith) (omega arith) (c11 .pre) _ (c3 .find-offer .ensures) (omega arith)
+    (sym (c .before .can-take .ensures) ∙ not-true _ (c .if7 .taken))
 
 returns-8 : tie.Need-returns-8
-returns-8 c = party-passed _ _ _ _ _ (omega arith) (omega arith) (omega arith) (c .before .before .before .before .before .before .before .before .before .before .before .pre) _ (c .before .before .before .find-offer .ensures) (omega arith) (sym (c .before .can-take .ensures) ∙ not-false _ (c .if7 .left))
+returns-8 c =
+    let c3 = c .before .before .before in
+    let c11 = c3 .before .before .before .before .before .before .before .before in
+    party-passed _ _ _ _ _ (omega arith) (omega arith) (omega arith) (c11 .pre) _ (c3 .find-offer .ensures) (omega arith)
+    (sym (c .before .can-take .ensures) ∙ not-false _ (c .if7 .left))
 
 pub take-party-spec : {M : Type 1} → statement M
 take-party-spec =

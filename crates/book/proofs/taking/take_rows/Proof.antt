@@ -60,7 +60,11 @@ same-length : tie.Need-same-length
 same-length c = search needs
 
 returns : tie.Need-returns
-returns c = rows-sold _ _ _ _ _ _ _ _ (c .before .before .before .before .before .before .way-of .ensures) (sym (c .before .before .before .before .before .is-generator .ensures) ∙ c .before .before .before .before .if1 .taken) (c .before .before .write-rows .ensures)
+returns c =
+    let c4 = c .before .before .before .before in
+    let c5 = c4 .before in
+    let c6 = c5 .before in
+    rows-sold _ _ _ _ _ _ _ _ (c6 .way-of .ensures) (sym (c5 .is-generator .ensures) ∙ c4 .if1 .taken) (c .before .before .write-rows .ensures)
 
 write-rows-requires-2 : tie.Need-write-rows-requires-2
 write-rows-requires-2 c κs = search needs
@@ -69,7 +73,11 @@ same-length-2 : tie.Need-same-length-2
 same-length-2 c = search needs
 
 returns-2 : tie.Need-returns-2
-returns-2 c = rows-bought _ _ _ _ _ _ _ _ (c .before .before .before .before .before .before .way-of .ensures) (sym (c .before .before .before .before .before .is-generator .ensures) ∙ c .before .before .before .before .if1 .left) (c .before .before .write-rows2 .ensures)
+returns-2 c =
+    let c4 = c .before .before .before .before in
+    let c5 = c4 .before in
+    let c6 = c5 .before in
+    rows-bought _ _ _ _ _ _ _ _ (c6 .way-of .ensures) (sym (c5 .is-generator .ensures) ∙ c4 .if1 .left) (c .before .before .write-rows2 .ensures)
 
 pub take-rows-spec : {M : Type 1} → statement M
 take-rows-spec =

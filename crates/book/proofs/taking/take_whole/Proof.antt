@@ -17,8 +17,9 @@ use Rattle.book.proofs.withdrawing.withdraw_effect.Reads as withdraw-ef
 -- src/taking.rt:257:9
 take-rows-requires : tie.Need-take-rows-requires
 take-rows-requires c κs =
-    let a = c .before .before .before .before .before .args in
-    let p = c .before .before .before .before .before .pre in
+    let c5 = c .before .before .before .before .before in
+    let a = c5 .args in
+    let p = c5 .pre in
     rows-asks (a .book .now) (a .unit) (a .j) (a .parts .now) (p .0) (p .1) (p .2, p .3) (p .4) (p .6) (a .rows .now) (p .5)
 
 -- src/taking.rt:258:5
@@ -28,11 +29,15 @@ withdraw-effect-requires c κs = search needs
 -- src/taking.rt:259:5
 book-rows-requires : tie.Need-book-rows-requires
 book-rows-requires c κs =
-    let a = c .before .before .before .before .before .before .before .before .before .before .before .before .before .before .args in
-    let p = c .before .before .before .before .before .before .before .before .before .before .before .before .before .before .pre in
-    let w = c .before .before .before .before .withdraw-effect in
-    whole-asks (a .book .now) (a .unit) (a .number) (a .j) (a .parts .now) (p .0) (p .1) (p .2, p .3) (p .4) (p .6) _ (w .ensures .0) (w .kept .0) (a .rows .now) _ _
-    (c .before .before .before .before .before .before .before .before .take-rows .ensures) (p .5)
+    let c4 = c .before .before .before .before in
+    let c8 = c4 .before .before .before .before in
+    let c14 = c8 .before .before .before .before .before .before in
+    let a = c14 .args in
+    let p = c14 .pre in
+    let w = c4 .withdraw-effect in
+    whole-asks (a .book .now) (a .unit) (a .number) (a .j) (a .parts .now) (p .0) (p .1) (p .2, p .3) (p .4) (p .6) _ (w .ensures .0) (w .kept .0)
+    (a .rows .now) _ _
+    (c8 .take-rows .ensures) (p .5)
 
 -- src/taking.rt:246:1
 same-length : tie.Need-same-length
@@ -45,11 +50,15 @@ same-length-2 c = search needs
 -- src/taking.rt:246:1
 returns : tie.Need-returns
 returns c =
-    let a = c .before .before .before .before .before .before .before .before .before .before .before .before .before .before .before .before .before .args in
-    let p = c .before .before .before .before .before .before .before .before .before .before .before .before .before .before .before .before .before .pre in
-    let w = c .before .before .before .before .before .before .before .withdraw-effect in
-    whole-taken (a .book .now) (a .unit) (a .number) (a .j) (a .parts .now) (p .0) (p .1) (p .2, p .3) (p .4) (p .6) _ (w .ensures .0) (w .kept .0) _ _ _ _ (w .ensures .1)
-    (c .before .before .before .before .before .before .before .before .before .before .before .take-rows .ensures) (c .before .before .book-rows .ensures)
+    let c7 = c .before .before .before .before .before .before .before in
+    let c11 = c7 .before .before .before .before in
+    let c17 = c11 .before .before .before .before .before .before in
+    let a = c17 .args in
+    let p = c17 .pre in
+    let w = c7 .withdraw-effect in
+    whole-taken (a .book .now) (a .unit) (a .number) (a .j) (a .parts .now) (p .0) (p .1) (p .2, p .3) (p .4) (p .6) _ (w .ensures .0) (w .kept .0) _ _ _ _
+    (w .ensures .1)
+    (c11 .take-rows .ensures) (c .before .before .book-rows .ensures)
 
 pub take-whole-spec : {M : Type 1} → statement M
 take-whole-spec =

@@ -29,7 +29,13 @@ loop-less : tie.Need-loop-less Inv-loop μ-loop
 loop-less c = search needs
 
 loop-again : tie.Need-loop-again Inv-loop μ-loop
-loop-again c = (omega arith, writing-skip _ _ _ _ (c .before .before .before .before .before .before .args .parts .now) _ (c .before .before .before .before .before .before .pre .1) _ _ (c .before .before .before .loop .p) _ (c .before .before .loop-test .taken) (c .before .before .before .loop .inv .1) (c .if1 .taken))
+loop-again c =
+    let c3 = c .before .before .before in
+    let c6 = c3 .before .before .before in (
+      omega arith,
+      writing-skip _ _ _ _ (c6 .args .parts .now) _ (c6 .pre .1) _ _ (c3 .loop .p) _ (c .before .before .loop-test .taken) (c3 .loop .inv .1)
+          (c .if1 .taken),
+    )
 
 put-row-requires : tie.Need-put-row-requires Inv-loop μ-loop
 put-row-requires c κs = search needs
@@ -44,7 +50,15 @@ loop-less-2 : tie.Need-loop-less-2 Inv-loop μ-loop
 loop-less-2 c = search needs
 
 loop-again-2 : tie.Need-loop-again-2 Inv-loop μ-loop
-loop-again-2 c = (omega arith, writing-row _ _ _ _ (c .before .before .before .before .before .before .before .before .before .before .args .parts .now) _ (c .before .before .before .before .before .before .before .before .before .before .pre .1) _ _ (c .before .before .before .before .before .before .before .loop .p) _ (c .before .before .before .before .before .before .loop-test .taken) (c .before .before .before .before .before .before .before .loop .inv .1) _ (c .before .before .before .before .if1 .left) (search needs) (c .before .before .put-row .ensures))
+loop-again-2 c =
+    let c4 = c .before .before .before .before in
+    let c6 = c4 .before .before in
+    let c7 = c6 .before in
+    let c10 = c7 .before .before .before in (
+      omega arith,
+      writing-row _ _ _ _ (c10 .args .parts .now) _ (c10 .pre .1) _ _ (c7 .loop .p) _ (c6 .loop-test .taken) (c7 .loop .inv .1) _
+          (c4 .if1 .left) (search needs) (c .before .before .put-row .ensures),
+    )
 
 same-length : tie.Need-same-length Inv-loop μ-loop
 same-length c = c .before .loop .inv .1 .long

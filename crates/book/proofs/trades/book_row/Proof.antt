@@ -69,14 +69,18 @@ book-trade-requires c κs =
 
 book-trade-requires-2 : tie.Need-book-trade-requires-2
 book-trade-requires-2 c κs =
+    let c3 = c .before .before .before in
     let s = c .before .before .before .before .before .before .before .before .before .before .before .before in
-    buyer-asks (s .args .book .now) _ (rowAt (s .args .rows .now) (s .args .i)) (s .pre .0) (s .pre .3) (s .pre .4) (c .before .before .before .book-trade .ensures)
+    buyer-asks (s .args .book .now) _ (rowAt (s .args .rows .now) (s .args .i)) (s .pre .0) (s .pre .3) (s .pre .4) (c3 .book-trade .ensures)
 
 same-length : tie.Need-same-length
 same-length c = search needs
 
 returns : tie.Need-returns
-returns c = row-traded _ _ _ _ (c .before .before .before .before .before .before .before .before .before .before .before .before .before .before .before .pre .3) (c .before .before .before .before .before .before .book-trade .ensures) (c .before .before .book-trade2 .ensures)
+returns c =
+    let c6 = c .before .before .before .before .before .before in
+    let c15 = c6 .before .before .before .before .before .before .before .before .before in
+    row-traded _ _ _ _ (c15 .pre .3) (c6 .book-trade .ensures) (c .before .before .book-trade2 .ensures)
 
 pub book-row-spec : {M : Type 1} → statement M
 book-row-spec =

@@ -27,7 +27,9 @@ loop-less : tie.Need-loop-less Inv-loop μ-loop
 loop-less c = search needs
 
 loop-again : tie.Need-loop-again Inv-loop μ-loop
-loop-again c = (omega arith, booking-more _ _ _ _ (c .before .before .before .before .before .loop .i) (c .before .before .before .before .before .loop .inv .1) (c .before .before .book-row .ensures))
+loop-again c =
+    let c5 = c .before .before .before .before .before in
+    (omega arith, booking-more _ _ _ _ (c5 .loop .i) (c5 .loop .inv .1) (c .before .before .book-row .ensures))
 
 same-length : tie.Need-same-length Inv-loop μ-loop
 same-length c = c .before .loop .inv .1 .kept .long

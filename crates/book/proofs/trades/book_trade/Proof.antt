@@ -106,13 +106,25 @@ same-length : tie.Need-same-length
 same-length c = search needs
 
 returns : tie.Need-returns
-returns c = trade-raised _ _ _ _ _ _ _ _ (c .before .before .before .before .before .before .before .before .before .before .before .before .before .pre .0) (omega arith) (omega arith) (omega arith) (c .before .before .before .before .before .before .before .way-after .ensures) (sym (c .before .before .before .before .before .raises-net .ensures) ∙ c .before .before .before .before .if1 .taken) (c .before .before .put-figures .ensures)
+returns c =
+    let c4 = c .before .before .before .before in
+    let c5 = c4 .before in
+    let c7 = c5 .before .before in
+    let c13 = c7 .before .before .before .before .before .before in
+    trade-raised _ _ _ _ _ _ _ _ (c13 .pre .0) (omega arith) (omega arith) (omega arith) (c7 .way-after .ensures) (sym (c5 .raises-net .ensures)
+    ∙ c4 .if1 .taken) (c .before .before .put-figures .ensures)
 
 same-length-2 : tie.Need-same-length-2
 same-length-2 c = search needs
 
 returns-2 : tie.Need-returns-2
-returns-2 c = trade-lowered _ _ _ _ _ _ _ _ (c .before .before .before .before .before .before .before .before .before .before .before .before .before .pre .0) (omega arith) (omega arith) (omega arith) (c .before .before .before .before .before .before .before .way-after .ensures) (sym (c .before .before .before .before .before .raises-net .ensures) ∙ c .before .before .before .before .if1 .left) (c .before .before .put-figures2 .ensures)
+returns-2 c =
+    let c4 = c .before .before .before .before in
+    let c5 = c4 .before in
+    let c7 = c5 .before .before in
+    let c13 = c7 .before .before .before .before .before .before in
+    trade-lowered _ _ _ _ _ _ _ _ (c13 .pre .0) (omega arith) (omega arith) (omega arith) (c7 .way-after .ensures) (sym (c5 .raises-net .ensures)
+    ∙ c4 .if1 .left) (c .before .before .put-figures2 .ensures)
 
 pub book-trade-spec : {M : Type 1} → statement M
 book-trade-spec =

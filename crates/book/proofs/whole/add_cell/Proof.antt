@@ -76,15 +76,21 @@ shared-slice-read-whole-2 c = search needs
 
 add-whole-5 : tie.Need-add-whole-5
 add-whole-5 c =
-    let a = c .before .before .before .before .before .before .before .before .before .before .args in
-    let g = c .before .before .before .before .before .before .before .before .before .before .pre in
-    omega (arith, cell-little (a .book .now) (g .0) (a .p) (a .k) (g .2) _ (c .before .before .before .before .before .before .period-fit .ensures) (c .before .before .before .before .before .if1 .left), g .5 (a .k))
+    let c5 = c .before .before .before .before .before in
+    let c6 = c5 .before in
+    let c10 = c6 .before .before .before .before in
+    let a = c10 .args in
+    let g = c10 .pre in
+    omega (arith, cell-little (a .book .now) (g .0) (a .p) (a .k) (g .2) _ (c6 .period-fit .ensures) (c5 .if1 .left), g .5 (a .k))
 
 add-whole-6 : tie.Need-add-whole-6
 add-whole-6 c =
-    let a = c .before .before .before .before .before .before .before .before .before .before .args in
-    let g = c .before .before .before .before .before .before .before .before .before .before .pre in
-    omega (arith, cell-little (a .book .now) (g .0) (a .p) (a .k) (g .2) _ (c .before .before .before .before .before .before .period-fit .ensures) (c .before .before .before .before .before .if1 .left), g .5 (a .k))
+    let c5 = c .before .before .before .before .before in
+    let c6 = c5 .before in
+    let c10 = c6 .before .before .before .before in
+    let a = c10 .args in
+    let g = c10 .pre in
+    omega (arith, cell-little (a .book .now) (g .0) (a .p) (a .k) (g .2) _ (c6 .period-fit .ensures) (c5 .if1 .left), g .5 (a .k))
 
 mul-whole-8 : tie.Need-mul-whole-8
 mul-whole-8 c = search needs
@@ -114,7 +120,10 @@ same-length-2 : tie.Need-same-length-2
 same-length-2 c = search needs
 
 returns-3 : tie.Need-returns-3
-returns-3 c = cell-passed _ _ _ _ (c .before .before .before .before .before .before .before .period-fit .ensures) (c .before .before .before .before .before .before .if1 .left) (omega arith) _ _
+returns-3 c =
+    let c6 = c .before .before .before .before .before .before in
+    let c7 = c6 .before in
+    cell-passed _ _ _ _ (c7 .period-fit .ensures) (c6 .if1 .left) (omega arith) _ _
 
 pub add-cell-spec : {M : Type 1} → statement M
 add-cell-spec =

@@ -24,8 +24,9 @@ loop-holds c = (search needs, past-none _ _ _ _)
 
 add-cell-requires : tie.Need-add-cell-requires Inv-loop μ-loop
 add-cell-requires c κs =
-    let a = c .before .before .before .before .before .before .before .before .args in
-    let g = c .before .before .before .before .before .before .before .before .pre in
+    let c8 = c .before .before .before .before .before .before .before .before in
+    let a = c8 .args in
+    let g = c8 .pre in
     let l = c .before .before .before .loop in
     let b = past-below (a .book .now) (a .p) (a .whole .now) (a .volume .now) (l .whole) (l .volume) (l .k) (l .inv .1) (g .0) (l .inv .0) (g .4) (g .5) in
     (g .0, g .1, omega arith, l .inv .1 .whole .long ∙ g .2, l .inv .1 .volume .long ∙ g .3, b .0, b .1)
@@ -38,10 +39,14 @@ same-length-2 c = search needs
 
 returns : tie.Need-returns Inv-loop μ-loop
 returns c =
-    let a = c .before .before .before .before .before .before .before .before .before .before .before .before .before .before .args in
-    let g = c .before .before .before .before .before .before .before .before .before .before .before .before .before .before .pre in
-    let l = c .before .before .before .before .before .before .before .before .before .loop in
-    past-fails (a .book .now) (a .p) (a .whole .now) (a .volume .now) (l .whole) (l .volume) (l .k) (l .inv .1) _ _ _ (omega arith) (not-true _ (c .if1 .taken)) (c .before .before .before .before .before .add-cell .ensures)
+    let c5 = c .before .before .before .before .before in
+    let c9 = c5 .before .before .before .before in
+    let c14 = c9 .before .before .before .before .before in
+    let a = c14 .args in
+    let g = c14 .pre in
+    let l = c9 .loop in
+    past-fails (a .book .now) (a .p) (a .whole .now) (a .volume .now) (l .whole) (l .volume) (l .k) (l .inv .1) _ _ _ (omega arith)
+    (not-true _ (c .if1 .taken)) (c5 .add-cell .ensures)
 
 add-k : tie.Need-add-k Inv-loop μ-loop
 add-k c = search needs
@@ -51,13 +56,19 @@ loop-less c = search needs
 
 loop-again : tie.Need-loop-again Inv-loop μ-loop
 loop-again c =
-    let a = c .before .before .before .before .before .before .before .before .before .before .before .before .before .before .args in
-    let g = c .before .before .before .before .before .before .before .before .before .before .before .before .before .before .pre in
-    let l = c .before .before .before .before .before .before .before .before .before .loop in
+    let c5 = c .before .before .before .before .before in
+    let c9 = c5 .before .before .before .before in
+    let c14 = c9 .before .before .before .before .before in
+    let a = c14 .args in
+    let g = c14 .pre in
+    let l = c9 .loop in
     let hw = g .2 in
     let hv = g .3 in
-    let few = g .0 .readable .unitsTo in
-    (search needs, past-more (a .book .now) (a .p) (a .whole .now) (a .volume .now) (l .whole) (l .volume) (l .k) (l .inv .1) _ _ _ (omega arith) (omega arith) (not-false _ (c .if1 .left)) (c .before .before .before .before .before .add-cell .ensures))
+    let few = g .0 .readable .unitsTo in (
+      search needs,
+      past-more (a .book .now) (a .p) (a .whole .now) (a .volume .now) (l .whole) (l .volume) (l .k) (l .inv .1) _ _ _ (omega arith)
+          (omega arith) (not-false _ (c .if1 .left)) (c5 .add-cell .ensures),
+    )
 
 same-length-3 : tie.Need-same-length-3 Inv-loop μ-loop
 same-length-3 c = search needs
@@ -67,8 +78,9 @@ same-length-4 c = search needs
 
 returns-2 : tie.Need-returns-2 Inv-loop μ-loop
 returns-2 c =
-    let a = c .before .before .before .before .before .before .args in
-    let g = c .before .before .before .before .before .before .pre in
+    let c6 = c .before .before .before .before .before .before in
+    let a = c6 .args in
+    let g = c6 .pre in
     let l = c .before .loop in
     past-ends (a .book .now) (a .p) (a .whole .now) (a .volume .now) (l .whole) (l .volume) (l .k) (l .inv .1) (g .0) (l .inv .0) (omega arith)
 

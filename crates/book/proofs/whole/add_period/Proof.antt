@@ -22,9 +22,11 @@ same-length-2 c = search needs
 
 returns : tie.Need-returns
 returns c =
-    let a = c .before .before .before .before .before .before .before .before .before .before .before .before .before .before .before .args in
-    let g = c .before .before .before .before .before .before .before .before .before .before .before .before .before .before .before .pre in
-    (period-fails (a .book .now) (g .0) (a .p) _ _ _ _ _ (not-true _ (c .if1 .taken)) (c .before .before .before .before .before .add-idle .ensures) _ _, (λ z. both-ways (sym z)))
+    let c5 = c .before .before .before .before .before in
+    let c15 = c5 .before .before .before .before .before .before .before .before .before .before in
+    let a = c15 .args in
+    let g = c15 .pre in
+    (period-fails (a .book .now) (g .0) (a .p) _ _ _ _ _ (not-true _ (c .if1 .taken)) (c5 .add-idle .ensures) _ _, (λ z. both-ways (sym z)))
 
 shared-slice-read-if2 : tie.Need-shared-slice-read-if2
 shared-slice-read-if2 c = search needs
@@ -37,8 +39,10 @@ shared-slice-read-if2-2 c = search needs
 
 add-if2 : tie.Need-add-if2
 add-if2 c =
-    let a = c .before .before .before .before .before .before .before .before .before .before .before .before .before .before .before .before .before .args in
-    let g = c .before .before .before .before .before .before .before .before .before .before .before .before .before .before .before .before .before .pre in
+    let c10 = c .before .before .before .before .before .before .before .before .before .before in
+    let c17 = c10 .before .before .before .before .before .before .before in
+    let a = c17 .args in
+    let g = c17 .pre in
     omega (arith, g .4 .ofValue (a .p) (omega arith) .to, g .0 .readable .ordersTo, g .0 .readable .offersTo)
 
 same-length-3 : tie.Need-same-length-3
@@ -49,18 +53,39 @@ same-length-4 c = search needs
 
 returns-2 : tie.Need-returns-2
 returns-2 c =
-    let a = c .before .before .before .before .before .before .before .before .before .before .before .before .before .before .before .before .before .before .args in
-    let g = c .before .before .before .before .before .before .before .before .before .before .before .before .before .before .before .before .before .before .pre in
+    let c3 = c .before .before .before in
+    let c8 = c3 .before .before .before .before .before in
+    let c18 = c8 .before .before .before .before .before .before .before .before .before .before in
+    let a = c18 .args in
+    let g = c18 .pre in
     let l = g .4 .ofValue (a .p) (omega arith) in
-    let d : CellsDone (a .book .now) (a .p) (λ k. 0) (λ k. 0) (a .whole .now) (a .volume .now) true (c .before .before .before .before .before .before .before .before .add-idle .last .1 .1 .0) (c .before .before .before .before .before .before .before .before .add-idle .last .1 .1 .1 .0) = rw (not-false (c .before .before .before .before .before .before .before .before .add-idle .result) (c .before .before .before .if1 .left)) at (c .before .before .before .before .before .before .before .before .add-idle .ensures) in
-    (cells-same (a .book .now) (a .p) (λ k. 0) (λ k. 0) (openUp (a .book .now) (a .p)) (openDown (a .book .now) (a .p)) _ _ _ _ _ (λ k h. idle-up _ _ _ l (c .if2 .taken) k) (λ k h. idle-down _ _ _ l (c .if2 .taken) k) d, (λ z. g .5))
+    let d : CellsDone (a .book .now) (a .p) (λ k. 0) (λ k. 0) (a .whole .now) (a .volume .now) true (c8 .add-idle .last .1 .1 .0)
+    (c8 .add-idle .last .1 .1 .1 .0) = rw (not-false (c8 .add-idle .result) (c3 .if1 .left)) at (c8 .add-idle .ensures) in (
+      cells-same (a .book .now) (a .p) (λ k. 0) (λ k. 0) (openUp (a .book .now) (a .p)) (openDown (a .book .now) (a .p)) _ _ _ _ _
+          (λ k h. idle-up _ _ _ l (c .if2 .taken) k) (λ k h. idle-down _ _ _ l (c .if2 .taken) k) d,
+      (λ z. g .5),
+    )
 
 add-open-requires : tie.Need-add-open-requires
 add-open-requires c κs =
-    let g = c .before .before .before .before .before .before .before .before .before .before .before .before .before .before .before .before .before .before .before .before .before .before .pre in
-    let d = c .before .before .before .before .before .before .before .before .before .before .before .before .add-idle .ensures in
-    let t = not-false _ (c .before .before .before .before .before .before .before .if1 .left) in
-    (g .0, g .1, g .2, g .3, g .4, g .5, d .whole t .long ∙ g .6, d .volume t .long ∙ g .7, (λ i. omega (arith, d .whole t .grown i, g .8 i)), (λ i. omega (arith, d .volume t .grown i, g .9 i)))
+    let c7 = c .before .before .before .before .before .before .before in
+    let c12 = c7 .before .before .before .before .before in
+    let c22 = c12 .before .before .before .before .before .before .before .before .before .before in
+    let g = c22 .pre in
+    let d = c12 .add-idle .ensures in
+    let t = not-false _ (c7 .if1 .left) in (
+      g .0,
+      g .1,
+      g .2,
+      g .3,
+      g .4,
+      g .5,
+      d .whole t .long ∙ g .6,
+      d .volume t .long
+          ∙ g .7,
+      (λ i. omega (arith, d .whole t .grown i, g .8 i)),
+      (λ i. omega (arith, d .volume t .grown i, g .9 i)),
+    )
 
 same-length-5 : tie.Need-same-length-5
 same-length-5 c = search needs
@@ -76,10 +101,14 @@ same-length-8 c = search needs
 
 returns-3 : tie.Need-returns-3
 returns-3 c =
-    let a = c .before .before .before .before .before .before .before .before .before .before .before .before .before .before .before .before .before .before .before .before .before .before .before .before .before .before .before .before .before .before .before .args in
-    let g = c .before .before .before .before .before .before .before .before .before .before .before .before .before .before .before .before .before .before .before .before .before .before .before .before .before .before .before .before .before .before .before .pre in
-    let o = c .before .before .before .before .before .before .before .before .add-open .ensures in
-    (period-done (a .book .now) (g .0) (a .p) _ _ _ _ _ (not-false _ (c .before .before .before .before .before .before .before .before .before .before .before .before .before .before .before .before .if1 .left)) (c .before .before .before .before .before .before .before .before .before .before .before .before .before .before .before .before .before .before .before .before .before .add-idle .ensures) _ _ _ (o .0), o .1)
+    let c8 = c .before .before .before .before .before .before .before .before in
+    let c16 = c8 .before .before .before .before .before .before .before .before in
+    let c21 = c16 .before .before .before .before .before in
+    let c31 = c21 .before .before .before .before .before .before .before .before .before .before in
+    let a = c31 .args in
+    let g = c31 .pre in
+    let o = c8 .add-open .ensures in
+    (period-done (a .book .now) (g .0) (a .p) _ _ _ _ _ (not-false _ (c16 .if1 .left)) (c21 .add-idle .ensures) _ _ _ (o .0), o .1)
 
 pub add-period-spec : {M : Type 1} → statement M
 add-period-spec =

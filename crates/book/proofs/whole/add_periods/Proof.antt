@@ -14,7 +14,8 @@ use Rattle.book.proofs.whole.add_periods.Statement.{statement}
 use Rattle.book.proofs.whole.add_periods.Tie as tie
 
 abbrev Inv-loop : tie.InvT-loop
-Inv-loop book last before whole₀ volume₀ top raising₀ lowering₀ p₀ whole volume raising lowering p = (p ≤ 24 * word book 0) × (length whole ≡ length whole₀) × (length volume ≡ length volume₀) × (PeriodsDone book p whole₀ volume₀ true whole volume) × (NoneWaits raising lowering)
+Inv-loop book last before whole₀ volume₀ top raising₀ lowering₀ p₀ whole volume raising lowering p = (p ≤ 24 * word book 0) × (length whole ≡ length whole₀)
+    × (length volume ≡ length volume₀) × (PeriodsDone book p whole₀ volume₀ true whole volume) × (NoneWaits raising lowering)
 
 abbrev μ-loop : tie.MeasureT-loop
 μ-loop book last before whole₀ volume₀ top raising₀ lowering₀ p₀ whole volume raising lowering p = 24 * word book 0 - p
@@ -36,9 +37,11 @@ slice-aggregate-add-period-2 c = search needs
 
 add-period-requires : tie.Need-add-period-requires Inv-loop μ-loop
 add-period-requires c κs =
-    let a = c .before .before .before .before .before .before .before .before .before .before .before .before .args in
-    let g = c .before .before .before .before .before .before .before .before .before .before .before .before .pre in
-    let l = c .before .before .before .before .before .loop in
+    let c5 = c .before .before .before .before .before in
+    let c12 = c5 .before .before .before .before .before .before .before in
+    let a = c12 .args in
+    let g = c12 .pre in
+    let l = c5 .loop in
     let r = g .0 .readable .daysTo in
     let b = periods-below (a .book .now) (a .whole .now) (a .volume .now) (l .whole) (l .volume) (l .p) (l .inv .3) (omega arith) (g .6) (g .7) in
     (g .0, omega arith, g .1, g .2, g .3, l .inv .4, l .inv .1 ∙ g .4, l .inv .2 ∙ g .5, b .0, b .1)
@@ -50,7 +53,10 @@ same-length-2 : tie.Need-same-length-2 Inv-loop μ-loop
 same-length-2 c = search needs
 
 returns : tie.Need-returns Inv-loop μ-loop
-returns c = let l = c .before .before .before .before .before .before .before .before .before .before .before .before .before .loop in periods-fail _ _ _ _ _ _ _ _ (l .p) _ (omega arith) (not-true _ (c .if1 .taken)) (c .before .before .before .before .before .before .before .add-period .ensures .0)
+returns c =
+    let c7 = c .before .before .before .before .before .before .before in
+    let c13 = c7 .before .before .before .before .before .before in
+    let l = c13 .loop in periods-fail _ _ _ _ _ _ _ _ (l .p) _ (omega arith) (not-true _ (c .if1 .taken)) (c7 .add-period .ensures .0)
 
 add-p : tie.Need-add-p Inv-loop μ-loop
 add-p c = search needs
@@ -60,9 +66,11 @@ loop-less c = search needs
 
 loop-again : tie.Need-loop-again Inv-loop μ-loop
 loop-again c =
-    let l = c .before .before .before .before .before .before .before .before .before .before .before .before .before .loop in
-    let d = c .before .before .before .before .before .before .before .add-period .ensures in
-    let t = not-false (c .before .before .before .before .before .before .before .add-period .result) (c .if1 .left) in
+    let c7 = c .before .before .before .before .before .before .before in
+    let c13 = c7 .before .before .before .before .before .before in
+    let l = c13 .loop in
+    let d = c7 .add-period .ensures in
+    let t = not-false (c7 .add-period .result) (c .if1 .left) in
     (search needs, d .0 .whole t .long ∙ l .inv .1, d .0 .volume t .long ∙ l .inv .2, periods-more _ _ _ _ _ (l .p) (l .inv .3) _ _ _ t (d .0), d .1 t)
 
 same-length-3 : tie.Need-same-length-3 Inv-loop μ-loop

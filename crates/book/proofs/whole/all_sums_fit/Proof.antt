@@ -45,8 +45,9 @@ loop-again c =
 
 returns-2 : tie.Need-returns-2 Inv-loop μ-loop
 returns-2 c =
+    let c6 = c .before .before .before .before .before .before in
     let l = c .before in
-    let e : l .loop .k ≡ word (c .before .before .before .before .before .before .args .book .now) 5 = omega arith in
+    let e : l .loop .k ≡ word (c6 .args .book .now) 5 = omega arith in
     sym (rw e at (l .loop .inv .1))
 
 pub all-sums-fit-spec : {M : Type 1} → statement M

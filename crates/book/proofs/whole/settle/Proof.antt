@@ -58,10 +58,12 @@ slice-read-volume : tie.Need-slice-read-volume
 slice-read-volume c = search needs
 
 add-volume : tie.Need-add-volume
-add-volume c = let g = c .before .before .before .before .before .before .before .before .before .before .before in omega (arith, g .pre .3 .most (g .args .k))
+add-volume c = let g = c .before .before .before .before .before .before .before .before .before .before .before in omega
+    (arith, g .pre .3 .most (g .args .k))
 
 add-volume-2 : tie.Need-add-volume-2
-add-volume-2 c = let g = c .before .before .before .before .before .before .before .before .before .before .before in omega (arith, g .pre .3 .most (g .args .k))
+add-volume-2 c = let g = c .before .before .before .before .before .before .before .before .before .before .before in omega
+    (arith, g .pre .3 .most (g .args .k))
 
 mul-volume-2 : tie.Need-mul-volume-2
 mul-volume-2 c = search needs
@@ -82,7 +84,18 @@ same-length-4 : tie.Need-same-length-4
 same-length-4 c = search needs
 
 returns-2 : tie.Need-returns-2
-returns-2 c = record { answer = let a = c .before .before .before .before .before .before .before .before .before .before .before .args in settle-passes (a .book .now) (a .p) (a .k) (a .raising .now) (a .lowering .now) (a .whole .now) (a .volume .now) _ (c .before .before .before .period-fit .ensures) (c .before .before .if1 .left); up = λ z. refl; down = λ z. refl; whole = λ z. refl; volume = λ z. refl }
+returns-2 c =
+    let c3 = c .before .before .before in
+    let c11 = c3 .before .before .before .before .before .before .before .before in
+    record {
+      answer = let a = c11 .args in settle-passes (a .book .now) (a .p) (a .k) (a .raising .now) (a .lowering .now) (a .whole .now)
+          (a .volume .now) _ (c3 .period-fit .ensures) (c .before .before .if1 .left);
+      up = λ z. refl;
+      down = λ z. refl;
+      whole = λ z. refl;
+      volume = λ z.
+          refl;
+    }
 
 pub settle-spec : {M : Type 1} → statement M
 settle-spec =

@@ -8,13 +8,24 @@ use Rattle.measures.proofs.ListLaws.{both-ways}
 use Rattle.book.specs.Layout.{word}
 use Rattle.book.specs.inner.Whole.{Latest, Settling, OrdersSettled}
 use Rattle.book.proofs.laws.check.ShareLaws.{order-words}
-use Rattle.book.proofs.laws.check.SettleLaws.{settling-none, settling-more, settling-fails, none-here, none-there, settles-fails, settles-ends, orders-settled-more}
+use Rattle.book.proofs.laws.check.SettleLaws.{
+  settling-none,
+  settling-more,
+  settling-fails,
+  none-here,
+  none-there,
+  settles-fails,
+  settles-ends,
+  orders-settled-more,
+}
 use borrow.Author.Needs.{needs}
 use Rattle.book.proofs.whole.settle_orders.Statement.{statement}
 use Rattle.book.proofs.whole.settle_orders.Tie as tie
 
 abbrev Inv-loop : tie.InvT-loop
-Inv-loop book p last before raising₀ lowering₀ whole₀ volume₀ at₀ raising lowering whole volume at = (at ≤ word book 7) × (0 < at → word book (240 + 6 * (at - 1) + 3) ≡ p) × (Settling book p raising₀ lowering₀ whole₀ volume₀ raising lowering whole volume) × (OrdersSettled book p at raising lowering)
+Inv-loop book p last before raising₀ lowering₀ whole₀ volume₀ at₀ raising lowering whole volume at = (at ≤ word book 7)
+    × (0 < at → word book (240 + 6 * (at - 1) + 3) ≡ p) × (Settling book p raising₀ lowering₀ whole₀ volume₀ raising lowering whole volume)
+    × (OrdersSettled book p at raising lowering)
 
 abbrev μ-loop : tie.MeasureT-loop
 μ-loop book p last before raising₀ lowering₀ whole₀ volume₀ at₀ raising lowering whole volume at = at
@@ -27,8 +38,9 @@ shared-slice-read-at c = search needs
 
 loop-holds : tie.Need-loop-holds Inv-loop μ-loop
 loop-holds c =
-    let g = c .before .before .before .before .before .before .before .before .pre in
-    let v = g .4 .ofValue (c .before .before .before .before .before .before .before .before .args .p) (omega arith) in
+    let c8 = c .before .before .before .before .before .before .before .before in
+    let g = c8 .pre in
+    let v = g .4 .ofValue (c8 .args .p) (omega arith) in
     (v .to, v .own, settling-none _ _ _ _ _ _ (g .5), (λ i lo hi e. absurd (v .none i lo hi e)))
 
 sub-k : tie.Need-sub-k Inv-loop μ-loop
@@ -50,13 +62,16 @@ shared-slice-read-k : tie.Need-shared-slice-read-k Inv-loop μ-loop
 shared-slice-read-k c = search needs
 
 sub-k-2 : tie.Need-sub-k-2 Inv-loop μ-loop
-sub-k-2 c = let g = c .before .before .before .before .before .before .before .before .before .before .before in let l = c .before .before .loop in omega (arith, order-words (g .args .book .now) (l .at - 1) (g .pre .0) (omega arith))
+sub-k-2 c = let g = c .before .before .before .before .before .before .before .before .before .before .before in let l = c .before .before .loop in omega
+    (arith, order-words (g .args .book .now) (l .at - 1) (g .pre .0) (omega arith))
 
 settle-requires : tie.Need-settle-requires Inv-loop μ-loop
 settle-requires c κs =
-    let a = c .before .before .before .before .before .before .before .before .before .before .before .before .before .before .before .args in
-    let g = c .before .before .before .before .before .before .before .before .before .before .before .before .before .before .before .pre in
-    let l = c .before .before .before .before .before .before .loop in
+    let c6 = c .before .before .before .before .before .before in
+    let c15 = c6 .before .before .before .before .before .before .before .before .before in
+    let a = c15 .args in
+    let g = c15 .pre in
+    let l = c6 .loop in
     let u = order-words (a .book .now) (l .at - 1) (g .0) (omega arith) .unit in
     (g .0, g .1, omega arith, l .inv .2 .waiting)
 
@@ -74,13 +89,19 @@ same-length-4 c = search needs
 
 returns : tie.Need-returns Inv-loop μ-loop
 returns c =
-    let a = c .before .before .before .before .before .before .before .before .before .before .before .before .before .before .before .before .before .before .before .before .before .before .before .before .before .args in
-    let g = c .before .before .before .before .before .before .before .before .before .before .before .before .before .before .before .before .before .before .before .before .before .before .before .before .before .pre in
-    let l = c .before .before .before .before .before .before .before .before .before .before .before .before .before .before .before .before .loop in
-    let d = c .before .before .before .before .before .before .before .before .before .settle .ensures in
+    let c9 = c .before .before .before .before .before .before .before .before .before in
+    let c16 = c9 .before .before .before .before .before .before .before in
+    let c25 = c16 .before .before .before .before .before .before .before .before .before in
+    let a = c25 .args in
+    let g = c25 .pre in
+    let l = c16 .loop in
+    let d = c9 .settle .ensures in
     let u = order-words (a .book .now) (l .at - 1) (g .0) (omega arith) .unit in
-    let k = word (a .book .now) (240 + 6 * (l .at - 1) + 1) - 1 in
-    (settles-fails _ _ _ _ _ _ _ _ _ _ (settling-fails _ _ _ _ _ _ _ _ _ _ (l .inv .2) k (omega arith) (g .0 .readable .unitsTo) _ _ _ _ _ d (not-true _ (c .if1 .taken))), (λ z. both-ways (sym z)))
+    let k = word (a .book .now) (240 + 6 * (l .at - 1) + 1) - 1 in (
+      settles-fails _ _ _ _ _ _ _ _ _ _ (settling-fails _ _ _ _ _ _ _ _ _ _ (l .inv .2) k (omega arith) (g .0 .readable .unitsTo) _ _ _ _ _ d
+          (not-true _ (c .if1 .taken))),
+      (λ z. both-ways (sym z)),
+    )
 
 sub-at : tie.Need-sub-at Inv-loop μ-loop
 sub-at c = search needs
@@ -92,20 +113,35 @@ shared-slice-read-at-2 : tie.Need-shared-slice-read-at-2 Inv-loop μ-loop
 shared-slice-read-at-2 c = search needs
 
 loop-less : tie.Need-loop-less Inv-loop μ-loop
-loop-less c = let g = c .before .before .before .before .before .before .before .before .before .before .before .before .before .before .before .before .before .before .before .before .before .before .before .before .before .before .pre in omega (arith, g .4 .ofOrder (c .before .before .before .before .before .before .before .before .before .before .before .before .before .before .before .before .before .loop .at - 1) (omega arith) .to)
+loop-less c =
+    let c10 = c .before .before .before .before .before .before .before .before .before .before in
+    let c17 = c10 .before .before .before .before .before .before .before in
+    let c26 = c17 .before .before .before .before .before .before .before .before .before in
+    let g = c26 .pre in omega (arith, g .4 .ofOrder (c17 .loop .at - 1) (omega arith) .to)
 
 loop-again : tie.Need-loop-again Inv-loop μ-loop
 loop-again c =
-    let a = c .before .before .before .before .before .before .before .before .before .before .before .before .before .before .before .before .before .before .before .before .before .before .before .before .before .before .args in
-    let g = c .before .before .before .before .before .before .before .before .before .before .before .before .before .before .before .before .before .before .before .before .before .before .before .before .before .before .pre in
-    let l = c .before .before .before .before .before .before .before .before .before .before .before .before .before .before .before .before .before .loop in
-    let d = c .before .before .before .before .before .before .before .before .before .before .settle .ensures in
+    let c10 = c .before .before .before .before .before .before .before .before .before .before in
+    let c16 = c10 .before .before .before .before .before .before in
+    let c17 = c16 .before in
+    let c26 = c17 .before .before .before .before .before .before .before .before .before in
+    let a = c26 .args in
+    let g = c26 .pre in
+    let l = c17 .loop in
+    let d = c10 .settle .ensures in
     let u = order-words (a .book .now) (l .at - 1) (g .0) (omega arith) .unit in
     let k = word (a .book .now) (240 + 6 * (l .at - 1) + 1) - 1 in
-    let t = not-false (c .before .before .before .before .before .before .before .before .before .before .settle .result) (c .before .if1 .left) in
+    let t = not-false (c10 .settle .result) (c .before .if1 .left) in
     let q = g .4 .ofOrder (l .at - 1) (omega arith) in
-    let w : Latest (a .book .now) 3 (a .p) (getD (a .before .now) (l .at - 1) 0) (l .at - 1) = rw (l .inv .1 (c .before .before .before .before .before .before .before .before .before .before .before .before .before .before .before .before .loop-test .taken)) at q in
-    (omega (arith, q .to), w .own, settling-more _ _ _ _ _ _ _ _ _ _ (l .inv .2) k (omega arith) (g .0 .readable .unitsTo) _ _ _ _ _ d t, orders-settled-more (a .book .now) (a .p) (l .at) (getD (a .before .now) (l .at - 1) 0) (l .raising) (l .lowering) (c .before .before .before .before .before .before .before .before .before .before .settle .last .1 .1 .1 .0) (c .before .before .before .before .before .before .before .before .before .before .settle .last .1 .1 .1 .1 .0) (c .before .before .before .before .before .before .before .before .before .before .before .before .before .before .before .before .loop-test .taken) (none-there _ _ _ _ _ _ _ _ _ _ (l .inv .2) k (omega arith) (g .0 .readable .unitsTo) _ _ _ _ _ d t) (none-here _ _ _ _ _ _ _ _ _ _ (l .inv .2) k (omega arith) (g .0 .readable .unitsTo) _ _ _ _ _ d t) w (l .inv .3))
+    let w : Latest (a .book .now) 3 (a .p) (getD (a .before .now) (l .at - 1) 0) (l .at - 1) = rw (l .inv .1 (c16 .loop-test .taken)) at q in (
+      omega (arith, q .to),
+      w .own,
+      settling-more _ _ _ _ _ _ _ _ _ _ (l .inv .2) k (omega arith) (g .0 .readable .unitsTo) _ _ _ _ _ d t,
+      orders-settled-more (a .book .now) (a .p) (l .at) (getD (a .before .now) (l .at - 1) 0) (l .raising) (l .lowering) (c10 .settle .last .1 .1 .1 .0)
+          (c10 .settle .last .1 .1 .1 .1 .0) (c16 .loop-test .taken)
+          (none-there _ _ _ _ _ _ _ _ _ _ (l .inv .2) k (omega arith) (g .0 .readable .unitsTo) _ _ _ _ _ d t)
+          (none-here _ _ _ _ _ _ _ _ _ _ (l .inv .2) k (omega arith) (g .0 .readable .unitsTo) _ _ _ _ _ d t) w (l .inv .3),
+    )
 
 same-length-5 : tie.Need-same-length-5 Inv-loop μ-loop
 same-length-5 c = search needs

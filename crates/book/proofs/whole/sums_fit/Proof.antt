@@ -27,12 +27,14 @@ shared-slice-read-if2 c = search needs
 
 returns-2 : tie.Need-returns-2
 returns-2 c =
-    let b = c .before .before .before .before .before .before .bounds-of .ensures in
+    let c6 = c .before .before .before .before .before .before in
+    let b = c6 .bounds-of .ensures in
     sums-volume _ _ _ _ _ _ (b .0) (b .1) (c .if2 .taken)
 
 returns-3 : tie.Need-returns-3
 returns-3 c =
-    let b = c .before .before .before .before .before .before .bounds-of .ensures in
+    let c6 = c .before .before .before .before .before .before in
+    let b = c6 .bounds-of .ensures in
     sums-within _ _ _ _ _ _ (b .0) (b .1) (c .before .before .before .if1 .left) (c .if2 .left)
 
 pub sums-fit-spec : {M : Type 1} → statement M

@@ -14,10 +14,16 @@ slice-aggregate-add-periods-2 : tie.Need-slice-aggregate-add-periods-2
 slice-aggregate-add-periods-2 c = search needs
 
 add-periods-requires : tie.Need-add-periods-requires
-add-periods-requires c κs = let g = c .before .before .before .before .before .pre in (g .0, g .1, g .2, g .3, refl, refl, zeros-below 64 0, zeros-below 64 0)
+add-periods-requires c κs =
+    let c5 = c .before .before .before .before .before in
+    let g = c5 .pre in (g .0, g .1, g .2, g .3, refl, refl, zeros-below 64 0, zeros-below 64 0)
 
 returns : tie.Need-returns
-returns c = units-fail _ (c .before .before .before .before .before .before .before .before .before .pre .0) (replicate 64 0) (replicate 64 0) _ _ (zeros-below 64 0) (zeros-below 64 0) _ (not-true _ (c .if1 .taken)) (c .before .before .before .add-periods .ensures)
+returns c =
+    let c3 = c .before .before .before in
+    let c9 = c3 .before .before .before .before .before .before in
+    units-fail _ (c9 .pre .0) (replicate 64 0) (replicate 64 0) _ _ (zeros-below 64 0) (zeros-below 64 0) _ (not-true _ (c .if1 .taken))
+    (c3 .add-periods .ensures)
 
 slice-aggregate-all-sums-fit : tie.Need-slice-aggregate-all-sums-fit
 slice-aggregate-all-sums-fit c = search needs
@@ -29,7 +35,12 @@ all-sums-fit-requires : tie.Need-all-sums-fit-requires
 all-sums-fit-requires c κs = search needs
 
 returns-2 : tie.Need-returns-2
-returns-2 c = c .all-sums-fit .ensures ∙ units-by-sums _ (c .before .before .before .before .before .before .before .before .before .before .before .before .pre .0) (replicate 64 0) (replicate 64 0) _ _ (zeros-below 64 0) (zeros-below 64 0) _ (not-false _ (c .before .before .before .if1 .left)) (c .before .before .before .before .before .before .add-periods .ensures)
+returns-2 c =
+    let c3 = c .before .before .before in
+    let c6 = c3 .before .before .before in
+    let c12 = c6 .before .before .before .before .before .before in
+    c .all-sums-fit .ensures ∙ units-by-sums _ (c12 .pre .0) (replicate 64 0) (replicate 64 0) _ _ (zeros-below 64 0) (zeros-below 64 0) _
+    (not-false _ (c3 .if1 .left)) (c6 .add-periods .ensures)
 
 pub units-fit-spec : {M : Type 1} → statement M
 units-fit-spec =

@@ -50,9 +50,11 @@ loop-less c = search needs
 
 loop-again : tie.Need-loop-again Inv-loop μ-loop
 loop-again c =
+    let c5 = c .before .before .before .before .before in
     let s = c .before .before .before .before .before .before .before .before in
     let w = c .before .before .shift in
-    closing-more _ _ _ _ _ _ (s .pre .0) (s .pre .1) (s .pre .2) (omega arith) (c .before .before .before .before .before .loop .inv) (w .kept .0) (w .ensures .0) (w .ensures .1) (w .ensures .2) (w .ensures .3)
+    closing-more _ _ _ _ _ _ (s .pre .0) (s .pre .1) (s .pre .2) (omega arith) (c5 .loop .inv) (w .kept .0) (w .ensures .0) (w .ensures .1) (w .ensures .2)
+    (w .ensures .3)
 
 same-length : tie.Need-same-length Inv-loop μ-loop
 same-length c = search needs

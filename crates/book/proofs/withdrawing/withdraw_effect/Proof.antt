@@ -15,7 +15,9 @@ ok : (c : tie.Start) → Readable (c .args .book .now)
 ok c = sound-readable _ (c .pre .0)
 
 found : (c : tie.After-offer-place) → c .offer-place .result < word (c .before .before .before .before .args .book .now) 6
-found c = offer-placed _ (c .before .before .before .before .pre .0) _ (c .before .before .before .before .pre .1) (c .offer-place .result) (c .offer-place .ensures .0) (c .offer-place .ensures .1)
+found c =
+    let c4 = c .before .before .before .before in
+    offer-placed _ (c4 .pre .0) _ (c4 .pre .1) (c .offer-place .result) (c .offer-place .ensures .0) (c .offer-place .ensures .1)
 
 slice-read-n : tie.Need-slice-read-n
 slice-read-n c = let r = ok (c .before .before) in omega arith
@@ -24,49 +26,74 @@ offer-place-requires : tie.Need-offer-place-requires
 offer-place-requires c κs = ok (c .before .before .before)
 
 shift-amounts-requires : tie.Need-shift-amounts-requires
-shift-amounts-requires c κs = (ok (c .before .before .before .before .before), found (c .before), ok (c .before .before .before .before .before) .offersTo)
+shift-amounts-requires c κs =
+    let c5 = c .before .before .before .before .before in
+    (ok c5, found (c .before), ok c5 .offersTo)
 
 mul-shift : tie.Need-mul-shift
-mul-shift c = let r = ok (c .before .before .before .before .before .before .before .before .before) in let f = found (c .before .before .before .before .before) in omega arith
+mul-shift c =
+    let c5 = c .before .before .before .before .before in
+    let c9 = c5 .before .before .before .before in
+    let r = ok c9 in let f = found c5 in omega arith
 
 add-shift : tie.Need-add-shift
-add-shift c = let r = ok (c .before .before .before .before .before .before .before .before .before) in let f = found (c .before .before .before .before .before) in omega arith
+add-shift c =
+    let c5 = c .before .before .before .before .before in
+    let c9 = c5 .before .before .before .before in
+    let r = ok c9 in let f = found c5 in omega arith
 
 mul-shift-2 : tie.Need-mul-shift-2
-mul-shift-2 c = let r = ok (c .before .before .before .before .before .before .before .before .before) in omega arith
+mul-shift-2 c =
+    let c9 = c .before .before .before .before .before .before .before .before .before in
+    let r = ok c9 in omega arith
 
 add-shift-2 : tie.Need-add-shift-2
-add-shift-2 c = let r = ok (c .before .before .before .before .before .before .before .before .before) in omega arith
+add-shift-2 c =
+    let c9 = c .before .before .before .before .before .before .before .before .before in
+    let r = ok c9 in omega arith
 
 shift-requires : tie.Need-shift-requires
 shift-requires c κs =
-    let r = ok (c .before .before .before .before .before .before .before .before .before) in
-    let f = found (c .before .before .before .before .before) in
-    let l : length (c .before .before .before .shift-amounts .last .0) ≡ length (c .before .before .before .before .before .before .before .before .before .args .book .now) = c .before .before .before .shift-amounts .kept .0 in
+    let c3 = c .before .before .before in
+    let c5 = c3 .before .before in
+    let c9 = c5 .before .before .before .before in
+    let r = ok c9 in
+    let f = found c5 in
+    let l : length (c3 .shift-amounts .last .0) ≡ length (c9 .args .book .now) = c3 .shift-amounts .kept .0 in
     (omega arith, omega arith)
 
 sub-book : tie.Need-sub-book
-sub-book c = let f = found (c .before .before .before .before .before .before .before .before) in omega arith
+sub-book c =
+    let c8 = c .before .before .before .before .before .before .before .before in
+    let f = found c8 in omega arith
 
 slice-write-book : tie.Need-slice-write-book
 slice-write-book c =
-    let r = ok (c .before .before .before .before .before .before .before .before .before .before .before .before) in
-    let l : length (c .before .before .shift .last .0) ≡ length (c .before .before .before .before .before .before .before .before .before .before .before .before .args .book .now) = c .before .before .shift .kept .0 ∙ c .before .before .before .before .before .before .shift-amounts .kept .0 in
+    let c6 = c .before .before .before .before .before .before in
+    let c12 = c6 .before .before .before .before .before .before in
+    let r = ok c12 in
+    let l : length (c .before .before .shift .last .0) ≡ length (c12 .args .book .now) = c .before .before .shift .kept .0 ∙ c6 .shift-amounts .kept .0 in
     omega arith
 
 same-length : tie.Need-same-length
-same-length c = simp length-set (c .before .before .shift .kept .0 ∙ c .before .before .before .before .before .before .shift-amounts .kept .0)
+same-length c =
+    let c6 = c .before .before .before .before .before .before in
+    simp length-set (c .before .before .shift .kept .0 ∙ c6 .shift-amounts .kept .0)
 
 returns : tie.Need-returns
 returns c =
+    let c6 = c .before .before .before .before .before .before in
+    let c8 = c6 .before .before in
     let s = c .before .before .before .before .before .before .before .before .before .before .before .before in
     let a = s .args in
-    let f = found (c .before .before .before .before .before .before .before .before) in
-    let p = c .before .before .before .before .before .before .before .before .offer-place in
-    let u = c .before .before .before .before .before .before .shift-amounts in
+    let f = found c8 in
+    let p = c8 .offer-place in
+    let u = c6 .shift-amounts in
     let w = c .before .before .shift in (
-      withdrawn (a .book .now) (u .last .0) (w .last .0) (a .number) (p .result) (s .pre .0) f (p .ensures .2 f) (u .kept .0) (w .kept .0) (u .ensures .0) (u .ensures .1) (u .ensures .2) (w .ensures .0) (w .ensures .1) (w .ensures .2) (w .ensures .3),
-      withdrawn-past (a .book .now) (u .last .0) (w .last .0) (a .number) (p .result) (s .pre .0) f (p .ensures .2 f) (u .kept .0) (w .kept .0) (u .ensures .0) (u .ensures .1) (u .ensures .2) (w .ensures .0) (w .ensures .1) (w .ensures .2) (w .ensures .3),
+      withdrawn (a .book .now) (u .last .0) (w .last .0) (a .number) (p .result) (s .pre .0) f (p .ensures .2 f) (u .kept .0) (w .kept .0) (u .ensures .0)
+          (u .ensures .1) (u .ensures .2) (w .ensures .0) (w .ensures .1) (w .ensures .2) (w .ensures .3),
+      withdrawn-past (a .book .now) (u .last .0) (w .last .0) (a .number) (p .result) (s .pre .0) f (p .ensures .2 f) (u .kept .0) (w .kept .0)
+          (u .ensures .0) (u .ensures .1) (u .ensures .2) (w .ensures .0) (w .ensures .1) (w .ensures .2) (w .ensures .3),
     )
 
 pub withdraw-effect-spec : {M : Type 1} → statement M

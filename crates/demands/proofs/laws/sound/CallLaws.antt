@@ -27,12 +27,14 @@ use Rattle.book.proofs.laws.take.TakingLaws.{taking-sound}
 
 -- a call that is not refused was made on a sound book
 pub was-sound : (b : Book) (c : Call) → outcome b c .refusal ≡ 0 → sound b ≡ true
-unfolding enrolment offering taking withdrawal ordering cancellation clearing closing enrolRefusal offerRefusal takeRefusal withdrawRefusal orderRefusal cancelRefusal clearRefusal
+unfolding enrolment offering taking withdrawal ordering cancellation clearing closing enrolRefusal offerRefusal takeRefusal withdrawRefusal orderRefusal
+    cancelRefusal clearRefusal
 was-sound b (enrol kind capacity asset) z = first-passed b _ (not-refused (enrolRefusal b kind capacity asset) b _ z)
 was-sound b (offer unit partner price amounts) z = first-passed b _ (not-refused (offerRefusal b unit partner price amounts) b _ z)
 was-sound b (take unit number quantity lent) z = first-passed b _ (not-refused (takeRefusal b unit number quantity lent) b _ z)
 was-sound b (withdraw unit number) z = first-passed b _ (not-refused (withdrawRefusal b unit number) b _ z)
-was-sound b (order unit direction period price quantity lent) z = first-passed b _ (not-refused (orderRefusal b unit direction period price quantity lent) b _ z)
+was-sound b (order unit direction period price quantity lent) z = first-passed b _
+    (not-refused (orderRefusal b unit direction period price quantity lent) b _ z)
 was-sound b (cancel unit number) z = first-passed b _ (not-refused (cancelRefusal b unit number) b _ z)
 was-sound b (clear lent) z = first-passed b _ (not-refused (clearRefusal b lent) b _ z)
 was-sound b close z = first-passed b [] (not-refused (firstOf (unsound b ∷ [])) b _ z)

@@ -63,7 +63,8 @@ fresh-sound words days floor ceiling e =
     })
 
 -- declarations that go or lessen leave a sound book
-pub fewer-sound : (b : Book) (fs : List OpenOffer) (os : List OpenOrder) → Remains LessOffer fs (b .offers) → Remains LessOrder os (b .orders) → sound b ≡ true
+pub fewer-sound : (b : Book) (fs : List OpenOffer) (os : List OpenOrder) → Remains LessOffer fs (b .offers) → Remains LessOrder os (b .orders) → sound b
+    ≡ true
     → sound (withOrders (withOffers b fs) os) ≡ true
 fewer-sound b fs os p q e =
     sound-holds after (record {
@@ -96,13 +97,15 @@ module _ (b : Book) (u n : ℕ) (e : sound b ≡ true) where
   unfolding withdrawal
   withdrawal-sound =
       decided-sound (withdrawRefusal b u n) b _ e
-      (λ z. fewer-sound b _ (b .orders) (remains-keep LessOffer (λ o. not (eqb (o .number) n)) same-offer (b .offers)) (remains-all LessOrder same-order (b .orders)) e)
+      (λ z. fewer-sound b _ (b .orders) (remains-keep LessOffer (λ o. not (eqb (o .number) n)) same-offer (b .offers))
+      (remains-all LessOrder same-order (b .orders)) e)
 
   pub cancellation-sound : sound (cancellation b u n .book) ≡ true
   unfolding cancellation
   cancellation-sound =
       decided-sound (cancelRefusal b u n) b _ e
-      (λ z. fewer-sound b (b .offers) _ (remains-all LessOffer same-offer (b .offers)) (remains-keep LessOrder (λ o. not (eqb (o .number) n)) same-order (b .orders)) e)
+      (λ z. fewer-sound b (b .offers) _ (remains-all LessOffer same-offer (b .offers))
+      (remains-keep LessOrder (λ o. not (eqb (o .number) n)) same-order (b .orders)) e)
 
 -- enrol: the other units stay, and the new one has nothing declared
 module _ (b : Book) (kind capacity asset : ℕ) where
@@ -123,7 +126,8 @@ module _ (b : Book) (kind capacity asset : ℕ) where
         capacity = c;
         asset = a;
         figures = l;
-        ways = each-by (λ (f : Figures). f .way ≤ 2) (noTrades (b .days)) noFigures (λ i h. rw (getD-replicate (periods (b .days)) i noFigures noFigures (rw l at h)) (omega arith));
+        ways = each-by (λ (f : Figures). f .way ≤ 2) (noTrades (b .days)) noFigures
+            (λ i h. rw (getD-replicate (periods (b .days)) i noFigures noFigures (rw l at h)) (omega arith));
       }
 
   newcomer-fits : Formed b → (u : ℕ) → u ≡ length (b .units) + 1 → Fits (enrolled b kind capacity asset) u nothing
@@ -179,7 +183,8 @@ module _ (b : Book) (kind capacity asset : ℕ) where
                 most = omega (arith, one-more);
                 units =
                     each-append (UnitRanges (b .days)) (b .units) (newcomer ∷ []) (f .units) (
-                      newcomer-ranges (within 1 4 kind (not-false _ (passed .1 .0))) (within 1 mostCapacity capacity (and-left (capacityIn capacity) (assetIn asset) sizes))
+                      newcomer-ranges (within 1 4 kind (not-false _ (passed .1 .0)))
+                          (within 1 mostCapacity capacity (and-left (capacityIn capacity) (assetIn asset) sizes))
                           (leb-true _ _ (and-right (capacityIn capacity) (assetIn asset) sizes)),
                       tt,
                     );
@@ -190,7 +195,8 @@ module _ (b : Book) (kind capacity asset : ℕ) where
 
           fit : (u : ℕ) → In 1 (length (after .units)) u → Dec (u ≤ length (b .units)) → Fits after u nothing
           fit u i (yes k) =
-              fits-after b after u nothing (moved-remaining b after u refl (others-stay u (i .0, k)) (remains-all LessOffer same-offer (b .offers)) (remains-all LessOrder same-order (b .orders)))
+              fits-after b after u nothing (moved-remaining b after u refl (others-stay u (i .0, k)) (remains-all LessOffer same-offer (b .offers))
+              (remains-all LessOrder same-order (b .orders)))
               (s .fits u (i .0, k))
           fit u i (no k) = newcomer-fits (s .formed) u (omega (arith, one-more))
 
@@ -221,7 +227,8 @@ module _ (b : Book) where
 
   pub closing-sound : sound b ≡ true → sound (closing b .book) ≡ true
   unfolding closing rising eachTwo
-  closing-sound e = decided-sound (firstOf (unsound b ∷ [])) b (accepted 0 [] (dayClosed b)) e (λ z. sound-holds (dayClosed b) (record { formed = formed; fits = fits }))
+  closing-sound e = decided-sound (firstOf (unsound b ∷ [])) b (accepted 0 [] (dayClosed b)) e
+      (λ z. sound-holds (dayClosed b) (record { formed = formed; fits = fits }))
     where
       s : Sound b
       s = sound-facts b e

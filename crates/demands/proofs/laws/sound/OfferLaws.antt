@@ -16,7 +16,20 @@ use Rattle.limits.specs.Units.{periods, generator}
 use Rattle.book.specs.Book.{OpenOffer, Book, mostOffers, mostNumbers, known, unitOf, nextNumber}
 use Rattle.book.specs.Fit.{Declaration, nothing}
 use Rattle.book.specs.Sound.{energyIn, bilateralSides, sound}
-use Rattle.book.specs.Refusals.{accepted, unsound, unknownUnit, unknownPartner, badPrice, badAmounts, wrongPartner, offersFull, numbersUsed, hourMisfit, termMisfit, volumeMisfit}
+use Rattle.book.specs.Refusals.{
+  accepted,
+  unsound,
+  unknownUnit,
+  unknownPartner,
+  badPrice,
+  badAmounts,
+  wrongPartner,
+  offersFull,
+  numbersUsed,
+  hourMisfit,
+  termMisfit,
+  volumeMisfit,
+}
 use Rattle.book.specs.Offer.{raisingAmounts, offerRefusal, offering}
 use Rattle.book.proofs.laws.sound.FitLaws.{Fits, fits-with, fits-after}
 use Rattle.book.proofs.laws.sound.SoundLaws.{Sides, OfferRanges, Sound, sound-facts, sound-holds}
@@ -50,7 +63,8 @@ module _ (b : Book) (unit partner price : ℕ) (amounts : List ℕ) where
         room = leb-false _ _ (t .1 .1 .1 .1 .1 .1 .0);
         left = leb-false _ _ (t .1 .1 .1 .1 .1 .1 .1 .0);
         fits =
-            fits-with b unit (raisingAmounts amounts) (s .fits unit named) (not-false _ (t .1 .1 .1 .1 .1 .1 .1 .1 .0)) (not-false _ (t .1 .1 .1 .1 .1 .1 .1 .1 .1 .0))
+            fits-with b unit (raisingAmounts amounts) (s .fits unit named) (not-false _ (t .1 .1 .1 .1 .1 .1 .1 .1 .0))
+            (not-false _ (t .1 .1 .1 .1 .1 .1 .1 .1 .1 .0))
             (not-false _ (t .1 .1 .1 .1 .1 .1 .1 .1 .1 .1 .0));
       }
     where
@@ -97,4 +111,5 @@ module _ (b : Book) (unit partner price : ℕ) (amounts : List ℕ) where
           fit v i (yes q) =
               fits-after b (withOffer b newOffer) v (raisingAmounts amounts)
               (moved-offer b v (raisingAmounts amounts) newOffer (λ p. rw (eq-eqb unit v q) (omega arith))) (rw q at (a .fits))
-          fit v i (no q) = fits-after b (withOffer b newOffer) v nothing (moved-offer b v nothing newOffer (λ p. rw (ne-eqb unit v q) (omega arith))) (s .fits v i)
+          fit v i (no q) = fits-after b (withOffer b newOffer) v nothing (moved-offer b v nothing newOffer (λ p. rw (ne-eqb unit v q) (omega arith)))
+              (s .fits v i)

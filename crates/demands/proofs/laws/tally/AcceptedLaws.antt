@@ -23,7 +23,8 @@ use Rattle.demands.proofs.laws.tally.BookedLaws.{members-kept, rows-fig
 pub decided-is : (r : ℕ) (b : Book) (o : Outcome) → decided r b o .refusal ≡ 0 → (r ≡ 0) × (decided r b o ≡ o)
 decided-is r b o e = go (eqb r 0) refl e
   where
-    go : (c : Bool) → eqb r 0 ≡ c → cond c o (record { refusal = r; number = 0; rows = []; book = b }) .refusal ≡ 0 → (r ≡ 0) × (cond c o (record { refusal = r; number = 0; rows = []; book = b }) ≡ o)
+    go : (c : Bool) → eqb r 0 ≡ c → cond c o (record { refusal = r; number = 0; rows = []; book = b }) .refusal ≡ 0 → (r ≡ 0)
+        × (cond c o (record { refusal = r; number = 0; rows = []; book = b }) ≡ o)
     go true f z = (eqb-true r 0 f, refl)
     go false f z = absurd (eqb-false r 0 f z)
 
@@ -32,7 +33,8 @@ abbrev pub AgreeAfter : Tally → Book → Call → Type 0
 AgreeAfter t b c = Agree (tallied t c (answered (outcome b c))) (outcome b c .book)
 
 -- an accepted call is accounted for
-pub accepted-agree : (t : Tally) (b : Book) (c : Call) (o : Outcome) → outcome b c ≡ o → o .refusal ≡ 0 → Agree (accounted t c (answered o)) (o .book) → AgreeAfter t b c
+pub accepted-agree : (t : Tally) (b : Book) (c : Call) (o : Outcome) → outcome b c ≡ o → o .refusal ≡ 0 → Agree (accounted t c (answered o)) (o .book)
+    → AgreeAfter t b c
 accepted-agree t b c o e z a = rw e (rw (eq-eqb (o .refusal) 0 z) a)
 
 -- a refused call changes nothing
@@ -41,7 +43,17 @@ refused-tally t b c n = rw (ne-eqb (outcome b c .refusal) 0 n)
 
 -- other numbers and another phase
 pub agree-head : (t : Tally) (b : Book) → Agree t b → (phase given : ℕ)
-    → Agree t (record { days = b .days; floor = b .floor; ceiling = b .ceiling; phase = phase; given = given; units = b .units; offers = b .offers; orders = b .orders })
+    → Agree t (record {
+      days = b .days;
+      floor = b .floor;
+      ceiling = b .ceiling;
+      phase = phase;
+      given = given;
+      units = b .units;
+      offers = b .offers;
+      orders =
+          b .orders;
+    })
 agree-head t b a phase given =
     record { days = a .days; units = a .units; offers = a .offers; orders = a .orders; parties = a .parties; figures = a .figures }
 
@@ -49,7 +61,8 @@ agree-head t b a phase given =
 module _ (t : Tally) (b : Book) (a : Agree t b) (w : Standing b) where
   pub agree-changed : (rs : List Row) (tos : List Amounts) (bos : List OpenOffer) (tor bor : List OpenOrder)
       → Each (Parties (length (b .units))) rs → keep remains tos ≡ map amountsOf bos → tor ≡ bor
-      → Agree (record { days = t .days; units = t .units; rows = t .rows ++ rs; offers = tos; orders = tor }) (rowsBooked rs (withOrders (withOffers b bos) bor))
+      → Agree (record { days = t .days; units = t .units; rows = t .rows ++ rs; offers = tos; orders = tor })
+      (rowsBooked rs (withOrders (withOffers b bos) bor))
   agree-changed rs tos bos tor bor h e f =
       let b₁ = withOrders (withOffers b bos) bor in
       let b′ = rowsBooked rs b₁ in

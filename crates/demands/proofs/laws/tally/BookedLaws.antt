@@ -17,7 +17,8 @@ use Rattle.book.specs.Trades.{rowsBooked}
 use Rattle.demands.proofs.laws.tally.AgreeLaws.{member, soldIn, boughtIn, Figured, AllFigured, Parties}
 use Rattle.book.proofs.laws.rows.TradeLaws.{Kept, Grown, tradedBy, kept-rows, grown-rows, Named}
 
-figured-grown : (kind s d s′ d′ : ℕ) (f h : Figures) → Figured kind s d f → Grown f h (cond (generator kind) s′ d′) (cond (generator kind) d′ s′) → Figured kind (s + s′) (d + d′) h
+figured-grown : (kind s d s′ d′ : ℕ) (f h : Figures) → Figured kind s d f → Grown f h (cond (generator kind) s′ d′) (cond (generator kind) d′ s′)
+    → Figured kind (s + s′) (d + d′) h
 figured-grown kind s d s′ d′ f h x y = let m = go (generator kind) (x .net) y in record { net = m .0; volume = m .1 }
   where
     v : f .volume ≡ s + d
@@ -53,5 +54,11 @@ rows-figured before rs b full h a u p hu l =
     let i : In 1 (length (b .units)) u = rw (k .count) at hu in
     let m : p < periods (b .days) = rw days at l in
     let named = each-map (Parties (length (b .units))) Named rs (λ r n. (n .0 .0, n .1 .0)) h in
-    rw (k .kind u, sumOf-append (λ (r : Row). cond (eqb (r .seller) u && eqb (r .period) p) (r .quantity) 0) before rs, sumOf-append (λ (r : Row). cond (eqb (r .buyer) u && eqb (r .period) p) (r .quantity) 0) before rs)
-    (figured-grown (unitOf b u .kind) _ _ (soldIn rs u p) (boughtIn rs u p) (figuresOf b u p) (figuresOf b′ u p) (a u p i m) (grown-rows rs b u p named i (omega (arith, full u i))))
+    rw (
+      k .kind u,
+      sumOf-append (λ (r : Row). cond (eqb (r .seller) u && eqb (r .period) p) (r .quantity) 0) before rs,
+      sumOf-append
+          (λ (r : Row). cond (eqb (r .buyer) u && eqb (r .period) p) (r .quantity) 0) before rs,
+    )
+    (figured-grown (unitOf b u .kind) _ _ (soldIn rs u p) (boughtIn rs u p) (figuresOf b u p) (figuresOf b′ u p) (a u p i m)
+    (grown-rows rs b u p named i (omega (arith, full u i))))

@@ -60,4 +60,5 @@ module _ (t : Tally) (b : Book) (a : Agree t b) (w : Standing b) where
       let f : c′ .orders ≡ c .orders = ap₂ (λ (k : ℕ) (l : List OpenOrder). clearFrom 0 (periods k) l .orders) (a .days) (a .orders) in
       let owned = each-map (OrderRanges b) (Owned (length (b .units))) (b .orders) (λ o s. s .unit) (w .orders) in
       accepted-agree t b (clear lent) o (d .1) refl
-      (agree-head _ _ (agree-changed t b a w (c .rows) (t .offers) (b .offers) (c′ .orders) (c .orders) (clear-parties (length (b .units)) (periods (b .days)) 0 (b .orders) owned) (a .offers) f) rollingPhase _)
+      (agree-head _ _ (agree-changed t b a w (c .rows) (t .offers) (b .offers) (c′ .orders) (c .orders)
+      (clear-parties (length (b .units)) (periods (b .days)) 0 (b .orders) owned) (a .offers) f) rollingPhase _)

@@ -22,7 +22,8 @@ pub keep-keep : {A : Type 0} (f g : A → Bool) (l : List A) → keep f (keep g 
 keep-keep f g [] = refl
 keep-keep f g (x ∷ l) = go (f x) (g x) refl refl (keep-keep f g l)
   where
-    go : (y z : Bool) → f x ≡ y → g x ≡ z → keep f (keep g l) ≡ keep g (keep f l) → keep f (cond z (x ∷ keep g l) (keep g l)) ≡ keep g (cond y (x ∷ keep f l) (keep f l))
+    go : (y z : Bool) → f x ≡ y → g x ≡ z → keep f (keep g l) ≡ keep g (keep f l) → keep f (cond z (x ∷ keep g l) (keep g l))
+        ≡ keep g (cond y (x ∷ keep f l) (keep f l))
     go true true e h ih = rw (e, h, ih)
     go true false e h ih = rw (h, ih)
     go false true e h ih = rw (e, ih)
@@ -32,6 +33,7 @@ pub keep-map : {A B : Type 0} (f : B → Bool) (g : A → B) (l : List A) → ke
 keep-map f g [] = refl
 keep-map f g (x ∷ l) = go (f (g x)) (keep-map f g l)
   where
-    go : (y : Bool) → keep f (map g l) ≡ map g (keep (λ x. f (g x)) l) → cond y (g x ∷ keep f (map g l)) (keep f (map g l)) ≡ map g (cond y (x ∷ keep (λ x. f (g x)) l) (keep (λ x. f (g x)) l))
+    go : (y : Bool) → keep f (map g l) ≡ map g (keep (λ x. f (g x)) l) → cond y (g x ∷ keep f (map g l)) (keep f (map g l))
+        ≡ map g (cond y (x ∷ keep (λ x. f (g x)) l) (keep (λ x. f (g x)) l))
     go true ih = ap (λ m. g x ∷ m) ih
     go false ih = ih

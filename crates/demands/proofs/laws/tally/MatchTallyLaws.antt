@@ -23,7 +23,8 @@ none-lessened : (u p price x : ℕ) (os : List OpenOrder) → x ≡ 0 → Each (
 unfolding orderLessened
 none-lessened u p price x [] z h = refl
 none-lessened u p price x (o ∷ os) z h =
-    go (eqb (o .unit) u && eqb (o .period) p && eqb (o .price) price) (none-lessened u p price (x - min x (o .quantity)) os (omega arith) (h .1)) (none-lessened u p price x os z (h .1))
+    go (eqb (o .unit) u && eqb (o .period) p && eqb (o .price) price) (none-lessened u p price (x - min x (o .quantity)) os (omega arith) (h .1))
+    (none-lessened u p price x os z (h .1))
   where
     whole : less o (min x (o .quantity)) ≡ o
     whole = let e : o .quantity - min x (o .quantity) ≡ o .quantity = omega arith in rw e
@@ -32,7 +33,8 @@ none-lessened u p price x (o ∷ os) z h =
     few = let k = h .0 in omega arith
 
     go : (c : Bool) → orderLessened u p price (x - min x (o .quantity)) os ≡ os → orderLessened u p price x os ≡ os
-        → cond c (cond (leb (o .quantity) x) (orderLessened u p price (x - min x (o .quantity)) os) (less o (min x (o .quantity)) ∷ orderLessened u p price (x - min x (o .quantity)) os)) (o ∷ orderLessened u p price x os) ≡ o ∷ os
+        → cond c (cond (leb (o .quantity) x) (orderLessened u p price (x - min x (o .quantity)) os) (less o (min x (o .quantity))
+        ∷ orderLessened u p price (x - min x (o .quantity)) os)) (o ∷ orderLessened u p price x os) ≡ o ∷ os
     go true e f = rw (lt-leb (o .quantity) x few) (ap₂ (λ (y : OpenOrder) (l : List OpenOrder). y ∷ l) whole e)
     go false e f = ap (λ (l : List OpenOrder). o ∷ l) f
 
@@ -110,7 +112,8 @@ module _ (i : OpenOrder) where
   counterparts-has x os e m = laid-has (aheadFor i) x (keep (candidate i) os) (keep-has (candidate i) x os e m)
 
   -- the one laid first has the lowest number of its price
-  pub laid-lowest : (c : OpenOrder) (cs os : List OpenOrder) → counterparts i os ≡ c ∷ cs → Each (λ (o : OpenOrder). candidate i o ≡ true → o .price ≡ c .price → c .number ≤ o .number) os
+  pub laid-lowest : (c : OpenOrder) (cs os : List OpenOrder) → counterparts i os ≡ c ∷ cs
+      → Each (λ (o : OpenOrder). candidate i o ≡ true → o .price ≡ c .price → c .number ≤ o .number) os
   laid-lowest c cs os e = each-has (λ (o : OpenOrder). candidate i o ≡ true → o .price ≡ c .price → c .number ≤ o .number) os at
     where
       behind : Pairs (λ (a b : OpenOrder). aheadFor i b a ≡ false) (c ∷ cs)
@@ -118,7 +121,8 @@ module _ (i : OpenOrder) where
 
       go : (o : OpenOrder) → o .price ≡ c .price → Has o (c ∷ cs) → c .number ≤ o .number
       go o p (inl q) = let n : o .number ≡ c .number = ap (λ (y : OpenOrder). y .number) q in omega arith
-      go o p (inr m) = ltb-false (o .number) (c .number) (sym (ahead-equal o c i p) ∙ has-each (λ (y : OpenOrder). aheadFor i y c ≡ false) cs o (behind .0) m)
+      go o p (inr m) = ltb-false (o .number) (c .number) (sym (ahead-equal o c i p)
+          ∙ has-each (λ (y : OpenOrder). aheadFor i y c ≡ false) cs o (behind .0) m)
 
       at : (o : OpenOrder) → Has o os → candidate i o ≡ true → o .price ≡ c .price → c .number ≤ o .number
       at o m k p = go o p (rw e at (counterparts-has o os k m))

@@ -37,7 +37,8 @@ matches-each P q (c ∷ cs) e =
     let ih = matches-each P (q - min q (c .quantity)) cs (e .1) in
     cond-case (λ (l : List Match). Each (λ (m : Match). P (m .order)) l) (eqb q 0) _ _ (λ z. tt) (λ z. (e .0, ih))
 
-match-parties : (n : ℕ) (i : OpenOrder) (ms : List Match) → In 1 n (i .unit) → Each (λ (m : Match). In 1 n (m .order .unit)) ms → Each (Parties n) (map (matchRow i) ms)
+match-parties : (n : ℕ) (i : OpenOrder) (ms : List Match) → In 1 n (i .unit) → Each (λ (m : Match). In 1 n (m .order .unit)) ms
+    → Each (Parties n) (map (matchRow i) ms)
 unfolding matchRow
 match-parties n i [] h e = tt
 match-parties n i (m ∷ ms) h e =
@@ -45,11 +46,13 @@ match-parties n i (m ∷ ms) h e =
 
 -- what is left of the incoming order waits
 left-waits : (i : OpenOrder) (ms : List Match)
-    → orderLeft (i .number) (i .unit) (i .direction) (i .period) (i .price) (i .quantity) (map (matchRow i) ms) ≡ waiting (leaving i (i .quantity - sumOf (λ (m : Match). m .quantity) ms))
+    → orderLeft (i .number) (i .unit) (i .direction) (i .period) (i .price) (i .quantity) (map (matchRow i) ms)
+    ≡ waiting (leaving i (i .quantity - sumOf (λ (m : Match). m .quantity) ms))
 unfolding waiting
 left-waits i ms =
     let s : sumOf (λ (r : Row). r .quantity) (map (matchRow i) ms) ≡ sumOf (λ (m : Match). m .quantity) ms =
-    sumOf-map (λ (r : Row). r .quantity) (matchRow i) ms ∙ sumOf-ext (λ (m : Match). matchRow i m .quantity) (λ (m : Match). m .quantity) ms (each-all (λ (m : Match). matchRow i m .quantity ≡ m .quantity) ms (λ m. row-of i m .quantity)) in
+    sumOf-map (λ (r : Row). r .quantity) (matchRow i) ms ∙ sumOf-ext (λ (m : Match). matchRow i m .quantity) (λ (m : Match). m .quantity) ms
+    (each-all (λ (m : Match). matchRow i m .quantity ≡ m .quantity) ms (λ m. row-of i m .quantity)) in
     rw s
 
 module _ (t : Tally) (b : Book) (a : Agree t b) (w : Standing b) (unit direction period price quantity lent : ℕ) where
@@ -74,7 +77,8 @@ module _ (t : Tally) (b : Book) (a : Agree t b) (w : Standing b) (unit direction
       let f : orderTallied direction [] (t .orders) ++ orderLeft (nextNumber b) unit direction period price quantity [] ≡ b .orders ++ (incoming ∷ []) =
       rw (z, ne-eqb quantity 0 (omega arith), a .orders) in
       accepted-agree t b this (orderedInCall b incoming) e refl
-      (agree-head _ _ (agree-changed t b a w [] (t .offers) (b .offers) (orderTallied direction [] (t .orders) ++ orderLeft (nextNumber b) unit direction period price quantity []) (b .orders ++ (incoming ∷ [])) tt (a .offers) f) (b .phase) (nextNumber b))
+      (agree-head _ _ (agree-changed t b a w [] (t .offers) (b .offers) (orderTallied direction [] (t .orders)
+      ++ orderLeft (nextNumber b) unit direction period price quantity []) (b .orders ++ (incoming ∷ [])) tt (a .offers) f) (b .phase) (nextNumber b))
 
   rolled-agree : In 1 (length (b .units)) unit → outcome b this ≡ orderedInRolling b incoming → AgreeAfter t b this
   unfolding accounted meet
@@ -84,21 +88,25 @@ module _ (t : Tally) (b : Book) (a : Agree t b) (w : Standing b) (unit direction
       let tor = orderTallied direction rs (t .orders) ++ orderLeft (nextNumber b) unit direction period price quantity rs in
       let bor = afterMatches ms (b .orders) ++ waiting (leaving incoming (quantity - sumOf (λ (m : Match). m .quantity) ms)) in
       let f : tor ≡ bor =
-      ap₂ (λ (x y : List OpenOrder). x ++ y) (ap (orderTallied direction rs) (a .orders) ∙ rolled incoming (counterparts incoming (b .orders)) (b .orders) quantity refl lined) (left-waits incoming ms) in
+      ap₂ (λ (x y : List OpenOrder). x ++ y) (ap (orderTallied direction rs) (a .orders)
+      ∙ rolled incoming (counterparts incoming (b .orders)) (b .orders) quantity refl lined) (left-waits incoming ms) in
       let owned = each-map (OrderRanges b) (λ (o : OpenOrder). In 1 (length (b .units)) (o .unit)) (b .orders) (λ o s. s .unit) (w .orders) in
-      let named = matches-each (λ (o : OpenOrder). In 1 (length (b .units)) (o .unit)) quantity (counterparts incoming (b .orders)) (counterparts-each incoming (λ (o : OpenOrder). In 1 (length (b .units)) (o .unit)) (b .orders) owned) in
+      let named = matches-each (λ (o : OpenOrder). In 1 (length (b .units)) (o .unit)) quantity (counterparts incoming (b .orders))
+      (counterparts-each incoming (λ (o : OpenOrder). In 1 (length (b .units)) (o .unit)) (b .orders) owned) in
       accepted-agree t b this (orderedInRolling b incoming) e refl
       (agree-head _ _ (agree-changed t b a w rs (t .offers) (b .offers) tor bor (match-parties (length (b .units)) incoming ms h named) (a .offers) f) _ _)
 
   pub agree-order : outcome b this .refusal ≡ 0 → AgreeAfter t b this
   unfolding ordering orderRefusal
   agree-order e =
-      let d = decided-is (orderRefusal b unit direction period price quantity lent) b (cond (eqb (b .phase) callPhase) (orderedInCall b incoming) (orderedInRolling b incoming)) e in
+      let d = decided-is (orderRefusal b unit direction period price quantity lent) b
+      (cond (eqb (b .phase) callPhase) (orderedInCall b incoming) (orderedInRolling b incoming)) e in
       let c = none-applies _ (omega arith) (d .0) in
       let h : In 1 (length (b .units)) unit = within 1 (length (b .units)) unit (not-false _ (c .1 .0)) in
       let q : In 1 mostEnergy quantity = within 1 mostEnergy quantity (not-false _ (c .1 .1 .1 .1 .0)) in
       go (eqb (b .phase) callPhase) h (q .0) (d .1)
     where
-      go : (p : Bool) → In 1 (length (b .units)) unit → 1 ≤ quantity → outcome b this ≡ cond p (orderedInCall b incoming) (orderedInRolling b incoming) → AgreeAfter t b this
+      go : (p : Bool) → In 1 (length (b .units)) unit → 1 ≤ quantity → outcome b this ≡ cond p (orderedInCall b incoming) (orderedInRolling b incoming)
+          → AgreeAfter t b this
       go true h q f = called-agree q f
       go false h q f = rolled-agree h f

@@ -41,11 +41,13 @@ Goes a os = Each (λ (o : OpenOrder). oneWay a o ≡ true) os
 lined-without : (os : List OpenOrder) (b : ℕ) → b < length os → Lined os → Lined (without b os)
 lined-without os b l h =
     record {
-      rises = rw (← lessen-gone os b (getD os b noOrder .quantity) (h .rises) l (omega arith)) (lessen-rises (getD os b noOrder .number) (getD os b noOrder .quantity) os (h .rises));
+      rises = rw (← lessen-gone os b (getD os b noOrder .quantity) (h .rises) l (omega arith))
+          (lessen-rises (getD os b noOrder .number) (getD os b noOrder .quantity) os (h .rises));
       some = without-each (λ (o : OpenOrder). 0 < o .quantity) b os (h .some);
       oneWays =
           without-each (λ (a : OpenOrder). Goes a (without b os)) b os
-          (each-map (λ (a : OpenOrder). Goes a os) (λ (a : OpenOrder). Goes a (without b os)) os (λ a e. without-each (λ (o : OpenOrder). oneWay a o ≡ true) b os e) (h .oneWays));
+          (each-map (λ (a : OpenOrder). Goes a os) (λ (a : OpenOrder). Goes a (without b os)) os (λ a e. without-each (λ (o : OpenOrder). oneWay a o
+          ≡ true) b os e) (h .oneWays));
     }
 
 -- what a match's row says
@@ -67,7 +69,8 @@ row-of i m = go (buys (i .direction)) refl
 alike-parts : (c o : OpenOrder) → alike c o ≡ true → (o .unit ≡ c .unit) × (o .period ≡ c .period) × (o .price ≡ c .price)
 alike-parts c o e = go (eqb (o .unit) (c .unit)) (eqb (o .period) (c .period)) (eqb (o .price) (c .price)) refl refl refl e
   where
-    go : (x y z : Bool) → eqb (o .unit) (c .unit) ≡ x → eqb (o .period) (c .period) ≡ y → eqb (o .price) (c .price) ≡ z → (x && y && z) ≡ true → (o .unit ≡ c .unit) × (o .period ≡ c .period) × (o .price ≡ c .price)
+    go : (x y z : Bool) → eqb (o .unit) (c .unit) ≡ x → eqb (o .period) (c .period) ≡ y → eqb (o .price) (c .price) ≡ z → (x && y && z) ≡ true
+        → (o .unit ≡ c .unit) × (o .period ≡ c .period) × (o .price ≡ c .price)
     go true true true f g h k = (eqb-true _ _ f, eqb-true _ _ g, eqb-true _ _ h)
     go true true false f g h k = both-ways (sym k)
     go true false z f g h k = both-ways (sym k)
@@ -76,7 +79,8 @@ alike-parts c o e = go (eqb (o .unit) (c .unit)) (eqb (o .period) (c .period)) (
 same-way : (c o : OpenOrder) → oneWay c o ≡ true → c .unit ≡ o .unit → c .period ≡ o .period → c .direction ≡ o .direction
 same-way c o e u p = eqb-true (c .direction) (o .direction) (rw (eq-eqb (c .unit) (o .unit) u, eq-eqb (c .period) (o .period) p) at e)
 
-candidate-same : (i c o : OpenOrder) → o .period ≡ c .period → o .direction ≡ c .direction → o .price ≡ c .price → candidate i c ≡ true → candidate i o ≡ true
+candidate-same : (i c o : OpenOrder) → o .period ≡ c .period → o .direction ≡ c .direction → o .price ≡ c .price → candidate i c ≡ true → candidate i o
+    ≡ true
 unfolding candidate
 candidate-same i c o p d q e = rw (p, d, q) e
 
@@ -84,7 +88,8 @@ candidate-period : (i c : OpenOrder) → candidate i c ≡ true → c .period �
 unfolding candidate
 candidate-period i c e =
     eqb-true (c .period) (i .period)
-    (and-left (eqb (c .period) (i .period)) (cond (buys (i .direction)) (sells (c .direction) && leb (c .price) (i .price)) (sells (i .direction) && (buys (c .direction) && leb (i .price) (c .price)))) e)
+    (and-left (eqb (c .period) (i .period)) (cond (buys (i .direction)) (sells (c .direction) && leb (c .price) (i .price)) (sells (i .direction)
+    && (buys (c .direction) && leb (i .price) (c .price)))) e)
 
 module _ (i c : OpenOrder) (cs os : List OpenOrder) (h : Lined os) (e : counterparts i os ≡ c ∷ cs) where
   first-has : Has c os
@@ -95,14 +100,16 @@ module _ (i c : OpenOrder) (cs os : List OpenOrder) (h : Lined os) (e : counterp
 
   first-low : Each (λ (o : OpenOrder). alike c o ≡ true → c .number ≤ o .number) os
   first-low =
-      each-both (λ (o : OpenOrder). oneWay c o ≡ true) (λ (o : OpenOrder). candidate i o ≡ true → o .price ≡ c .price → c .number ≤ o .number) (λ (o : OpenOrder). alike c o ≡ true → c .number ≤ o .number) os
+      each-both (λ (o : OpenOrder). oneWay c o ≡ true) (λ (o : OpenOrder). candidate i o ≡ true → o .price ≡ c .price → c .number
+      ≤ o .number) (λ (o : OpenOrder). alike c o ≡ true → c .number ≤ o .number) os
       (λ o w l k.
       let p = alike-parts c o k in
       l (candidate-same i c o (p .1) (sym (same-way c o w (sym (p .0)) (sym (p .1)))) (p .2) first-is) (p .2))
       (has-each (λ (a : OpenOrder). Goes a os) os c (h .oneWays) first-has)
       (laid-lowest i c cs os e)
 
-  first-off : (x : ℕ) → x ≤ c .quantity → orderLessened (otherUnit (i .direction) (matchRow i (match c x))) (matchRow i (match c x) .period) (matchRow i (match c x) .price) (matchRow i (match c x) .quantity) os ≡ lessen (c .number) x os
+  first-off : (x : ℕ) → x ≤ c .quantity → orderLessened (otherUnit (i .direction) (matchRow i (match c x))) (matchRow i (match c x) .period)
+      (matchRow i (match c x) .price) (matchRow i (match c x) .quantity) os ≡ lessen (c .number) x os
   first-off x l =
       let r = row-of i (match c x) in
       rw (r .other, r .period, r .price, r .quantity, ← candidate-period i c first-is)
@@ -145,4 +152,5 @@ rolled i (c ∷ cs) os q e h = go (λ os′ q′ f k. rolled i cs os′ q′ f k
     go ih (yes z) = rw (matches-spent q (c ∷ cs) z)
     go ih (no n) =
         rw (matches-more q c cs n)
-        (ap (orderTallied (i .direction) (map (matchRow i) (matches (q - x) cs))) (first-off i c cs os h e x (omega arith)) ∙ rest ih (decLt x (c .quantity)))
+        (ap (orderTallied (i .direction) (map (matchRow i) (matches (q - x) cs))) (first-off i c cs os h e x (omega arith))
+        ∙ rest ih (decLt x (c .quantity)))

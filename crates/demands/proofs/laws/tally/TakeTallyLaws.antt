@@ -47,7 +47,8 @@ taken-first n r rs [] = refl
 taken-first n r rs (a ∷ os) = go (eqb (a .number) n) refl (taken-first n r rs os)
   where
     go : (c : Bool) → eqb (a .number) n ≡ c → map (taken n rs) (offerLessened n r os) ≡ map (taken n (r ∷ rs)) os
-        → map (taken n rs) (cond c (lessAt a r ∷ offerLessened n r os) (a ∷ offerLessened n r os)) ≡ cond c (lessRows (r ∷ rs) a) a ∷ map (taken n (r ∷ rs)) os
+        → map (taken n rs) (cond c (lessAt a r ∷ offerLessened n r os) (a ∷ offerLessened n r os)) ≡ cond c (lessRows (r ∷ rs) a) a
+        ∷ map (taken n (r ∷ rs)) os
     go true e ih = rw (e, ih)
     go false e ih = rw (e, ih)
 
@@ -99,12 +100,14 @@ still-remain n rs (a ∷ os) = go (remains a) refl (still-remain n rs os)
     go false e ih = rw (taken-empty n rs a e) ih
 
 -- rows of a take, on amounts with one part each
-rows-less : (pre l ps : List ℕ) (p w s y price : ℕ) → length pre ≡ p → length l ≡ length ps → amountsLess (takeRowsFrom p w s y price ps) (pre ++ l) ≡ pre ++ lessEach l ps
+rows-less : (pre l ps : List ℕ) (p w s y price : ℕ) → length pre ≡ p → length l ≡ length ps → amountsLess (takeRowsFrom p w s y price ps) (pre ++ l) ≡ pre
+    ++ lessEach l ps
 unfolding amountsLess takeRowsFrom lessEach
 rows-less pre [] [] p w s y price e h = refl
 rows-less pre [] (x ∷ ps) p w s y price e h = absurd (omega arith)
 rows-less pre (a ∷ l) [] p w s y price e h = absurd (omega arith)
-rows-less pre (a ∷ l) (x ∷ ps) p w s y price e h = go (eqb x 0) refl (rows-less (pre ++ ((a - x) ∷ [])) l ps (suc p) w s y price (length-append pre ((a - x) ∷ []) ∙ omega arith) (omega arith))
+rows-less pre (a ∷ l) (x ∷ ps) p w s y price e h = go (eqb x 0) refl (rows-less (pre
+    ++ ((a - x) ∷ [])) l ps (suc p) w s y price (length-append pre ((a - x) ∷ []) ∙ omega arith) (omega arith))
   where
     row : Row
     row = record { way = w; period = p; seller = s; buyer = y; quantity = x; price = price }
@@ -112,7 +115,8 @@ rows-less pre (a ∷ l) (x ∷ ps) p w s y price e h = go (eqb x 0) refl (rows-l
     rest : List Row
     rest = takeRowsFrom (suc p) w s y price ps
 
-    joined : amountsLess rest ((pre ++ ((a - x) ∷ [])) ++ l) ≡ (pre ++ ((a - x) ∷ [])) ++ lessEach l ps → amountsLess rest (pre ++ ((a - x) ∷ l)) ≡ pre ++ ((a - x) ∷ lessEach l ps)
+    joined : amountsLess rest ((pre ++ ((a - x) ∷ [])) ++ l) ≡ (pre ++ ((a - x) ∷ [])) ++ lessEach l ps → amountsLess rest (pre ++ ((a - x) ∷ l)) ≡ pre
+        ++ ((a - x) ∷ lessEach l ps)
     joined ih = ap (amountsLess rest) (sym (append-assoc pre ((a - x) ∷ []) l)) ∙ ih ∙ append-assoc pre ((a - x) ∷ []) (lessEach l ps)
 
     go : (c : Bool) → eqb x 0 ≡ c → amountsLess rest ((pre ++ ((a - x) ∷ [])) ++ l) ≡ (pre ++ ((a - x) ∷ [])) ++ lessEach l ps
@@ -136,7 +140,8 @@ module _ (n : ℕ) (rs : List Row) (ps : List ℕ) (less : (l : List ℕ) → le
       let ih = others os (and-right (ltb n (o .number)) (every (ltb n) (map (λ (o : OpenOffer). o .number) os)) e) (r .1) in
       rw (ne-eqb (o .number) n (omega arith), r .0) (ap (λ (x : List Amounts). amountsOf o ∷ x) ih)
 
-  offers-less : (os : List OpenOffer) → rising (map (λ (o : OpenOffer). o .number) os) ≡ true → Each (λ o. remains (amountsOf o) ≡ true) os → Each (λ o. length (o .amounts) ≡ length ps) os
+  offers-less : (os : List OpenOffer) → rising (map (λ (o : OpenOffer). o .number) os) ≡ true → Each (λ o. remains (amountsOf o) ≡ true) os
+      → Each (λ o. length (o .amounts) ≡ length ps) os
       → keep remains (map (taken n rs) (map amountsOf os)) ≡ map amountsOf (offersLess n ps os)
   unfolding rising offersLess
   offers-less [] e r k = refl
@@ -191,7 +196,8 @@ module _ (t : Tally) (b : Book) (a : Agree t b) (w : Standing b) where
   something-left : Each (λ (o : OpenOffer). remains (amountsOf o) ≡ true) (b .offers)
   something-left = each-unmap (λ x. remains x ≡ true) amountsOf (b .offers) (rw (a .offers) at (kept remains (t .offers)))
 
-  pub agree-take : (unit number quantity lent : ℕ) → outcome b (take unit number quantity lent) .refusal ≡ 0 → AgreeAfter t b (take unit number quantity lent)
+  pub agree-take : (unit number quantity lent : ℕ) → outcome b (take unit number quantity lent) .refusal ≡ 0
+      → AgreeAfter t b (take unit number quantity lent)
   unfolding taking takeRefusal accounted
   agree-take unit number quantity lent e =
       let ps = takenParts b number quantity in
@@ -202,7 +208,8 @@ module _ (t : Tally) (b : Book) (a : Agree t b) (w : Standing b) where
       let c = none-applies _ (omega arith) (d .0) in
       let hu : In 1 (length (b .units)) unit = within 1 (length (b .units)) unit (not-false _ (c .1 .0)) in
       let some : 0 < length (offersOf b number) = ltb-true _ _ (not-false _ (c .1 .1 .1 .1 .0)) in
-      let st : OfferRanges b of = each-at (OfferRanges b) (offersOf b number) 0 noOffer (each-keep (OfferRanges b) (λ o. eqb (o .number) number) (b .offers) (w .offers)) some in
+      let st : OfferRanges b of = each-at (OfferRanges b) (offersOf b number) 0 noOffer
+      (each-keep (OfferRanges b) (λ o. eqb (o .number) number) (b .offers) (w .offers)) some in
       let lp : length ps ≡ periods (b .days) = parts-length quantity (of .amounts) ∙ st .amounts in
       let f : keep remains (takeTallied number rs (t .offers)) ≡ map amountsOf (offersLess number ps (b .offers)) =
       ap (keep remains) (take-tallied number rs (t .offers))

@@ -18,7 +18,22 @@ use Rattle.limits.specs.Units.{periods, generator}
 use Rattle.matching.specs.Orders.{Order as OpenOrder, Row}
 use Rattle.matching.proofs.laws.lists.EachLaws.{Each, each-map}
 use Rattle.matching.proofs.laws.lists.SumLaws.{sumOf-zero}
-use Rattle.book.specs.Book.{Figures, noFigures, Unit, noUnit, OpenOffer, Book, unitOf, figuresOf, withUnits, withOffers, withOrders, noTrades, nextNumber, net}
+use Rattle.book.specs.Book.{
+  Figures,
+  noFigures,
+  Unit,
+  noUnit,
+  OpenOffer,
+  Book,
+  unitOf,
+  figuresOf,
+  withUnits,
+  withOffers,
+  withOrders,
+  noTrades,
+  nextNumber,
+  net,
+}
 use Rattle.book.specs.Trades.{rowsBooked}
 use Rattle.book.specs.Sound.{energyIn}
 use Rattle.book.specs.Refusals.{firstOf, accepted, unsound}
@@ -54,7 +69,8 @@ module _ (b : Book) (x : Unit) where
   more-parties : (r : Row) → Parties (length (b .units)) r → Parties (length (joined .units)) r
   more-parties r h = rw joined-count ((omega arith, omega arith), (omega arith, omega arith))
 
-  unnamed : (party : Row → ℕ) (u p : ℕ) (r : Row) → length (b .units) < u → party r ≤ length (b .units) → cond (eqb (party r) u && eqb (r .period) p) (r .quantity) 0 ≡ 0
+  unnamed : (party : Row → ℕ) (u p : ℕ) (r : Row) → length (b .units) < u → party r ≤ length (b .units)
+      → cond (eqb (party r) u && eqb (r .period) p) (r .quantity) 0 ≡ 0
   unnamed party u p r l h = rw (ne-eqb (party r) u (omega arith))
 
   joined-figured : (rs : List Row) → x .figures ≡ noTrades (b .days) → Each (Parties (length (b .units))) rs → AllFigured rs b → AllFigured rs joined
@@ -109,7 +125,8 @@ module _ (t : Tally) (b : Book) (a : Agree t b) (w : Standing b) where
         figures = rw (append-nil (t .rows)) (joined-figured b x (t .rows) refl (a .parties) (a .figures));
       })
 
-  pub agree-offer : (unit partner price : ℕ) (amounts : List ℕ) → outcome b (offer unit partner price amounts) .refusal ≡ 0 → AgreeAfter t b (offer unit partner price amounts)
+  pub agree-offer : (unit partner price : ℕ) (amounts : List ℕ) → outcome b (offer unit partner price amounts) .refusal ≡ 0
+      → AgreeAfter t b (offer unit partner price amounts)
   unfolding offering offerRefusal accounted rowsBooked
   agree-offer unit partner price amounts e =
       let o = accepted (nextNumber b) [] (offered b unit partner price amounts) in
@@ -122,7 +139,8 @@ module _ (t : Tally) (b : Book) (a : Agree t b) (w : Standing b) where
       ∙ ap₂ (λ (l m : List Amounts). l ++ m) (a .offers) (kept-one (amountsOf x) (not-zero (total amounts) q))
       ∙ sym (map-join amountsOf (b .offers) (x ∷ [])) in
       accepted-agree t b (offer unit partner price amounts) o (d .1) refl
-      (agree-head _ _ (agree-changed t b a w [] (t .offers ++ (amountsOf x ∷ [])) (b .offers ++ (x ∷ [])) (t .orders) (b .orders) tt f (a .orders)) (b .phase) (nextNumber b))
+      (agree-head _ _ (agree-changed t b a w [] (t .offers ++ (amountsOf x ∷ [])) (b .offers ++ (x ∷ [])) (t .orders) (b .orders) tt f (a .orders))
+      (b .phase) (nextNumber b))
 
   pub agree-withdraw : (unit number : ℕ) → outcome b (withdraw unit number) .refusal ≡ 0 → AgreeAfter t b (withdraw unit number)
   unfolding withdrawal accounted rowsBooked
@@ -151,7 +169,8 @@ module _ (t : Tally) (b : Book) (a : Agree t b) (w : Standing b) where
       let h : In 1 (length (b .units)) u = rw (length-map (b .units) unitDayOver) at hu in
       let k = w .fits u h .lowering p l in
       rw (List·getD-map unitDayOver (b .units) (u - 1) noUnit)
-      (rw (List·getD-map dayOver (unitOf b u .figures) p noFigures) (over (unitOf b u .kind) (soldIn (t .rows) u p) (boughtIn (t .rows) u p) (figuresOf b u p) (omega arith) (a .figures u p h l)))
+      (rw (List·getD-map dayOver (unitOf b u .figures) p noFigures)
+      (over (unitOf b u .kind) (soldIn (t .rows) u p) (boughtIn (t .rows) u p) (figuresOf b u p) (omega arith) (a .figures u p h l)))
 
   pub agree-close : outcome b close .refusal ≡ 0 → AgreeAfter t b close
   unfolding closing accounted

@@ -19,7 +19,21 @@ use Rattle.book.specs.Fit.{nothing, openOrders, openOffers, openRaising, openLo
 use Rattle.book.specs.Sound.{sound}
 use Rattle.book.specs.Curve.{firstHalf, secondHalf, pointsFrom, points}
 use Rattle.demands.specs.Tally.{Member, Tally}
-use Rattle.demands.specs.Demand3.{memberOf, sold, bought, raisedBy, loweredBy, netOf, volumeOf, Part, raisingPart, loweringPart, netsOf, Bounded, Demand3}
+use Rattle.demands.specs.Demand3.{
+  memberOf,
+  sold,
+  bought,
+  raisedBy,
+  loweredBy,
+  netOf,
+  volumeOf,
+  Part,
+  raisingPart,
+  loweringPart,
+  netsOf,
+  Bounded,
+  Demand3,
+}
 use Rattle.demands.proofs.laws.tally.AgreeLaws.{member, amountsOf, remains, Agree, member-of, units-count, enrolled-in}
 use Rattle.demands.proofs.laws.tally.StandingLaws.{Standing, standing}
 use Rattle.book.proofs.laws.sound.FitLaws.{raisedTo, volumeTo}
@@ -28,7 +42,8 @@ use Rattle.demands.proofs.laws.theorem.PartLaws.{left, offers-part, ord
 
 -- the curve's points, two a period
 pub points-at : (b : Book) (u p n h : ℕ) → h < n
-    → (getD (pointsFrom b u p n) (2 * h) 0 ≡ firstHalf (net (figuresOf b u (p + h)))) × (getD (pointsFrom b u p n) (2 * h + 1) 0 ≡ secondHalf (net (figuresOf b u (p + h))))
+    → (getD (pointsFrom b u p n) (2 * h) 0 ≡ firstHalf (net (figuresOf b u (p + h))))
+    × (getD (pointsFrom b u p n) (2 * h + 1) 0 ≡ secondHalf (net (figuresOf b u (p + h))))
 unfolding pointsFrom
 points-at b u p zero h l = absurd (omega arith)
 points-at b u p (suc n) zero l = let e : p + 0 ≡ p = omega arith in rw e (refl, refl)
@@ -78,7 +93,8 @@ module _ (t : Tally) (b : Book) (a : Agree t b) (w : Standing b) where
       (let n = length (b .units) in
       let x = sum-add n (λ k. cond (generator (memberOf t (k + 1) .kind)) (netOf t (k + 1) p) 0) (λ k. bought t (k + 1) p) in
       let y = sum-add n (λ k. cond (not (generator (memberOf t (k + 1) .kind))) (netOf t (k + 1) p) 0) (λ k. sold t (k + 1) p) in
-      let e = sum-ext n (λ k. cond (generator (memberOf t (k + 1) .kind)) (netOf t (k + 1) p) 0 + bought t (k + 1) p) (λ k. cond (not (generator (memberOf t (k + 1) .kind))) (netOf t (k + 1) p) 0 + sold t (k + 1) p)
+      let e = sum-ext n (λ k. cond (generator (memberOf t (k + 1) .kind)) (netOf t (k + 1) p) 0 + bought t (k + 1) p)
+      (λ k. cond (not (generator (memberOf t (k + 1) .kind))) (netOf t (k + 1) p) 0 + sold t (k + 1) p)
       (λ k h. one-side (generator (memberOf t (k + 1) .kind)) (sold t (k + 1) p) (bought t (k + 1) p) (lowered-within (k + 1) p (omega arith) l)) in
       let s = sold-bought p in
       omega arith)
@@ -86,7 +102,8 @@ module _ (t : Tally) (b : Book) (a : Agree t b) (w : Standing b) where
   -- a part of what is open is at most what is open
   module _ (x : Part t) (u p : ℕ) where
     orders-bound : (side : ℕ → ℕ → Bool)
-        → sumOf (λ (o : OpenOrder). cond (eqb (o .unit) u && eqb (o .period) p && side (memberOf t u .kind) (o .direction)) (x .part (o .number) p) 0) (t .orders)
+        → sumOf (λ (o : OpenOrder). cond (eqb (o .unit) u && eqb (o .period) p && side (memberOf t u .kind) (o .direction)) (x .part (o .number) p) 0)
+        (t .orders)
         ≤ sumOf (λ (o : OpenOrder). cond (eqb (o .unit) u && eqb (o .period) p && side (unitOf b u .kind) (o .direction)) (o .quantity) 0) (b .orders)
     orders-bound side =
         let k : memberOf t u .kind ≡ unitOf b u .kind = ap (λ (m : Member). m .kind) (member-of t b a u) in
@@ -96,7 +113,8 @@ module _ (t : Tally) (b : Book) (a : Agree t b) (w : Standing b) where
     unfolding raisingPart openRaising openOffers openOrders
     raising-part =
         let f = offers-part (x .part) u p (t .offers) (x .ofOffers) in
-        let e : sumOf (left (x .part) u p) (keep remains (t .offers)) ≡ sumOf (λ (o : OpenOffer). cond (eqb (o .unit) u) (getD (o .amounts) p 0) 0) (b .offers) =
+        let e : sumOf (left (x .part) u p) (keep remains (t .offers))
+        ≡ sumOf (λ (o : OpenOffer). cond (eqb (o .unit) u) (getD (o .amounts) p 0) 0) (b .offers) =
         ap (sumOf (left (x .part) u p)) (a .offers) ∙ sumOf-map (left (x .part) u p) amountsOf (b .offers) in
         let g = orders-bound raises in
         omega arith
@@ -128,7 +146,8 @@ module _ (t : Tally) (b : Book) (a : Agree t b) (w : Standing b) where
         ≤ sum (periods (t .days)) (volumeTo b u nothing)
     volume-within =
         let s = sum-add (periods (t .days)) (λ p. sold t u p + bought t u p) (λ p. raisingPart t x u p + loweringPart t x u p) in
-        let m = sum-mono (periods (t .days)) (λ p. sold t u p + bought t u p + (raisingPart t x u p + loweringPart t x u p)) (volumeTo b u nothing) (λ p l. let e = at-unit u p h l in let r = raising-part x u p in let g = lowering-part x u p in omega arith) in
+        let m = sum-mono (periods (t .days)) (λ p. sold t u p + bought t u p + (raisingPart t x u p + loweringPart t x u p)) (volumeTo b u nothing)
+        (λ p l. let e = at-unit u p h l in let r = raising-part x u p in let g = lowering-part x u p in omega arith) in
         omega arith
 
     bounded : Bounded t x u

@@ -24,15 +24,19 @@ use Rattle.book.specs.Calls.{answers}
 use Rattle.demands.specs.Figures.{Figure5, Figure6, Figure7, Figure8, Transcript, figures, Hold}
 
 figure5-calls : Figure5
-unfolding holds sum all unitFits hourLimit termLimit volumeLimit openOrders openOffers openRaising openLowering hourFits hoursFit termFits volumeFits headIn unitIn offerIn orderIn rising numbersDiffer eachTwo sound firstOf enrolRefusal enrolment orderRefusal ordering answers
+unfolding holds sum all unitFits hourLimit termLimit volumeLimit openOrders openOffers openRaising openLowering hourFits hoursFit termFits volumeFits headIn
+    unitIn offerIn orderIn rising numbersDiffer eachTwo sound firstOf enrolRefusal enrolment orderRefusal ordering answers
 figure5-calls = (figure5-holds, refl)
 
 figure6-calls : Figure6
-unfolding holds sum all unitFits hourLimit termLimit volumeLimit openOrders openOffers openRaising openLowering hourFits hoursFit termFits volumeFits headIn unitIn offerIn orderIn rising numbersDiffer eachTwo sound firstOf enrolRefusal enrolment orderRefusal ordering answers
+unfolding holds sum all unitFits hourLimit termLimit volumeLimit openOrders openOffers openRaising openLowering hourFits hoursFit termFits volumeFits headIn
+    unitIn offerIn orderIn rising numbersDiffer eachTwo sound firstOf enrolRefusal enrolment orderRefusal ordering answers
 figure6-calls = (figure6-holds, refl)
 
 figure7-calls : Figure7
-unfolding holds sum all unitFits hourLimit termLimit volumeLimit openOrders openOffers openRaising openLowering hourFits hoursFit termFits volumeFits headIn unitIn offerIn orderIn rising numbersDiffer eachTwo sound firstOf enrolRefusal enrolment orderRefusal ordering answers parts traded booked rowsBooked offerRefusal offering takeRefusal takeRowsFrom takeRows lessEach offersLess taking closing
+unfolding holds sum all unitFits hourLimit termLimit volumeLimit openOrders openOffers openRaising openLowering hourFits hoursFit termFits volumeFits headIn
+    unitIn offerIn orderIn rising numbersDiffer eachTwo sound firstOf enrolRefusal enrolment orderRefusal ordering answers parts traded booked rowsBooked
+    offerRefusal offering takeRefusal takeRowsFrom takeRows lessEach offersLess taking closing
 figure7-calls = refl
 
 figure8-holds : Figure8
@@ -43,5 +47,8 @@ pub figures-hold : Hold figures
 figures-hold = (figure1-holds, (figure2-holds, (figure3-holds, (figure4-holds, (figure5-calls, (figure6-calls, (figure7-calls, (figure8-holds, tt))))))))
 
 pub transcript-holds : Transcript
-unfolding holds sum all unitFits hourLimit termLimit volumeLimit openOrders openOffers openRaising openLowering hourFits hoursFit termFits volumeFits headIn unitIn offerIn orderIn rising numbersDiffer eachTwo sound firstOf enrolRefusal enrolment orderRefusal ordering answers openingRefusal lessen bidAhead askAhead insert laid candidate counterparts matches matchRow afterMatches meet tradedAt largest clearedVolume clearPeriod clearFrom clearRefusal clearing traded booked rowsBooked waiting closing
+unfolding holds sum all unitFits hourLimit termLimit volumeLimit openOrders openOffers openRaising openLowering hourFits hoursFit termFits volumeFits headIn
+    unitIn offerIn orderIn rising numbersDiffer eachTwo sound firstOf enrolRefusal enrolment orderRefusal ordering answers openingRefusal lessen bidAhead
+    askAhead insert laid candidate counterparts matches matchRow afterMatches meet tradedAt largest clearedVolume clearPeriod clearFrom clearRefusal
+    clearing traded booked rowsBooked waiting closing
 transcript-holds = (refl, refl)

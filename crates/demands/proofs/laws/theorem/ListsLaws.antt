@@ -53,4 +53,5 @@ demand-after (c ∷ cs) t b k = demand-after cs (tallied t c (answered (outcome 
 -- demand 3
 pub over-every-list : OverEveryList
 over-every-list words days floor ceiling cs e =
-    demand-after cs (opened days) (fresh days floor ceiling) (record { agree = agree-start days floor ceiling; sound = fresh-sound words days floor ceiling e })
+    demand-after cs (opened days) (fresh days floor ceiling)
+    (record { agree = agree-start days floor ceiling; sound = fresh-sound words days floor ceiling e })

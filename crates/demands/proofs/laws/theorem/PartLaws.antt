@@ -48,7 +48,8 @@ module _ (part : ℕ → ℕ → ℕ) (u p : ℕ) where
       go true = omega (arith, at-most-total (a .amounts) p, none)
       go false = refl
 
-  pub offers-part : (os : List Amounts) → EachOf (λ (a : Amounts). (p : ℕ) → part (a .number) p ≤ getD (a .amounts) p 0) os → sumOf offered os ≤ sumOf left (keep remains os)
+  pub offers-part : (os : List Amounts) → EachOf (λ (a : Amounts). (p : ℕ) → part (a .number) p ≤ getD (a .amounts) p 0) os → sumOf offered os
+      ≤ sumOf left (keep remains os)
   offers-part [] h = omega arith
   offers-part (a ∷ os) h =
       let ih = offers-part os (h .1) in
@@ -92,13 +93,15 @@ module _ (party : Row → ℕ) (p n : ℕ) where
       let q : k + 1 ≡ party r = omega arith in
       let z : sum n (λ k. 0) ≡ 0 = sum-zero n (λ k. 0) (λ k l. refl) in
       let e : countedFor (k + 1) r ≡ cond (eqb (r .period) p) (r .quantity) 0 = rw (eq-eqb (party r) (k + 1) (sym q)) in
-      let c : sum n (λ k. countedFor (k + 1) r) + 0 ≡ sum n (λ k. 0) + countedFor (k + 1) r = sum-change n (λ k. countedFor (k + 1) r) (λ k. 0) k (omega arith) (λ j l ne. none j (omega arith)) in
+      let c : sum n (λ k. countedFor (k + 1) r) + 0 ≡ sum n (λ k. 0) + countedFor (k + 1) r = sum-change n (λ k. countedFor (k + 1) r) (λ k. 0) k
+      (omega arith) (λ j l ne. none j (omega arith)) in
       omega arith
     where
       none : (j : ℕ) → (party r ≡ j + 1 → ⊥) → countedFor (j + 1) r ≡ 0
       none j ne = rw (ne-eqb (party r) (j + 1) ne)
 
-  pub parties-sum : (rs : List Row) → Each (λ r. In 1 n (party r)) rs → sum n (λ k. sumOf (countedFor (k + 1)) rs) ≡ sumOf (λ (r : Row). cond (eqb (r .period) p) (r .quantity) 0) rs
+  pub parties-sum : (rs : List Row) → Each (λ r. In 1 n (party r)) rs → sum n (λ k. sumOf (countedFor (k + 1)) rs)
+      ≡ sumOf (λ (r : Row). cond (eqb (r .period) p) (r .quantity) 0) rs
   parties-sum [] h = sum-zero n (λ k. 0) (λ k l. refl)
   parties-sum (r ∷ rs) h =
       let a = sum-add n (λ k. countedFor (k + 1) r) (λ k. sumOf (countedFor (k + 1)) rs) in

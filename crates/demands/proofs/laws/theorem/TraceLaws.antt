@@ -85,12 +85,14 @@ module _ (m rows : List ℕ) (c : Call) (a : Answer) (n rows′ : List ℕ) (p :
 
   accepted-rows : outcome (decode m) c .refusal ≡ 0 → rowsIn rows′ (toldBy a .count) ≡ outcome (decode m) c .rows
   accepted-rows z =
-      let w : rows′ ≡ written rows (outcome (decode m) c .rows) = p .handed (ap (λ (x : Outcome). x .refusal) is ∙ z) ∙ ap (λ (x : Outcome). written rows (x .rows)) is in
+      let w : rows′ ≡ written rows (outcome (decode m) c .rows) = p .handed (ap (λ (x : Outcome). x .refusal) is ∙ z)
+      ∙ ap (λ (x : Outcome). written rows (x .rows)) is in
       ap (λ (x : List ℕ). rowsIn x (toldBy a .count)) w
       ∙ ap (rowsIn (written rows (outcome (decode m) c .rows))) count-is
       ∙ rows-written rows (outcome (decode m) c .rows)
 
-  heard-same : {r r′ k k′ : ℕ} {rs rs′ : List Row} → r ≡ r′ → k ≡ k′ → rs ≡ rs′ → _≡_ {A = Heard} (record { refusal = r; number = k; rows = rs }) (record { refusal = r′; number = k′; rows = rs′ })
+  heard-same : {r r′ k k′ : ℕ} {rs rs′ : List Row} → r ≡ r′ → k ≡ k′ → rs ≡ rs′
+      → _≡_ {A = Heard} (record { refusal = r; number = k; rows = rs }) (record { refusal = r′; number = k′; rows = rs′ })
   heard-same x y z = rw (x, y, z)
 
   tally-same : (t : Tally) → tallied t c (heard a rows′) ≡ tallied t c (answered (outcome (decode m) c))
@@ -110,7 +112,8 @@ module _ (m rows : List ℕ) (c : Call) (a : Answer) (n rows′ : List ℕ) (p :
   accepted-book z = p .accepted (ap (λ (x : Outcome). x .refusal) is ∙ z) ∙ ap (λ (x : Outcome). x .book) is
 
 -- one call
-pub holding-after : (t : Tally) (m rows : List ℕ) (c : Call) (a : Answer) (n rows′ : List ℕ) → Made m rows c a n rows′ → Holding t m → Holding (tallied t c (heard a rows′)) n
+pub holding-after : (t : Tally) (m rows : List ℕ) (c : Call) (a : Answer) (n rows′ : List ℕ) → Made m rows c a n rows′ → Holding t m
+    → Holding (tallied t c (heard a rows′)) n
 holding-after t m rows c a n rows′ p h = go (ℕ-discrete (outcome (decode m) c .refusal) 0)
   where
     same : tallied t c (heard a rows′) ≡ tallied t c (answered (outcome (decode m) c))
@@ -118,7 +121,8 @@ holding-after t m rows c a n rows′ p h = go (ℕ-discrete (outcome (decode m) 
 
     go : Dec (outcome (decode m) c .refusal ≡ 0) → Holding (tallied t c (heard a rows′)) n
     go (no z) =
-        let stay : tallied t c (heard a rows′) ≡ t = same ∙ cond-false (eqb (outcome (decode m) c .refusal) 0) (accounted t c (answered (outcome (decode m) c))) t (ne-eqb _ _ z) refl in
+        let stay : tallied t c (heard a rows′) ≡ t = same ∙ cond-false (eqb (outcome (decode m) c .refusal) 0)
+        (accounted t c (answered (outcome (decode m) c))) t (ne-eqb _ _ z) refl in
         let nm : n ≡ m = refused-book m rows c a n rows′ p (h .long) z in
         rw (stay, nm) h
     go (yes z) =
@@ -143,7 +147,8 @@ points-length b u p zero = refl
 points-length b u p (suc n) = let t = points-length b u (suc p) n in omega arith
 
 -- a curve of an enrolled unit on a day of the term is drawn
-drawn-on : (m : List ℕ) (u day lent : ℕ) → soundIn m ≡ true → 0 ≡ firstOf (curveChecks (decode m) u day lent) → curveOn m u day lent ≡ record { refusal = 0; points = points (decode m) u day }
+drawn-on : (m : List ℕ) (u day lent : ℕ) → soundIn m ≡ true → 0 ≡ firstOf (curveChecks (decode m) u day lent) → curveOn m u day lent
+    ≡ record { refusal = 0; points = points (decode m) u day }
 unfolding curveOn curve curveRefusal
 drawn-on m u day lent e f =
     cond-true (enough m) _ _ (sound-enough m e) refl ∙ rw (chain-sound (decode m) (curveChecks (decode m) u day lent) (sound-book m e), ← f) refl
@@ -171,7 +176,8 @@ module _ (t : Tally) (x : List ℕ) (h : Holding t x) where
           let z : curveOn x u day (length pts) .refusal ≡ 0 = ap (λ (y : Drawn). y .refusal) f in
           let w : pts′ ≡ points (decode x) u day ++ drop 48 pts = c .accepted z ∙ ap (λ (y : Drawn). y .points ++ drop 48 pts) f in
           let n : length (points (decode x) u day) ≡ 48 = points-length (decode x) u (24 * day) 24 in
-          let g : (j : ℕ) → j < 48 → getD pts′ j 0 ≡ getD (points (decode x) u day) j 0 = λ j lj. ap (λ (y : List ℕ). getD y j 0) w ∙ List·getD-append (points (decode x) u day) (drop 48 pts) 0 j (rw n lj) in (
+          let g : (j : ℕ) → j < 48 → getD pts′ j 0 ≡ getD (points (decode x) u day) j 0 = λ j lj. ap (λ (y : List ℕ). getD y j 0) w
+          ∙ List·getD-append (points (decode x) u day) (drop 48 pts) 0 j (rw n lj) in (
             ap (λ (y : Told). y .refusal) (c .answer) ∙ z,
             λ j lj.
                 let a0 = g (2 * j) (omega arith) in

@@ -1,7 +1,17 @@
 -- `answer`: a wrong count, no letter of a call, or no book gives `no 0`; else the opening or the call answers.
 use mathlib.Core.Path.{refl, sym, _∙_}
 use borrow.Author.Tests.{not-true, not-false}
-use Rattle.lines.proofs.AnswerLaws.{turned-down, unknown-down, early-down, wrong-count, right-count, line-opening, line-call, line-other, answered-as}
+use Rattle.lines.proofs.AnswerLaws.{
+  turned-down,
+  unknown-down,
+  early-down,
+  wrong-count,
+  right-count,
+  line-opening,
+  line-call,
+  line-other,
+  answered-as,
+}
 use borrow.Author.Needs.{needs}
 use Rattle.lines.proofs.answering.answer.Statement.{statement}
 use Rattle.lines.proofs.answering.answer.Tie as tie
@@ -23,8 +33,15 @@ same-length-2 c = search needs
 
 returns : tie.Need-returns
 returns c =
-    let d = c .before .before .turn-down .ensures in
-    ((λ line f. turned-down _ _ _ _ _ (unknown-down _ _ _ (wrong-count _ _ _ _ (c .before .before .before .before .before .before .before .before .before .end-line .ensures .0 line f) (c .before .before .before .before .before .before .before .before .before .end-line .ensures .1) (c .before .before .before .before .before .before .before .before .before .end-line .kept .1 .0 ∙ c .before .before .before .before .before .before .before .before .before .before .before .before .before .before .before .pre .0) (λ q. c .before .before .before .before .if1 .taken (q ∙ sym (c .before .before .before .before .before .before .count-of .ensures))))) (d .0) (d .1)), d .2)
+    let c4 = c .before .before .before .before in
+    let c6 = c4 .before .before in
+    let c9 = c6 .before .before .before in
+    let c15 = c9 .before .before .before .before .before .before in
+    let d = c .before .before .turn-down .ensures in (
+      (λ line f. turned-down _ _ _ _ _ (unknown-down _ _ _ (wrong-count _ _ _ _ (c9 .end-line .ensures .0 line f) (c9 .end-line .ensures .1)
+          (c9 .end-line .kept .1 .0 ∙ c15 .pre .0) (λ q. c4 .if1 .taken (q ∙ sym (c6 .count-of .ensures))))) (d .0) (d .1)),
+      d .2,
+    )
 
 answer-opening-requires : tie.Need-answer-opening-requires
 answer-opening-requires c κs = search needs
@@ -40,8 +57,17 @@ same-length-5 c = search needs
 
 returns-2 : tie.Need-returns-2
 returns-2 c =
-    let g = c .before .before .before .before .answer-opening .ensures in
-    ((λ line f. answered-as _ _ _ _ _ _ _ _ refl (right-count _ _ _ _ (c .before .before .before .before .before .before .before .before .before .before .before .before .before .before .end-line .ensures .0 line f) (c .before .before .before .before .before .before .before .before .before .before .before .before .before .before .end-line .ensures .1) (c .before .before .before .before .before .before .before .before .before .before .before .before .before .before .end-line .kept .1 .0 ∙ c .before .before .before .before .before .before .before .before .before .before .before .before .before .before .before .before .before .before .before .before .pre .0) (c .before .before .before .before .before .before .before .before .before .if1 .left ∙ c .before .before .before .before .before .before .before .before .before .before .before .count-of .ensures) ∙ line-opening _ _ (c .before .before .before .before .before .before .before .before .if2 .taken)) (g .0)), g .1)
+    let c4 = c .before .before .before .before in
+    let c8 = c4 .before .before .before .before in
+    let c9 = c8 .before in
+    let c11 = c9 .before .before in
+    let c14 = c11 .before .before .before in
+    let c20 = c14 .before .before .before .before .before .before in
+    let g = c4 .answer-opening .ensures in (
+      (λ line f. answered-as _ _ _ _ _ _ _ _ refl (right-count _ _ _ _ (c14 .end-line .ensures .0 line f) (c14 .end-line .ensures .1)
+          (c14 .end-line .kept .1 .0 ∙ c20 .pre .0) (c9 .if1 .left ∙ c11 .count-of .ensures) ∙ line-opening _ _ (c8 .if2 .taken)) (g .0)),
+      g .1,
+    )
 
 is-call-requires : tie.Need-is-call-requires
 is-call-requires c κs = search needs
@@ -57,8 +83,19 @@ same-length-7 c = search needs
 
 returns-3 : tie.Need-returns-3
 returns-3 c =
-    let d = c .before .before .turn-down2 .ensures in
-    ((λ line f. turned-down _ _ _ _ _ (unknown-down _ _ _ (right-count _ _ _ _ (c .before .before .before .before .before .before .before .before .before .before .before .before .end-line .ensures .0 line f) (c .before .before .before .before .before .before .before .before .before .before .before .before .end-line .ensures .1) (c .before .before .before .before .before .before .before .before .before .before .before .before .end-line .kept .1 .0 ∙ c .before .before .before .before .before .before .before .before .before .before .before .before .before .before .before .before .before .before .pre .0) (c .before .before .before .before .before .before .before .if1 .left ∙ c .before .before .before .before .before .before .before .before .before .count-of .ensures) ∙ line-other _ _ (c .before .before .before .before .before .before .if2 .left) (sym (c .before .before .before .before .before .is-call .ensures) ∙ not-true _ (c .before .before .before .before .if3 .taken)))) (d .0) (d .1)), d .2)
+    let c4 = c .before .before .before .before in
+    let c5 = c4 .before in
+    let c6 = c5 .before in
+    let c7 = c6 .before in
+    let c9 = c7 .before .before in
+    let c12 = c9 .before .before .before in
+    let c18 = c12 .before .before .before .before .before .before in
+    let d = c .before .before .turn-down2 .ensures in (
+      (λ line f. turned-down _ _ _ _ _ (unknown-down _ _ _ (right-count _ _ _ _ (c12 .end-line .ensures .0 line f) (c12 .end-line .ensures .1)
+          (c12 .end-line .kept .1 .0 ∙ c18 .pre .0) (c7 .if1 .left ∙ c9 .count-of .ensures)
+          ∙ line-other _ _ (c6 .if2 .left) (sym (c5 .is-call .ensures) ∙ not-true _ (c4 .if3 .taken)))) (d .0) (d .1)),
+      d .2,
+    )
 
 turn-down-requires-3 : tie.Need-turn-down-requires-3
 turn-down-requires-3 c κs = search needs
@@ -71,8 +108,20 @@ same-length-9 c = search needs
 
 returns-4 : tie.Need-returns-4
 returns-4 c =
-    let d = c .before .before .turn-down3 .ensures in
-    ((λ line f. turned-down _ _ _ _ _ (early-down _ _ _ _ (not-true _ (c .before .before .before .before .if4 .taken)) (right-count _ _ _ _ (c .before .before .before .before .before .before .before .before .before .before .before .before .before .end-line .ensures .0 line f) (c .before .before .before .before .before .before .before .before .before .before .before .before .before .end-line .ensures .1) (c .before .before .before .before .before .before .before .before .before .before .before .before .before .end-line .kept .1 .0 ∙ c .before .before .before .before .before .before .before .before .before .before .before .before .before .before .before .before .before .before .before .pre .0) (c .before .before .before .before .before .before .before .before .if1 .left ∙ c .before .before .before .before .before .before .before .before .before .before .count-of .ensures) ∙ line-call _ _ (c .before .before .before .before .before .before .before .if2 .left) (sym (c .before .before .before .before .before .before .is-call .ensures) ∙ not-false _ (c .before .before .before .before .before .if3 .left)))) (d .0) (d .1)), d .2)
+    let c4 = c .before .before .before .before in
+    let c5 = c4 .before in
+    let c6 = c5 .before in
+    let c7 = c6 .before in
+    let c8 = c7 .before in
+    let c10 = c8 .before .before in
+    let c13 = c10 .before .before .before in
+    let c19 = c13 .before .before .before .before .before .before in
+    let d = c .before .before .turn-down3 .ensures in (
+      (λ line f. turned-down _ _ _ _ _ (early-down _ _ _ _ (not-true _ (c4 .if4 .taken))
+          (right-count _ _ _ _ (c13 .end-line .ensures .0 line f) (c13 .end-line .ensures .1) (c13 .end-line .kept .1 .0 ∙ c19 .pre .0) (c8 .if1 .left
+          ∙ c10 .count-of .ensures) ∙ line-call _ _ (c7 .if2 .left) (sym (c6 .is-call .ensures) ∙ not-false _ (c5 .if3 .left)))) (d .0) (d .1)),
+      d .2,
+    )
 
 answer-call-requires : tie.Need-answer-call-requires
 answer-call-requires c κs = search needs
@@ -91,8 +140,21 @@ same-length-13 c = search needs
 
 returns-5 : tie.Need-returns-5
 returns-5 c =
-    let g = c .before .before .before .before .before .before .answer-call .ensures in
-    ((λ line f. answered-as _ _ _ _ _ _ _ _ (not-false _ (c .before .before .before .before .before .before .before .before .before .before .before .if4 .left)) (right-count _ _ _ _ (c .before .before .before .before .before .before .before .before .before .before .before .before .before .before .before .before .before .before .before .before .end-line .ensures .0 line f) (c .before .before .before .before .before .before .before .before .before .before .before .before .before .before .before .before .before .before .before .before .end-line .ensures .1) (c .before .before .before .before .before .before .before .before .before .before .before .before .before .before .before .before .before .before .before .before .end-line .kept .1 .0 ∙ c .before .before .before .before .before .before .before .before .before .before .before .before .before .before .before .before .before .before .before .before .before .before .before .before .before .before .pre .0) (c .before .before .before .before .before .before .before .before .before .before .before .before .before .before .before .if1 .left ∙ c .before .before .before .before .before .before .before .before .before .before .before .before .before .before .before .before .before .count-of .ensures) ∙ line-call _ _ (c .before .before .before .before .before .before .before .before .before .before .before .before .before .before .if2 .left) (sym (c .before .before .before .before .before .before .before .before .before .before .before .before .before .is-call .ensures) ∙ not-false _ (c .before .before .before .before .before .before .before .before .before .before .before .before .if3 .left))) (g .0)), g .1)
+    let c6 = c .before .before .before .before .before .before in
+    let c11 = c6 .before .before .before .before .before in
+    let c12 = c11 .before in
+    let c13 = c12 .before in
+    let c14 = c13 .before in
+    let c15 = c14 .before in
+    let c17 = c15 .before .before in
+    let c20 = c17 .before .before .before in
+    let c26 = c20 .before .before .before .before .before .before in
+    let g = c6 .answer-call .ensures in (
+      (λ line f. answered-as _ _ _ _ _ _ _ _ (not-false _ (c11 .if4 .left))
+          (right-count _ _ _ _ (c20 .end-line .ensures .0 line f) (c20 .end-line .ensures .1) (c20 .end-line .kept .1 .0 ∙ c26 .pre .0) (c15 .if1 .left
+          ∙ c17 .count-of .ensures) ∙ line-call _ _ (c14 .if2 .left) (sym (c13 .is-call .ensures) ∙ not-false _ (c12 .if3 .left))) (g .0)),
+      g .1,
+    )
 
 pub answer-spec : {M : Type 1} → statement M
 answer-spec =

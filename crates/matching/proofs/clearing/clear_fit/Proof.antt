@@ -16,7 +16,9 @@ slice-aggregate-lay-2 : tie.Need-slice-aggregate-lay-2
 slice-aggregate-lay-2 c = search needs
 
 lay-requires-2 : tie.Need-lay-requires-2
-lay-requires-2 c κs = let f = fit-gives _ _ _ (c .before .before .before .before .before .before .before .before .pre) in (f .inside, f .few, f .few, f .rises)
+lay-requires-2 c κs =
+    let c8 = c .before .before .before .before .before .before .before .before in
+    let f = fit-gives _ _ _ (c8 .pre) in (f .inside, f .few, f .few, f .rises)
 
 slice-aggregate-find-margins : tie.Need-slice-aggregate-find-margins
 slice-aggregate-find-margins c = search needs
@@ -26,14 +28,21 @@ slice-aggregate-find-margins-2 c = search needs
 
 find-margins-requires : tie.Need-find-margins-requires
 find-margins-requires c κs =
-    let f = fit-gives _ _ _ (c .before .before .before .before .before .before .before .before .before .before .before .before .before .pre) in
-    (f .inside, f .few, record { period = c .before .before .before .before .before .before .before .before .before .before .before .before .before .args .period; bidsStand = c .before .before .before .before .before .before .before .before .lay .ensures; asksStand = c .before .before .before .before .lay2 .ensures; small = f .small })
+    let c4 = c .before .before .before .before in
+    let c8 = c4 .before .before .before .before in
+    let c13 = c8 .before .before .before .before .before in
+    let f = fit-gives _ _ _ (c13 .pre) in
+    (f .inside, f .few, record { period = c13 .args .period; bidsStand = c8 .lay .ensures; asksStand = c4 .lay2 .ensures; small = f .small })
 
 same-length : tie.Need-same-length
 same-length c = search needs
 
 returns : tie.Need-returns
-returns c = clears-none _ _ _ _ _ _ _ _ _ _ _ _ (c .before .before .before .before .before .before .before .before .before .before .before .before .before .before .before .before .pre) refl (c .before .before .before .before .before .before .before .before .before .before .before .lay .ensures) (c .before .before .before .before .before .before .before .lay2 .ensures) (c .before .before .find-margins .ensures) (c .if1 .taken)
+returns c =
+    let c7 = c .before .before .before .before .before .before .before in
+    let c11 = c7 .before .before .before .before in
+    let c16 = c11 .before .before .before .before .before in
+    clears-none _ _ _ _ _ _ _ _ _ _ _ _ (c16 .pre) refl (c11 .lay .ensures) (c7 .lay2 .ensures) (c .before .before .find-margins .ensures) (c .if1 .taken)
 
 slice-aggregate-trade : tie.Need-slice-aggregate-trade
 slice-aggregate-trade c = search needs

@@ -28,7 +28,8 @@ fill-requires c κs =
       f .few,
       f .few,
       stand-here _ _ _ _ _ (s .pre .2),
-      bids-at-margin (a .orders .now) (a .rows .now) (a .bids .now) (a .asks .now) (a .n) (a .period) (a .nb) (a .na) (a .margins .volume) (a .margins .bid) (a .margins .ask) (s .pre .0) (s .pre .1) (s .pre .2) (s .pre .3) (s .pre .4),
+      bids-at-margin (a .orders .now) (a .rows .now) (a .bids .now) (a .asks .now) (a .n) (a .period) (a .nb) (a .na) (a .margins .volume) (a .margins .bid)
+          (a .margins .ask) (s .pre .0) (s .pre .1) (s .pre .2) (s .pre .3) (s .pre .4),
     )
 
 slice-aggregate-fill-3 : tie.Need-slice-aggregate-fill-3
@@ -48,7 +49,8 @@ fill-requires-2 c κs =
       f .few,
       f .few,
       stand-here _ _ _ _ _ (s .pre .3),
-      asks-at-margin (a .orders .now) (a .rows .now) (a .bids .now) (a .asks .now) (a .n) (a .period) (a .nb) (a .na) (a .margins .volume) (a .margins .bid) (a .margins .ask) (s .pre .0) (s .pre .1) (s .pre .2) (s .pre .3) (s .pre .4),
+      asks-at-margin (a .orders .now) (a .rows .now) (a .bids .now) (a .asks .now) (a .n) (a .period) (a .nb) (a .na) (a .margins .volume) (a .margins .bid)
+          (a .margins .ask) (s .pre .0) (s .pre .1) (s .pre .2) (s .pre .3) (s .pre .4),
     )
 
 clearing-price-requires : tie.Need-clearing-price-requires
@@ -68,12 +70,14 @@ slice-aggregate-put-overlaps-4 c = search needs
 
 put-overlaps-requires : tie.Need-put-overlaps-requires
 put-overlaps-requires c κs =
-    let s = c .before .before .before .before .before .before .before .before .before .before .before .before .before .before .before .before .before .before .before .before .before .before .before in
+    let c9 = c .before .before .before .before .before .before .before .before .before in
+    let c15 = c9 .before .before .before .before .before .before in
+    let s = c15 .before .before .before .before .before .before .before .before in
     let f = fit-here s in
     let w = sides-few _ _ _ _ _ _ _ (s .pre .2) (s .pre .3) in
-    let x = c .before .before .before .before .before .before .before .before .before .before .before .before .before .before .before .fill .ensures .0 in
-    let y = c .before .before .before .before .before .before .before .before .before .fill2 .ensures .0 in
-    (f .inside, f .few, f .lent, omega arith, c .before .before .before .before .before .before .before .before .before .before .before .before .before .before .before .fill .ensures .1, c .before .before .before .before .before .before .before .before .before .fill2 .ensures .1)
+    let x = c15 .fill .ensures .0 in
+    let y = c9 .fill2 .ensures .0 in
+    (f .inside, f .few, f .lent, omega arith, c15 .fill .ensures .1, c9 .fill2 .ensures .1)
 
 slice-aggregate-leave-rests : tie.Need-slice-aggregate-leave-rests
 slice-aggregate-leave-rests c = search needs
@@ -89,8 +93,12 @@ slice-aggregate-leave-rests-4 c = search needs
 
 leave-rests-requires : tie.Need-leave-rests-requires
 leave-rests-requires c κs =
-    let f = fit-here (c .before .before .before .before .before .before .before .before .before .before .before .before .before .before .before .before .before .before .before .before .before .before .before .before .before .before .before .before .before .before .before) in
-    (f .inside, f .few, f .rises, c .before .before .before .before .before .before .before .before .before .before .before .before .before .before .before .before .before .before .before .before .before .before .before .fill .ensures .1, c .before .before .before .before .before .before .before .before .before .before .before .before .before .before .before .before .before .fill2 .ensures .1)
+    let c10 = c .before .before .before .before .before .before .before .before .before .before in
+    let c17 = c10 .before .before .before .before .before .before .before in
+    let c23 = c17 .before .before .before .before .before .before in
+    let c31 = c23 .before .before .before .before .before .before .before .before in
+    let f = fit-here c31 in
+    (f .inside, f .few, f .rises, c23 .fill .ensures .1, c17 .fill2 .ensures .1)
 
 same-length : tie.Need-same-length
 same-length c = search needs
@@ -100,10 +108,16 @@ same-length-2 c = search needs
 
 returns : tie.Need-returns
 returns c =
-    let s = c .before .before .before .before .before .before .before .before .before .before .before .before .before .before .before .before .before .before .before .before .before .before .before .before .before .before .before .before .before .before .before .before .before .before in
+    let c10 = c .before .before .before .before .before .before .before .before .before .before in
+    let c17 = c10 .before .before .before .before .before .before .before in
+    let c20 = c17 .before .before .before in
+    let c26 = c20 .before .before .before .before .before .before in
+    let s = c26 .before .before .before .before .before .before .before .before in
     let a = s .args in
-    clears-some (a .orders .now) (a .rows .now) (a .bids .now) (a .asks .now) (a .n) (a .period) (a .nb) (a .na) (a .margins .volume) (a .margins .bid) (a .margins .ask) (s .pre .0) (s .pre .1) (s .pre .2) (s .pre .3) (s .pre .4)
-    _ _ _ _ _ _ _ _ refl (c .before .before .before .before .before .before .before .before .before .before .before .before .before .before .before .before .before .clearing-price .ensures) (c .before .before .before .before .before .before .before .before .before .before .before .before .before .before .before .before .before .before .before .before .before .before .before .before .before .before .fill .ensures .2) (c .before .before .before .before .before .before .before .before .before .before .before .before .before .before .before .before .before .before .before .before .fill2 .ensures .2) (c .before .before .before .before .before .before .before .before .before .before .put-overlaps .ensures .0) (c .before .before .before .before .before .before .before .before .before .before .put-overlaps .ensures .1) (c .before .before .leave-rests .ensures .0) (c .before .before .leave-rests .ensures .1)
+    clears-some (a .orders .now) (a .rows .now) (a .bids .now) (a .asks .now) (a .n) (a .period) (a .nb) (a .na) (a .margins .volume) (a .margins .bid)
+    (a .margins .ask) (s .pre .0) (s .pre .1) (s .pre .2) (s .pre .3) (s .pre .4)
+    _ _ _ _ _ _ _ _ refl (c17 .clearing-price .ensures) (c26 .fill .ensures .2) (c20 .fill2 .ensures .2) (c10 .put-overlaps .ensures .0)
+    (c10 .put-overlaps .ensures .1) (c .before .before .leave-rests .ensures .0) (c .before .before .leave-rests .ensures .1)
 
 pub trade-spec : {M : Type 1} → statement M
 trade-spec =

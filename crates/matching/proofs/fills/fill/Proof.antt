@@ -13,7 +13,8 @@ few : (s : tie.Start)
     → length (picked (s .args .orders .now) (s .args .direction) (s .args .margin) (take (s .args .count) (s .args .places .now)))
     + length (picked (s .args .orders .now) 2 (s .args .margin) (take (s .args .count) (s .args .places .now)))
     ≤ s .args .n
-few s = both-few (s .args .orders .now) (s .args .places .now) (s .args .n) (s .args .count) (s .args .direction) (s .args .margin) (s .args .volume) (s .pre .5) (s .pre .2) (s .pre .6)
+few s = both-few (s .args .orders .now) (s .args .places .now) (s .args .n) (s .args .count) (s .args .direction) (s .args .margin) (s .args .volume)
+    (s .pre .5) (s .pre .2) (s .pre .6)
 
 abbrev Room : ℕ → List ℕ → Type 0
 Room n l = n ≤ length l
@@ -29,32 +30,39 @@ slice-aggregate-pick c = search needs
 
 pick-requires-2 : tie.Need-pick-requires-2
 pick-requires-2 c κs =
+    let c6 = c .before .before .before .before .before .before in
     let s = c .before .before .before .before .before .before .before .before .before .before .before .before .before in
     let w = few s in
-    let e = c .before .before .before .before .before .before .pick .ensures .count in
+    let e = c6 .pick .ensures .count in
     (s .pre .0, s .pre .1, s .pre .5, omega arith, omega arith)
 
 together-requires : tie.Need-together-requires
 together-requires c κs =
-    let s = c .before .before .before .before .before .before .before .before .before .before .before .before .before .before .before .before .before .before in
+    let c11 = c .before .before .before .before .before .before .before .before .before .before .before in
+    let s = c11 .before .before .before .before .before .before .before in
     let w = few s in
-    let e = c .before .before .before .before .before .before .before .before .before .before .before .pick .ensures .count in
-    let t = better-sum (s .args .orders .now) (s .args .places .now) (s .args .n) (s .args .count) (s .args .direction) (s .args .margin) (s .args .volume) (s .pre .5) (s .pre .2) (s .pre .6) _ _ _ _ _ (c .before .before .before .before .before .before .before .before .before .before .before .pick .ensures) in
+    let e = c11 .pick .ensures .count in
+    let t = better-sum (s .args .orders .now) (s .args .places .now) (s .args .n) (s .args .count) (s .args .direction) (s .args .margin) (s .args .volume)
+    (s .pre .5) (s .pre .2) (s .pre .6) _ _ _ _ _ (c11 .pick .ensures) in
     let a = s .pre .6 .small in
     (omega arith, omega arith)
 
 sub-t25 : tie.Need-sub-t25
 sub-t25 c =
-    let s = c .before .before .before .before .before .before .before .before .before .before .before .before .before .before .before .before .before .before .before in
-    let t = better-sum (s .args .orders .now) (s .args .places .now) (s .args .n) (s .args .count) (s .args .direction) (s .args .margin) (s .args .volume) (s .pre .5) (s .pre .2) (s .pre .6) _ _ _ _ _ (c .before .before .before .before .before .before .before .before .before .before .before .before .pick .ensures) in
+    let c12 = c .before .before .before .before .before .before .before .before .before .before .before .before in
+    let s = c12 .before .before .before .before .before .before .before in
+    let t = better-sum (s .args .orders .now) (s .args .places .now) (s .args .n) (s .args .count) (s .args .direction) (s .args .margin) (s .args .volume)
+    (s .pre .5) (s .pre .2) (s .pre .6) _ _ _ _ _ (c12 .pick .ensures) in
     let a = s .pre .6 .over in
     let e = c .together .ensures in
     omega arith
 
 mul-share : tie.Need-mul-share
 mul-share c =
-    let w = few (c .before .before .before .before .before .before .before .before .before .before .before .before .before .before .before .before .before .before .before) in
-    let e = c .before .before .before .before .before .before .before .before .before .before .before .before .pick .ensures .count in
+    let c12 = c .before .before .before .before .before .before .before .before .before .before .before .before in
+    let c19 = c12 .before .before .before .before .before .before .before in
+    let w = few c19 in
+    let e = c12 .pick .ensures .count in
     omega arith
 
 sub-share : tie.Need-sub-share
@@ -65,15 +73,20 @@ part-share-start c = search needs
 
 part-share-end : tie.Need-part-share-end
 part-share-end c =
-    let w = few (c .before .before .before .before .before .before .before .before .before .before .before .before .before .before .before .before .before .before .before .before) in
-    let e = c .before .before .before .before .before .before .before .before .before .before .before .before .before .pick .ensures .count in
-    let f = c .before .before .before .before .before .before .pick2 .ensures .count in
+    let c6 = c .before .before .before .before .before .before in
+    let c13 = c6 .before .before .before .before .before .before .before in
+    let c20 = c13 .before .before .before .before .before .before .before in
+    let w = few c20 in
+    let e = c13 .pick .ensures .count in
+    let f = c6 .pick2 .ensures .count in
     omega arith
 
 mul-share-2 : tie.Need-mul-share-2
 mul-share-2 c =
-    let w = few (c .before .before .before .before .before .before .before .before .before .before .before .before .before .before .before .before .before .before .before .before .before) in
-    let e = c .before .before .before .before .before .before .before .before .before .before .before .before .before .before .pick .ensures .count in
+    let c14 = c .before .before .before .before .before .before .before .before .before .before .before .before .before .before in
+    let c21 = c14 .before .before .before .before .before .before .before in
+    let w = few c21 in
+    let e = c14 .pick .ensures .count in
     omega arith
 
 sub-share-2 : tie.Need-sub-share-2
@@ -84,10 +97,12 @@ part-share-start-2 c = search needs
 
 part-share-end-2 : tie.Need-part-share-end-2
 part-share-end-2 c =
-    let s = c .before .before .before .before .before .before .before .before .before .before .before .before .before .before .before .before .before .before .before .before .before in
+    let c7 = c .before .before .before .before .before .before .before in
+    let c14 = c7 .before .before .before .before .before .before .before in
+    let s = c14 .before .before .before .before .before .before .before in
     let w = few s in
-    let e = c .before .before .before .before .before .before .before .before .before .before .before .before .before .before .pick .ensures .count in
-    let f = c .before .before .before .before .before .before .before .pick2 .ensures .count in
+    let e = c14 .pick .ensures .count in
+    let f = c7 .pick2 .ensures .count in
     omega arith
 
 share-requires : tie.Need-share-requires
@@ -101,14 +116,17 @@ same-length-2 c = search needs
 
 returns : tie.Need-returns
 returns c =
-    let s = c .before .before .before .before .before .before .before .before .before .before .before .before .before .before .before .before .before .before .before .before .before .before .before .before .before in
+    let s = c .before .before .before .before .before .before .before .before .before .before .before .before .before .before .before .before .before
+    .before .before .before .before .before .before .before .before in
     let a = s .args in
-    let k = c .before .before .before .before .before .before .before .before .before .before .before .before .before .before .before .before .before .before .pick in
+    let k = c .before .before .before .before .before .before .before .before .before .before .before .before .before .before .before .before .before
+    .before .pick in
     let o = c .before .before .before .before .before .before .before .before .before .before .before .pick2 in
     let to1 : Room (a .n) (o .last .1 .1 .1 .1 .1 .1 .0) = omega arith in
     let am1 : Room (a .n) (k .last .1 .1 .1 .1 .1 .1 .1 .0) = omega arith in
     let op1 : Room (a .n) (o .last .1 .1 .1 .1 .1 .1 .1 .0) = omega arith in
-    side-filled (a .orders .now) (a .places .now) (a .n) (a .count) (a .direction) (a .margin) (a .volume) (s .pre .5) (s .pre .2) (s .pre .6) _ _ _ _ _ (k .ensures) _ _ _ _ (o .ensures)
+    side-filled (a .orders .now) (a .places .now) (a .n) (a .count) (a .direction) (a .margin) (a .volume) (s .pre .5) (s .pre .2) (s .pre .6) _ _ _ _ _
+    (k .ensures) _ _ _ _ (o .ensures)
     to1 am1 (omega arith) op1 _ (c .before .before .before .before .before .before .together .ensures) _ _ (c .before .before .share .ensures)
 
 pub fill-spec : {M : Type 1} → statement M

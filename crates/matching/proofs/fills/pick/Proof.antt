@@ -9,7 +9,8 @@ use Rattle.matching.proofs.fills.pick.Statement.{statement}
 use Rattle.matching.proofs.fills.pick.Tie as tie
 
 abbrev Inv-loop : tie.InvT-loop
-Inv-loop orders n which margin places count to₀ amounts₀ first r₀ i₀ to amounts r i = Picking orders which margin places count to₀ amounts₀ first to amounts r i
+Inv-loop orders n which margin places count to₀ amounts₀ first r₀ i₀ to amounts r i = Picking orders which margin places count to₀ amounts₀ first to amounts
+    r i
 
 abbrev μ-loop : tie.MeasureT-loop
 μ-loop orders n which margin places count to₀ amounts₀ first r₀ i₀ to amounts r i = count - i
@@ -25,7 +26,8 @@ shared-slice-read-p c = search needs
 
 read-requires : tie.Need-read-requires Inv-loop μ-loop
 read-requires c κs =
-    let b = stand-below _ _ _ _ _ (c .before .before .loop .i) (c .before .before .before .before .before .before .before .pre .2) (c .before .loop-test .taken) in
+    let c7 = c .before .before .before .before .before .before .before in
+    let b = stand-below _ _ _ _ _ (c .before .before .loop .i) (c7 .pre .2) (c .before .loop-test .taken) in
     omega arith
 
 at-price-requires : tie.Need-at-price-requires Inv-loop μ-loop
@@ -36,8 +38,11 @@ mul-to c = search needs
 
 slice-write-to : tie.Need-slice-write-to Inv-loop μ-loop
 slice-write-to c =
-    let g = c .before .before .before .before .before .loop .inv in
-    let b = picking-room _ _ _ _ _ _ _ _ _ _ _ _ (omega arith) (c .before .before .before .before .loop-test .taken) _ (c .before .before .read .ensures) g (sym (c .before .at-price .ensures) ∙ c .if1 .taken) in
+    let c4 = c .before .before .before .before in
+    let c5 = c4 .before in
+    let g = c5 .loop .inv in
+    let b = picking-room _ _ _ _ _ _ _ _ _ _ _ _ (omega arith) (c4 .loop-test .taken) _ (c .before .before .read .ensures) g
+    (sym (c .before .at-price .ensures) ∙ c .if1 .taken) in
     let l = g .longTo in
     omega arith
 
@@ -46,8 +51,11 @@ mul-amounts c = search needs
 
 slice-write-amounts : tie.Need-slice-write-amounts Inv-loop μ-loop
 slice-write-amounts c =
-    let g = c .before .before .before .before .before .loop .inv in
-    let b = picking-room _ _ _ _ _ _ _ _ _ _ _ _ (omega arith) (c .before .before .before .before .loop-test .taken) _ (c .before .before .read .ensures) g (sym (c .before .at-price .ensures) ∙ c .if1 .taken) in
+    let c4 = c .before .before .before .before in
+    let c5 = c4 .before in
+    let g = c5 .loop .inv in
+    let b = picking-room _ _ _ _ _ _ _ _ _ _ _ _ (omega arith) (c4 .loop-test .taken) _ (c .before .before .read .ensures) g
+    (sym (c .before .at-price .ensures) ∙ c .if1 .taken) in
     let l = g .longAm in
     omega arith
 
@@ -62,12 +70,15 @@ loop-less c = search needs
 
 loop-again : tie.Need-loop-again Inv-loop μ-loop
 loop-again c =
-    let g = c .before .before .before .before .before .loop .inv in
+    let c4 = c .before .before .before .before in
+    let c5 = c4 .before in
+    let g = c5 .loop .inv in
     let t = sym (c .before .at-price .ensures) ∙ c .if1 .taken in
-    let b = picking-room _ _ _ _ _ _ _ _ _ _ _ _ (omega arith) (c .before .before .before .before .loop-test .taken) _ (c .before .before .read .ensures) g t in
+    let b = picking-room _ _ _ _ _ _ _ _ _ _ _ _ (omega arith) (c4 .loop-test .taken) _ (c .before .before .read .ensures) g t in
     let l = g .longTo in
     let k = g .longAm in
-    picking-put _ _ _ _ _ _ _ _ _ _ _ _ (omega arith) (c .before .before .before .before .loop-test .taken) _ (c .before .before .read .ensures) g t _ _ refl refl (omega arith) (omega arith)
+    picking-put _ _ _ _ _ _ _ _ _ _ _ _ (omega arith) (c4 .loop-test .taken) _ (c .before .before .read .ensures) g t _ _ refl refl (omega arith)
+    (omega arith)
 
 add-i-2 : tie.Need-add-i-2 Inv-loop μ-loop
 add-i-2 c = search needs
@@ -76,7 +87,11 @@ loop-less-2 : tie.Need-loop-less-2 Inv-loop μ-loop
 loop-less-2 c = search needs
 
 loop-again-2 : tie.Need-loop-again-2 Inv-loop μ-loop
-loop-again-2 c = picking-skip _ _ _ _ _ _ _ _ _ _ _ _ (omega arith) (c .before .before .before .before .loop-test .taken) _ (c .before .before .read .ensures) (c .before .before .before .before .before .loop .inv) (sym (c .before .at-price .ensures) ∙ c .if1 .left)
+loop-again-2 c =
+    let c4 = c .before .before .before .before in
+    let c5 = c4 .before in
+    picking-skip _ _ _ _ _ _ _ _ _ _ _ _ (omega arith) (c4 .loop-test .taken) _ (c .before .before .read .ensures) (c5 .loop .inv)
+    (sym (c .before .at-price .ensures) ∙ c .if1 .left)
 
 same-length : tie.Need-same-length Inv-loop μ-loop
 same-length c = search needs

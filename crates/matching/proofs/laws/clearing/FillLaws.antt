@@ -82,7 +82,8 @@ module _ (better : ℕ → ℕ → Bool) (v m : ℕ) (os : List Order) where
       let enough = g .enough in
       let tE = total-quantities E in
       let a : amounts best ≡ quantities B = filled-sum B (quantitiesOf B) (length-map B (λ o. o .quantity)) ∙ total-quantities B in
-      let b : amounts rest ≡ d = filled-sum E (parts d (quantitiesOf E)) (parts-length d (quantitiesOf E) ∙ length-map E (λ o. o .quantity)) ∙ parts-sum d (quantitiesOf E) (omega arith) in
+      let b : amounts rest ≡ d = filled-sum E (parts d (quantitiesOf E)) (parts-length d (quantitiesOf E) ∙ length-map E (λ o. o .quantity))
+      ∙ parts-sum d (quantitiesOf E) (omega arith) in
       let c : amounts (best ++ rest) ≡ amounts best + amounts rest = sumOf-append (λ f. f .amount) best rest in
       omega arith
 
@@ -108,17 +109,20 @@ module _ (better : ℕ → ℕ → Bool) (v m : ℕ) (os : List Order) where
       (filled-each P (atPrice m os) _ (each-keep P (λ o. eqb (o .price) m) os e))
 
   -- a filled order is priced better than the margin, or at it
-  pub side-prices : (P : ℕ → Type 0) → ((p : ℕ) → better p m ≡ true → P p) → ((p : ℕ) → eqb p m ≡ true → P p) → Each (λ f. P (f .order .price)) (sideFills better v m os)
+  pub side-prices : (P : ℕ → Type 0) → ((p : ℕ) → better p m ≡ true → P p) → ((p : ℕ) → eqb p m ≡ true → P p)
+      → Each (λ f. P (f .order .price)) (sideFills better v m os)
   unfolding fillsOf
   side-prices P h k =
       each-append (λ f. P (f .order .price)) best rest
       (filled-each (λ o. P (o .price)) (betterThan better m os) _
-      (each-map (λ o. better (o .price) m ≡ true) (λ o. P (o .price)) (betterThan better m os) (λ o e. h (o .price) e) (kept (λ o. better (o .price) m) os)))
+      (each-map (λ o. better (o .price) m ≡ true) (λ o. P (o .price)) (betterThan better m os) (λ o e. h (o .price) e)
+      (kept (λ o. better (o .price) m) os)))
       (filled-each (λ o. P (o .price)) (atPrice m os) _
       (each-map (λ o. eqb (o .price) m ≡ true) (λ o. P (o .price)) (atPrice m os) (λ o e. k (o .price) e) (kept (λ o. eqb (o .price) m) os)))
 
   -- a test of orders that each better one passes finds no less than they have
-  pub side-better : (g : Order → Bool) → Each (λ o. better (o .price) m ≡ true → g o ≡ true) os → quantities (betterThan better m os) ≤ amounts (keep (λ f. g (f .order)) (sideFills better v m os))
+  pub side-better : (g : Order → Bool) → Each (λ o. better (o .price) m ≡ true → g o ≡ true) os → quantities (betterThan better m os)
+      ≤ amounts (keep (λ f. g (f .order)) (sideFills better v m os))
   unfolding fillsOf
   side-better g e =
       let B = betterThan better m os in
@@ -129,6 +133,7 @@ module _ (better : ℕ → ℕ → Bool) (v m : ℕ) (os : List Order) where
       (kept (λ o. better (o .price) m) os) (each-keep (λ o. better (o .price) m ≡ true → g o ≡ true) (λ o. better (o .price) m) os e))) in
       let a : amounts best ≡ quantities B = filled-sum B (quantitiesOf B) (length-map B (λ o. o .quantity)) ∙ total-quantities B in
       let c : amounts (keep G (best ++ rest)) ≡ amounts (keep G best ++ keep G rest) = ap amounts (keep-append G best rest) in
-      let d : amounts (keep G best ++ keep G rest) ≡ amounts (keep G best) + amounts (keep G rest) = sumOf-append (λ f. f .amount) (keep G best) (keep G rest) in
+      let d : amounts (keep G best ++ keep G rest) ≡ amounts (keep G best) + amounts (keep G rest) = sumOf-append (λ f. f .amount) (keep G best)
+      (keep G rest) in
       let k : amounts (keep G best) ≡ amounts best = ap amounts all in
       omega arith

@@ -13,7 +13,17 @@ use Rattle.matching.specs.Orders.{Order, quantities}
 use Rattle.matching.specs.Clearing.{tradedAt, largest, clearedVolume, marginal}
 use Rattle.matching.proofs.laws.lists.EachLaws.{Each, each-all}
 use Rattle.matching.proofs.laws.orders.AheadLaws.{Strict, Ordered, dearer, cheaper, dearer-strict, cheaper-strict}
-use Rattle.matching.proofs.laws.clearing.VolumeLaws.{demand, supply, traded, keep-more, keep-some, keep-none, largest-below, Reached, largest-reached}
+use Rattle.matching.proofs.laws.clearing.VolumeLaws.{
+  demand,
+  supply,
+  traded,
+  keep-more,
+  keep-some,
+  keep-none,
+  largest-below,
+  Reached,
+  largest-reached,
+}
 
 -- what holds of each price holds of the margin's
 pub marginal-of : (P : ℕ → Type 0) (os : List Order) (v : ℕ) → Each (λ o. P (o .price)) os → 0 < v → v ≤ quantities os → P (marginal v os)
@@ -37,7 +47,8 @@ pub record Margin (better : ℕ → ℕ → Bool) (v m : ℕ) (os : List Order) 
 
 module _ (better : ℕ → ℕ → Bool) (st : Strict better) where
   -- an order in front whose price is no worse than the margin's
-  margin-step : (o : Order) (B E : List Order) (v : ℕ) (s t : Bool) → o .quantity < v → (s ≡ false → t ≡ true) → quantities B < v - o .quantity → v - o .quantity ≤ quantities B + quantities E
+  margin-step : (o : Order) (B E : List Order) (v : ℕ) (s t : Bool) → o .quantity < v → (s ≡ false → t ≡ true) → quantities B < v - o .quantity
+      → v - o .quantity ≤ quantities B + quantities E
       → (quantities (cond s (o ∷ B) B) < v) × (v ≤ quantities (cond s (o ∷ B) B) + quantities (cond t (o ∷ E) E))
   margin-step o B E v true true l h k n = (omega arith, omega arith)
   margin-step o B E v true false l h k n = (omega arith, omega arith)
@@ -62,10 +73,12 @@ module _ (better : ℕ → ℕ → Bool) (st : Strict better) where
           let q = eq-eqb (o .price) (o .price) refl in
           record { some = rw s (omega arith); enough = rw (s, q) (omega arith) }
 
-      behind : o .quantity < v → Margin better (v - o .quantity) (marginal (v - o .quantity) os) os → better (marginal (v - o .quantity) os) (o .price) ≡ false → Margin better v (marginal (v - o .quantity) os) (o ∷ os)
+      behind : o .quantity < v → Margin better (v - o .quantity) (marginal (v - o .quantity) os) os → better (marginal (v - o .quantity) os) (o .price)
+          ≡ false → Margin better v (marginal (v - o .quantity) os) (o ∷ os)
       behind l ih nb =
           let m = marginal (v - o .quantity) os in
-          let r = margin-step o (betterThan better m os) (atPrice m os) v (better (o .price) m) (eqb (o .price) m) l (λ f. eq-eqb _ _ (st .total _ _ f nb)) (ih .some) (ih .enough) in
+          let r = margin-step o (betterThan better m os) (atPrice m os) v (better (o .price) m) (eqb (o .price) m) l (λ f. eq-eqb _ _ (st .total _ _ f nb))
+          (ih .some) (ih .enough) in
           record { some = r .0; enough = r .1 }
 
 -- neither side has less than the volume
@@ -73,13 +86,15 @@ pub volume-bids : (bl al : List Order) → clearedVolume bl al ≤ quantities bl
 unfolding clearedVolume
 volume-bids bl al =
     largest-below (λ o. tradedAt bl al (o .price)) (bl ++ al) (quantities bl)
-    (each-all (λ o. tradedAt bl al (o .price) ≤ quantities bl) (bl ++ al) (λ o. omega (arith, traded bl al (o .price), keep-some (λ x. leb (o .price) (x .price)) bl)))
+    (each-all (λ o. tradedAt bl al (o .price) ≤ quantities bl) (bl
+    ++ al) (λ o. omega (arith, traded bl al (o .price), keep-some (λ x. leb (o .price) (x .price)) bl)))
 
 pub volume-asks : (bl al : List Order) → clearedVolume bl al ≤ quantities al
 unfolding clearedVolume
 volume-asks bl al =
     largest-below (λ o. tradedAt bl al (o .price)) (bl ++ al) (quantities al)
-    (each-all (λ o. tradedAt bl al (o .price) ≤ quantities al) (bl ++ al) (λ o. omega (arith, traded bl al (o .price), keep-some (λ x. leb (x .price) (o .price)) al)))
+    (each-all (λ o. tradedAt bl al (o .price) ≤ quantities al) (bl
+    ++ al) (λ o. omega (arith, traded bl al (o .price), keep-some (λ x. leb (x .price) (o .price)) al)))
 
 -- some price trades the volume
 pub volume-traded : (bl al : List Order) → 0 < clearedVolume bl al → Reached (λ o. tradedAt bl al (o .price)) (bl ++ al)
@@ -123,7 +138,8 @@ pub record Margins (bl al : List Order) (v b s : ℕ) : Type 0 where
   pub ask : Margin cheaper v s al
   pub meet : s ≤ b
 
-pub margins : (bl al : List Order) → Ordered dearer bl → Ordered cheaper al → 0 < clearedVolume bl al → Margins bl al (clearedVolume bl al) (marginal (clearedVolume bl al) bl) (marginal (clearedVolume bl al) al)
+pub margins : (bl al : List Order) → Ordered dearer bl → Ordered cheaper al → 0 < clearedVolume bl al
+    → Margins bl al (clearedVolume bl al) (marginal (clearedVolume bl al) bl) (marginal (clearedVolume bl al) al)
 margins bl al ob oa pos =
     let v = clearedVolume bl al in
     let r = volume-traded bl al pos in

@@ -9,7 +9,19 @@ use borrow.Author.Tests.{eqb-true, eqb-false}
 use Rattle.measures.specs.Lists.{keep}
 use Rattle.measures.proofs.ListLaws.{and-left}
 use Rattle.matching.specs.Orders.{Order, Row, buys, sells, bids, asks, bidAhead, askAhead}
-use Rattle.matching.specs.Clearing.{Fill, Cleared, clearedVolume, marginal, clearingPrice, bidFills, askFills, endToEnd, overlapRows, afterFills, clearPeriod}
+use Rattle.matching.specs.Clearing.{
+  Fill,
+  Cleared,
+  clearedVolume,
+  marginal,
+  clearingPrice,
+  bidFills,
+  askFills,
+  endToEnd,
+  overlapRows,
+  afterFills,
+  clearPeriod,
+}
 use Rattle.matching.proofs.laws.lists.EachLaws.{Each, Has, Pairs, each-keep, kept, has-self, pairs-map, pairs-keep}
 use Rattle.matching.proofs.laws.orders.LaidLaws.{laid-each, laid-pairs}
 use Rattle.matching.proofs.laws.orders.AheadLaws.{dearer, cheaper, dearer-strict, cheaper-strict, bids-ordered, asks-ordered}
@@ -47,17 +59,21 @@ askFillsOf period os = cond (eqb (volume period os) 0) [] (askFills (volume peri
 
 module _ (period : ℕ) (os : List Order) where
   rows-by : (b : Bool) (F H : List Fill)
-      → cond {A = Cleared} b (record { rows = []; orders = os }) (record { rows = overlapRows period (priceOf period os) (endToEnd 0 F) (endToEnd 0 H); orders = afterFills H (afterFills F os) }) .rows
+      → cond {A = Cleared} b (record { rows = []; orders = os })
+      (record { rows = overlapRows period (priceOf period os) (endToEnd 0 F) (endToEnd 0 H); orders = afterFills H (afterFills F os) }) .rows
       ≡ overlapRows period (priceOf period os) (endToEnd 0 (cond b [] F)) (endToEnd 0 (cond b [] H))
   unfolding overlapRows endToEnd
   rows-by true F H = refl
   rows-by false F H = refl
 
-  pub cleared-rows : clearPeriod period os .rows ≡ overlapRows period (priceOf period os) (endToEnd 0 (bidFillsOf period os)) (endToEnd 0 (askFillsOf period os))
+  pub cleared-rows : clearPeriod period os .rows ≡ overlapRows period (priceOf period os) (endToEnd 0 (bidFillsOf period os))
+      (endToEnd 0 (askFillsOf period os))
   unfolding clearPeriod bidFillsOf askFillsOf
-  cleared-rows = rows-by (eqb (volume period os) 0) (bidFills (volume period os) (bidMargin period os) (bids period os)) (askFills (volume period os) (askMargin period os) (asks period os))
+  cleared-rows = rows-by (eqb (volume period os) 0) (bidFills (volume period os) (bidMargin period os) (bids period os))
+      (askFills (volume period os) (askMargin period os) (asks period os))
 
-  orders-by : (b : Bool) (R : List Row) (F H : List Fill) → cond {A = Cleared} b (record { rows = []; orders = os }) (record { rows = R; orders = afterFills H (afterFills F os) }) .orders ≡ afterFills (cond b [] H) (afterFills (cond b [] F) os)
+  orders-by : (b : Bool) (R : List Row) (F H : List Fill) → cond {A = Cleared} b (record { rows = []; orders = os })
+      (record { rows = R; orders = afterFills H (afterFills F os) }) .orders ≡ afterFills (cond b [] H) (afterFills (cond b [] F) os)
   unfolding afterFills
   orders-by true R F H = refl
   orders-by false R F H = refl
@@ -65,25 +81,30 @@ module _ (period : ℕ) (os : List Order) where
   pub cleared-orders : clearPeriod period os .orders ≡ afterFills (bidFillsOf period os ++ askFillsOf period os) os
   unfolding clearPeriod bidFillsOf askFillsOf
   cleared-orders =
-      orders-by (eqb (volume period os) 0) _ (bidFills (volume period os) (bidMargin period os) (bids period os)) (askFills (volume period os) (askMargin period os) (asks period os))
+      orders-by (eqb (volume period os) 0) _ (bidFills (volume period os) (bidMargin period os) (bids period os))
+      (askFills (volume period os) (askMargin period os) (asks period os))
       ∙ sym (after-append (bidFillsOf period os) (askFillsOf period os) os)
 
   -- by cases: nothing trades, or some volume does
   pub fills-case : (P : List Fill → List Fill → Type 0) → (volume period os ≡ 0 → P [] [])
-      → (0 < volume period os → P (bidFills (volume period os) (bidMargin period os) (bids period os)) (askFills (volume period os) (askMargin period os) (asks period os)))
+      → (0 < volume period os → P (bidFills (volume period os) (bidMargin period os) (bids period os))
+      (askFills (volume period os) (askMargin period os) (asks period os)))
       → P (bidFillsOf period os) (askFillsOf period os)
   unfolding bidFillsOf askFillsOf
   fills-case P h k = go (eqb (volume period os) 0) refl
     where
-      go : (b : Bool) → eqb (volume period os) 0 ≡ b → P (cond b [] (bidFills (volume period os) (bidMargin period os) (bids period os))) (cond b [] (askFills (volume period os) (askMargin period os) (asks period os)))
+      go : (b : Bool) → eqb (volume period os) 0 ≡ b → P (cond b [] (bidFills (volume period os) (bidMargin period os) (bids period os)))
+          (cond b [] (askFills (volume period os) (askMargin period os) (asks period os)))
       go true e = h (eqb-true (volume period os) 0 e)
       go false e = let n = eqb-false (volume period os) 0 e in k (omega arith)
 
   pub fills-are : 0 < volume period os
-      → (bidFillsOf period os ≡ bidFills (volume period os) (bidMargin period os) (bids period os)) × (askFillsOf period os ≡ askFills (volume period os) (askMargin period os) (asks period os))
+      → (bidFillsOf period os ≡ bidFills (volume period os) (bidMargin period os) (bids period os))
+      × (askFillsOf period os ≡ askFills (volume period os) (askMargin period os) (asks period os))
   fills-are pos =
       fills-case
-      (λ F H. (F ≡ bidFills (volume period os) (bidMargin period os) (bids period os)) × (H ≡ askFills (volume period os) (askMargin period os) (asks period os)))
+      (λ F H. (F ≡ bidFills (volume period os) (bidMargin period os) (bids period os))
+      × (H ≡ askFills (volume period os) (askMargin period os) (asks period os)))
       (λ z. absurd (omega arith)) (λ _. (refl, refl))
 
   pub margins-of : 0 < volume period os → Margins (bids period os) (asks period os) (volume period os) (bidMargin period os) (askMargin period os)
@@ -104,10 +125,12 @@ module _ (period : ℕ) (os : List Order) where
 
   -- what holds of each bid of the period holds of each that is filled; and so for asks
   pub bid-fills-each : (P : Order → Type 0) → Each P (bids period os) → Each (λ f. P (f .order)) (bidFillsOf period os)
-  bid-fills-each P e = fills-case (λ F H. Each (λ f. P (f .order)) F) (λ _. tt) (λ pos. side-each dearer (volume period os) (bidMargin period os) (bids period os) P e)
+  bid-fills-each P e = fills-case (λ F H. Each (λ f. P (f .order)) F) (λ _. tt)
+      (λ pos. side-each dearer (volume period os) (bidMargin period os) (bids period os) P e)
 
   pub ask-fills-each : (P : Order → Type 0) → Each P (asks period os) → Each (λ f. P (f .order)) (askFillsOf period os)
-  ask-fills-each P e = fills-case (λ F H. Each (λ f. P (f .order)) H) (λ _. tt) (λ pos. side-each cheaper (volume period os) (askMargin period os) (asks period os) P e)
+  ask-fills-each P e = fills-case (λ F H. Each (λ f. P (f .order)) H) (λ _. tt)
+      (λ pos. side-each cheaper (volume period os) (askMargin period os) (asks period os) P e)
 
   pub bid-fills-stand : Each (λ f. Has (f .order) os) (bidFillsOf period os)
   bid-fills-stand = bid-fills-each (λ o. Has o os) (bids-each (λ o. Has o os) (has-self os))
@@ -123,12 +146,14 @@ module _ (period : ℕ) (os : List Order) where
 
   bid-due : Numbered os → 0 < volume period os → Due (bidFills (volume period os) (bidMargin period os) (bids period os)) os
   bid-due n pos =
-      side-due dearer dearer-strict (volume period os) (bidMargin period os) (bids period os) os (margins-of pos .bid) n (bids-each (λ o. Has o os) (has-self os))
+      side-due dearer dearer-strict (volume period os) (bidMargin period os) (bids period os) os (margins-of pos .bid) n
+      (bids-each (λ o. Has o os) (has-self os))
       (laid-pairs bidAhead Apart flip (keep (isBid period) os) (pairs-keep Apart (isBid period) os (all-apart n)))
 
   ask-due : Numbered os → 0 < volume period os → Due (askFills (volume period os) (askMargin period os) (asks period os)) os
   ask-due n pos =
-      side-due cheaper cheaper-strict (volume period os) (askMargin period os) (asks period os) os (margins-of pos .ask) n (asks-each (λ o. Has o os) (has-self os))
+      side-due cheaper cheaper-strict (volume period os) (askMargin period os) (asks period os) os (margins-of pos .ask) n
+      (asks-each (λ o. Has o os) (has-self os))
       (laid-pairs askAhead Apart flip (keep (isAsk period) os) (pairs-keep Apart (isAsk period) os (all-apart n)))
 
   -- no order is both

@@ -44,7 +44,8 @@ pub record Picking (m : List ℕ) (which margin : ℕ) (ps : List ℕ) (c : ℕ)
   pub places : take r to ++ picked m which margin (drop i (take c ps)) ≡ take first to₀ ++ picked m which margin (take c ps)
   pub amounts : take r am ++ openAt m (picked m which margin (drop i (take c ps))) ≡ take first am₀ ++ openAt m (picked m which margin (take c ps))
 
-pub picking-start : (m : List ℕ) (which margin : ℕ) (ps : List ℕ) (c : ℕ) (to am : List ℕ) (first : ℕ) → Picking m which margin ps c to am first to am first 0
+pub picking-start : (m : List ℕ) (which margin : ℕ) (ps : List ℕ) (c : ℕ) (to am : List ℕ) (first : ℕ)
+    → Picking m which margin ps c to am first to am first 0
 picking-start m which margin ps c to am first = record { at = omega arith; longTo = refl; longAm = refl; room = refl; places = refl; amounts = refl }
 
 module _ (m : List ℕ) (which margin : ℕ) (ps : List ℕ) (c : ℕ) (to₀ am₀ : List ℕ) (first : ℕ) (to am : List ℕ) (r i : ℕ)
@@ -57,8 +58,10 @@ module _ (m : List ℕ) (which margin : ℕ) (ps : List ℕ) (c : ℕ) (to₀ am
   next =
       rw (add-one i)
       (ap (keep (λ p. chosen which margin (orderAt m p))) (drop-cons (take c ps) i 0 (simp length-take (omega arith)))
-      ∙ ap (λ (p : ℕ). cond (chosen which margin (orderAt m p)) (p ∷ keep (λ q. chosen which margin (orderAt m q)) (drop (suc i) (take c ps))) (keep (λ q. chosen which margin (orderAt m q)) (drop (suc i) (take c ps)))) (getD-take c ps i 0 h)
-      ∙ ap (λ (x : Order). cond (chosen which margin x) (getD ps i 0 ∷ keep (λ q. chosen which margin (orderAt m q)) (drop (suc i) (take c ps))) (keep (λ q. chosen which margin (orderAt m q)) (drop (suc i) (take c ps)))) (sym eo))
+      ∙ ap (λ (p : ℕ). cond (chosen which margin (orderAt m p)) (p ∷ keep (λ q. chosen which margin (orderAt m q)) (drop (suc i) (take c ps)))
+      (keep (λ q. chosen which margin (orderAt m q)) (drop (suc i) (take c ps)))) (getD-take c ps i 0 h)
+      ∙ ap (λ (x : Order). cond (chosen which margin x) (getD ps i 0 ∷ keep (λ q. chosen which margin (orderAt m q)) (drop (suc i) (take c ps)))
+      (keep (λ q. chosen which margin (orderAt m q)) (drop (suc i) (take c ps)))) (sym eo))
 
   pub picking-skip : chosen which margin o ≡ false → Picking m which margin ps c to₀ am₀ first to am r (i + 1)
   picking-skip e =
@@ -79,7 +82,8 @@ module _ (m : List ℕ) (which margin : ℕ) (ps : List ℕ) (c : ℕ) (to₀ am
     pub picking-room : r < first + length (picked m which margin (take c ps))
     picking-room = let s = ap length taken in let t = g .room in omega arith
 
-    pub picking-put : (p q : ℕ) → p ≡ getD ps i 0 → q ≡ o .quantity → r < length to → r < length am → Picking m which margin ps c to₀ am₀ first (set to r p) (set am r q) (r + 1) (i + 1)
+    pub picking-put : (p q : ℕ) → p ≡ getD ps i 0 → q ≡ o .quantity → r < length to → r < length am
+        → Picking m which margin ps c to₀ am₀ first (set to r p) (set am r q) (r + 1) (i + 1)
     picking-put p q ep eq lt la =
         let s = ap length taken in
         let t = g .room in
@@ -92,10 +96,12 @@ module _ (m : List ℕ) (which margin : ℕ) (ps : List ℕ) (c : ℕ) (to₀ am
           longAm = length-set am r q ∙ g .longAm;
           room = omega arith;
           places = rw (add-one r, take-suc-set to r p lt) (append-assoc (take r to) (p ∷ []) later ∙ ap (λ (l : List ℕ). take r to ++ l) x ∙ g .places);
-          amounts = rw (add-one r, take-suc-set am r q la) (append-assoc (take r am) (q ∷ []) (openAt m later) ∙ ap (λ (l : List ℕ). take r am ++ l) y ∙ g .amounts);
+          amounts = rw (add-one r, take-suc-set am r q la) (append-assoc (take r am) (q ∷ []) (openAt m later) ∙ ap (λ (l : List ℕ). take r am ++ l) y
+              ∙ g .amounts);
         }
 
-pub picking-end : (m : List ℕ) (which margin : ℕ) (ps : List ℕ) (c : ℕ) (to₀ am₀ : List ℕ) (first : ℕ) (to am : List ℕ) (r i : ℕ) → c ≤ i → Picking m which margin ps c to₀ am₀ first to am r i
+pub picking-end : (m : List ℕ) (which margin : ℕ) (ps : List ℕ) (c : ℕ) (to₀ am₀ : List ℕ) (first : ℕ) (to am : List ℕ) (r i : ℕ) → c ≤ i
+    → Picking m which margin ps c to₀ am₀ first to am r i
     → Picked m (picked m which margin (take c ps)) to₀ am₀ first r to am
 unfolding picked
 picking-end m which margin ps c to₀ am₀ first to am r i h g =
@@ -112,8 +118,10 @@ pub record Adding (xs : List ℕ) (c sum i : ℕ) : Type 0 where
   pub at : i ≤ c
   pub left : sum + total (drop i (take c xs)) ≡ total (take c xs)
 
-pub adding-next : (xs : List ℕ) (c sum i : ℕ) → c ≤ length xs → i < c → Adding xs c sum i → total (drop i (take c xs)) ≡ getD xs i 0 + total (drop (i + 1) (take c xs))
-adding-next xs c sum i l h g = total-drop (take c xs) i (simp length-take (omega arith)) ∙ ap (λ (x : ℕ). x + total (drop (i + 1) (take c xs))) (getD-take c xs i 0 h)
+pub adding-next : (xs : List ℕ) (c sum i : ℕ) → c ≤ length xs → i < c → Adding xs c sum i → total (drop i (take c xs))
+    ≡ getD xs i 0 + total (drop (i + 1) (take c xs))
+adding-next xs c sum i l h g = total-drop (take c xs) i (simp length-take (omega arith))
+    ∙ ap (λ (x : ℕ). x + total (drop (i + 1) (take c xs))) (getD-take c xs i 0 h)
 
 pub adding-end : (xs : List ℕ) (c sum i : ℕ) → c ≤ i → Adding xs c sum i → sum ≡ total (take c xs)
 adding-end xs c sum i h g = let e = total-end (take c xs) i (simp length-take (omega arith)) in let l = g .left in omega arith
@@ -132,7 +140,8 @@ module _ {A : Type 0} where
   keep-apart f g [] n = omega arith
   keep-apart f g (x ∷ l) n = go (f x) (g x) (n x) (keep-apart f g l n)
     where
-      go : (a b : Bool) → (a ≡ true → b ≡ false) → length (keep f l) + length (keep g l) ≤ length l → length (cond a (x ∷ keep f l) (keep f l)) + length (cond b (x ∷ keep g l) (keep g l)) ≤ suc (length l)
+      go : (a b : Bool) → (a ≡ true → b ≡ false) → length (keep f l) + length (keep g l) ≤ length l
+          → length (cond a (x ∷ keep f l) (keep f l)) + length (cond b (x ∷ keep g l) (keep g l)) ≤ suc (length l)
       go true true h ih = both-ways (h refl)
       go true false h ih = omega arith
       go false true h ih = omega arith
@@ -157,7 +166,8 @@ picked-orders m which margin [] = refl
 picked-orders m which margin (p ∷ ps) = go (chosen which margin (orderAt m p)) (picked-orders m which margin ps)
   where
     go : (b : Bool) → ordersAt m (keep (λ q. chosen which margin (orderAt m q)) ps) ≡ keep (chosen which margin) (ordersAt m ps)
-        → ordersAt m (cond b (p ∷ keep (λ q. chosen which margin (orderAt m q)) ps) (keep (λ q. chosen which margin (orderAt m q)) ps)) ≡ cond b (orderAt m p ∷ keep (chosen which margin) (ordersAt m ps)) (keep (chosen which margin) (ordersAt m ps))
+        → ordersAt m (cond b (p ∷ keep (λ q. chosen which margin (orderAt m q)) ps) (keep (λ q. chosen which margin (orderAt m q)) ps))
+        ≡ cond b (orderAt m p ∷ keep (chosen which margin) (ordersAt m ps)) (keep (chosen which margin) (ordersAt m ps))
     go true h = ap (λ (l : List Order). orderAt m p ∷ l) h
     go false h = h
 
@@ -246,7 +256,8 @@ module _ (m ps : List ℕ) (n c d margin v : ℕ) (s : Stand m ps n c (ordersAt 
       pub all-few : all ≤ n
       all-few = omega (arith, both-few, better-count, all-count)
 
-      module _ (roomTo : n ≤ length to₂) (roomAm : n ≤ length am₁) (roomOp₀ : n ≤ length op₀) (roomOp : n ≤ length op) (first : ℕ) (ef : first ≡ total (take better am₁)) (x : ℕ) (ys : List ℕ)
+      module _ (roomTo : n ≤ length to₂) (roomAm : n ≤ length am₁) (roomOp₀ : n ≤ length op₀) (roomOp : n ≤ length op) (first : ℕ) (ef : first
+          ≡ total (take better am₁)) (x : ℕ) (ys : List ℕ)
           (i : Is (sharing (v - first) (take (all - better) (drop better op)) (take (all - better) (drop better am₁))) x ys) where
         abbrev R : List ℕ
         R = openAt m M
@@ -258,7 +269,8 @@ module _ (m ps : List ℕ) (n c d margin v : ℕ) (s : Stand m ps n c (ordersAt 
         lK = length-mapped (λ p. orderAt m p .quantity) K
 
         open-margin : take (all - better) (drop better op) ≡ R
-        open-margin = mid-of op (take better op₀) R better all (omega (arith, all-count)) (omega (arith, all-few, all-count)) (q .amounts) (length-take-le better op₀ (omega (arith, all-few, all-count)))
+        open-margin = mid-of op (take better op₀) R better all (omega (arith, all-count)) (omega (arith, all-few, all-count)) (q .amounts)
+            (length-take-le better op₀ (omega (arith, all-few, all-count)))
 
         abbrev D : ℕ
         D = v - total (take better am₁)
@@ -282,7 +294,8 @@ module _ (m ps : List ℕ) (n c d margin v : ℕ) (s : Stand m ps n c (ordersAt 
         shares =
             let j : Is (sharing D R (take (all - better) (drop better am₁))) x ys = rw (ef, open-margin) at i in
             let k = is-shared D R (take (all - better) (drop better am₁)) (omega (arith, lP, lR, all-count)) least fits most refl in
-            let e : drop (length R) (take (all - better) (drop better am₁)) ≡ [] = drop-of-length-le (take (all - better) (drop better am₁)) {i = length R} (omega (arith, lP, lR, all-count)) in
+            let e : drop (length R) (take (all - better) (drop better am₁))
+            ≡ [] = drop-of-length-le (take (all - better) (drop better am₁)) {i = length R} (omega (arith, lP, lR, all-count)) in
             j .memory ∙ sym (k .memory) ∙ ap (λ (l : List ℕ). parts D R ++ l) e ∙ append-nil (parts D R)
 
         ly : length ys ≡ all - better
@@ -293,14 +306,16 @@ module _ (m ps : List ℕ) (n c d margin v : ℕ) (s : Stand m ps n c (ordersAt 
 
         whole-am : take all (putMid better (all - better) am₁ ys) ≡ openAt m K ++ parts D R
         whole-am =
-            let l : length (take better am₁ ++ ys) ≡ all = length-append (take better am₁) ys ∙ omega (arith, ly, all-count, all-few, length-take-le better am₁ (omega (arith, all-few, all-count))) in
+            let l : length (take better am₁ ++ ys) ≡ all = length-append (take better am₁) ys
+            ∙ omega (arith, ly, all-count, all-few, length-take-le better am₁ (omega (arith, all-few, all-count))) in
             ap (take all) (sym (append-assoc (take better am₁) ys (postOf better (all - better) am₁)))
             ∙ take-at (take better am₁ ++ ys) (postOf better (all - better) am₁) all l
             ∙ ap₂ (λ (f g : List ℕ). f ++ g) (p .amounts) shares
 
         filling : Filling to₂ (putMid better (all - better) am₁ ys) n all
         filling =
-            let t : total (openAt m K ++ parts D R) ≡ v = total-join (openAt m K) (parts D R) ∙ (let o = a .over in omega (arith, better-sum, better-is, parts-sum D R (omega (arith, least, most)))) in
+            let t : total (openAt m K ++ parts D R) ≡ v = total-join (openAt m K) (parts D R)
+            ∙ (let o = a .over in omega (arith, better-sum, better-is, parts-sum D R (omega (arith, least, most)))) in
             record {
               few = all-few;
               places = roomTo;
@@ -309,7 +324,8 @@ module _ (m ps : List ℕ) (n c d margin v : ℕ) (s : Stand m ps n c (ordersAt 
               small = rw (whole-am, t) (let o = a .within in let k = a .small in omega arith);
             }
 
-        fills-are : fillsAt m to₂ (putMid better (all - better) am₁ ys) all ≡ fillsOf v (keep (chosen d margin) (ordersAt m (take c ps))) (keep (chosen 2 margin) (ordersAt m (take c ps)))
+        fills-are : fillsAt m to₂ (putMid better (all - better) am₁ ys) all
+            ≡ fillsOf v (keep (chosen d margin) (ordersAt m (take c ps))) (keep (chosen 2 margin) (ordersAt m (take c ps)))
         unfolding fillsAt fillsOf
         fills-are =
             let eD : D ≡ v - quantities (keep (chosen d margin) (ordersAt m (take c ps))) = ap (λ (y : ℕ). v - y) better-sum in
@@ -318,5 +334,6 @@ module _ (m ps : List ℕ) (n c d margin v : ℕ) (s : Stand m ps n c (ordersAt 
             ∙ rw (open-orders m K, open-orders m M, picked-orders m d margin (take c ps), picked-orders m 2 margin (take c ps), eD) refl)
 
         pub side-filled : (all ≤ c) × Filling to₂ (putMid better (all - better) am₁ ys) n all
-            × (fillsAt m to₂ (putMid better (all - better) am₁ ys) all ≡ fillsOf v (keep (chosen d margin) (ordersAt m (take c ps))) (keep (chosen 2 margin) (ordersAt m (take c ps))))
+            × (fillsAt m to₂ (putMid better (all - better) am₁ ys) all
+            ≡ fillsOf v (keep (chosen d margin) (ordersAt m (take c ps))) (keep (chosen 2 margin) (ordersAt m (take c ps))))
         side-filled = (all-within, filling, fills-are)

@@ -21,7 +21,18 @@ use Rattle.matching.proofs.laws.lists.EachLaws.{Each, each-all}
 use Rattle.matching.proofs.laws.orders.LaidLaws.{laid-quantities}
 use Rattle.matching.proofs.laws.orders.AheadLaws.{Strict, Ordered, Falling, Rising, bids-fall, asks-rise}
 use Rattle.matching.proofs.laws.clearing.VolumeLaws.{keep-some, keep-none, largest-below, traded}
-use Rattle.matching.proofs.laws.clearing.WalkLaws.{priceAt, quantityAt, Walking, walking-start, walking-takes, walking-next-bid, walking-next-ask, walking-bids-end, walking-asks-end, walking-apart}
+use Rattle.matching.proofs.laws.clearing.WalkLaws.{
+  priceAt,
+  quantityAt,
+  Walking,
+  walking-start,
+  walking-takes,
+  walking-next-bid,
+  walking-next-ask,
+  walking-bids-end,
+  walking-asks-end,
+  walking-apart,
+}
 use Rattle.matching.proofs.laws.laying.LayingLaws.{length-mapped}
 
 -- places of laid orders are places
@@ -93,7 +104,8 @@ pub record Meeting (m bs ks : List ℕ) (nb na i j rb ra v b s : ℕ) : Type 0 w
   pub asksIn : j ≤ na
   pub walking : Walking (ordersAt m (take nb bs)) (ordersAt m (take na ks)) i j rb ra v b s
 
-pub meeting-start : (m bs ks : List ℕ) (nb na rb ra : ℕ) → rb ≡ getD (ordersAt m (take nb bs)) 0 noOrder .quantity → ra ≡ getD (ordersAt m (take na ks)) 0 noOrder .quantity → Meeting m bs ks nb na 0 0 rb ra 0 0 0
+pub meeting-start : (m bs ks : List ℕ) (nb na rb ra : ℕ) → rb ≡ getD (ordersAt m (take nb bs)) 0 noOrder .quantity → ra
+    ≡ getD (ordersAt m (take na ks)) 0 noOrder .quantity → Meeting m bs ks nb na 0 0 rb ra 0 0 0
 meeting-start m bs ks nb na rb ra eb ea =
     record { bidsIn = omega arith; asksIn = omega arith; walking = rw (eb, ea) (walking-start (ordersAt m (take nb bs)) (ordersAt m (take na ks))) }
 
@@ -109,11 +121,21 @@ module _ (m bs ks : List ℕ) (n nb na i j rb ra v b s : ℕ) (sd : Sides m bs k
 
   pub meeting-bid : (q : ℕ) → i < nb → rb ≡ 0 → q ≡ getD bl (i + 1) noOrder .quantity → Meeting m bs ks nb na (i + 1) j q ra v b s
   meeting-bid q h e eq =
-      record { bidsIn = omega arith; asksIn = g .asksIn; walking = rw eq (walking-next-bid bl al i j rb ra v b s (g .walking) (omega (arith, so .manyBids)) e) }
+      record {
+        bidsIn = omega arith;
+        asksIn = g .asksIn;
+        walking = rw eq
+            (walking-next-bid bl al i j rb ra v b s (g .walking) (omega (arith, so .manyBids)) e);
+      }
 
   pub meeting-ask : (q : ℕ) → j < na → ra ≡ 0 → q ≡ getD al (j + 1) noOrder .quantity → Meeting m bs ks nb na i (j + 1) rb q v b s
   meeting-ask q h e eq =
-      record { bidsIn = g .bidsIn; asksIn = omega arith; walking = rw eq (walking-next-ask bl al i j rb ra v b s (g .walking) (omega (arith, so .manyAsks)) e) }
+      record {
+        bidsIn = g .bidsIn;
+        asksIn = omega arith;
+        walking = rw eq
+            (walking-next-ask bl al i j rb ra v b s (g .walking) (omega (arith, so .manyAsks)) e);
+      }
 
   pub meeting-small : v + rb ≤ mostEnergy
   meeting-small = let w = walking-small bl al i j rb ra v b s (g .walking) in omega (arith, so .small)
@@ -131,20 +153,23 @@ module _ (m bs ks : List ℕ) (n nb na i j rb ra v b s : ℕ) (sd : Sides m bs k
     ask-is : priceAt al j ≡ y .price
     ask-is = ap (λ (o : Order). o .price) (here-at m ks n na _ (sd .asksStand) j hj ∙ sym ey)
 
-    pub meeting-takes : (t : ℕ) → y .price ≤ x .price → t ≡ min rb ra → (rb ≡ 0 → ⊥) → (ra ≡ 0 → ⊥) → Meeting m bs ks nb na i j (rb - t) (ra - t) (v + t) (x .price) (y .price)
+    pub meeting-takes : (t : ℕ) → y .price ≤ x .price → t ≡ min rb ra → (rb ≡ 0 → ⊥) → (ra ≡ 0 → ⊥)
+        → Meeting m bs ks nb na i j (rb - t) (ra - t) (v + t) (x .price) (y .price)
     meeting-takes t le et nb0 na0 =
         record {
           bidsIn = g .bidsIn;
           asksIn = g .asksIn;
           walking =
               rw (← bid-is, ← ask-is)
-              (walking-takes bl al i j rb ra v b s (g .walking) (so .falls) (so .rises) (omega (arith, so .manyBids)) (omega (arith, so .manyAsks)) (omega (arith, bid-is, ask-is)) t et (omega arith));
+              (walking-takes bl al i j rb ra v b s (g .walking) (so .falls) (so .rises) (omega (arith, so .manyBids)) (omega (arith, so .manyAsks))
+              (omega (arith, bid-is, ask-is)) t et (omega arith));
         }
 
     pub meeting-apart : x .price < y .price → AreMargins bl al v b s
     meeting-apart lt =
         margins-found bl al i j rb ra v b s (g .walking)
-        (walking-apart bl al i j rb ra v b s (g .walking) (so .falls) (so .rises) (omega (arith, so .manyBids)) (omega (arith, so .manyAsks)) (omega (arith, bid-is, ask-is)))
+        (walking-apart bl al i j rb ra v b s (g .walking) (so .falls) (so .rises) (omega (arith, so .manyBids)) (omega (arith, so .manyAsks))
+        (omega (arith, bid-is, ask-is)))
 
 -- turns to come, at most
 abbrev pub turns : ℕ → ℕ → ℕ → ℕ → ℕ → ℕ → ℕ
@@ -171,7 +196,8 @@ unfolding marginal
 priced P v [] e pos le = absurd (omega arith)
 priced P v (o ∷ os) e pos le = go (decLe v (o .quantity)) (λ k l. priced P (v - o .quantity) os (e .1) k l)
   where
-    go : Dec (v ≤ o .quantity) → (0 < v - o .quantity → v - o .quantity ≤ quantities os → P (marginal (v - o .quantity) os)) → P (cond (leb v (o .quantity)) (o .price) (marginal (v - o .quantity) os))
+    go : Dec (v ≤ o .quantity) → (0 < v - o .quantity → v - o .quantity ≤ quantities os → P (marginal (v - o .quantity) os))
+        → P (cond (leb v (o .quantity)) (o .price) (marginal (v - o .quantity) os))
     go (yes h) ih = rw (le-leb v (o .quantity) h) (e .0)
     go (no h) ih = rw (lt-leb v (o .quantity) (omega arith)) (ih (omega arith) (omega arith))
 
@@ -183,41 +209,50 @@ module _ (better : ℕ → ℕ → Bool) (st : Strict better) where
   abbrev level : ℕ → List Order → ℕ
   level p os = quantities (keep (λ o. eqb (o .price) p) os)
 
-  first-holds : (v : ℕ) (o : Order) (os : List Order) → Each (λ x. better (x .price) (o .price) ≡ false) os → 0 < v → v ≤ o .quantity → (above (o .price) (o ∷ os) < v) × (v ≤ above (o .price) (o ∷ os) + level (o .price) (o ∷ os))
+  first-holds : (v : ℕ) (o : Order) (os : List Order) → Each (λ x. better (x .price) (o .price) ≡ false) os → 0 < v → v ≤ o .quantity
+      → (above (o .price) (o ∷ os) < v) × (v ≤ above (o .price) (o ∷ os) + level (o .price) (o ∷ os))
   first-holds v o os e pos le =
       let none : above (o .price) os ≡ 0 = keep-none (λ x. better (x .price) (o .price)) os e in
       rw (st .same (o .price), eq-eqb (o .price) (o .price) refl) (omega arith, omega arith)
 
-  later-holds : (p v : ℕ) (o : Order) (os : List Order) → better p (o .price) ≡ false → o .quantity < v → (above p os < v - o .quantity) × (v - o .quantity ≤ above p os + level p os) → (above p (o ∷ os) < v) × (v ≤ above p (o ∷ os) + level p (o ∷ os))
+  later-holds : (p v : ℕ) (o : Order) (os : List Order) → better p (o .price) ≡ false → o .quantity < v → (above p os < v - o .quantity)
+      × (v - o .quantity ≤ above p os + level p os) → (above p (o ∷ os) < v) × (v ≤ above p (o ∷ os) + level p (o ∷ os))
   later-holds p v o os w lt ih = go (better (o .price) p) refl (eqb (o .price) p) refl
     where
       go : (a : Bool) → better (o .price) p ≡ a → (b : Bool) → eqb (o .price) p ≡ b
           → (quantities (cond (better (o .price) p) (o ∷ keep (λ x. better (x .price) p) os) (keep (λ x. better (x .price) p) os)) < v)
-          × (v ≤ quantities (cond (better (o .price) p) (o ∷ keep (λ x. better (x .price) p) os) (keep (λ x. better (x .price) p) os)) + quantities (cond (eqb (o .price) p) (o ∷ keep (λ x. eqb (x .price) p) os) (keep (λ x. eqb (x .price) p) os)))
+          × (v ≤ quantities (cond (better (o .price) p) (o ∷ keep (λ x. better (x .price) p) os) (keep (λ x. better (x .price) p) os)) + quantities
+          (cond (eqb (o .price) p) (o ∷ keep (λ x. eqb (x .price) p) os) (keep (λ x. eqb (x .price) p) os)))
       go true ea true eb = rw (ea, eb) (omega arith, omega arith)
       go true ea false eb = rw (ea, eb) (omega arith, omega arith)
       go false ea true eb = rw (ea, eb) (omega arith, omega arith)
       go false ea false eb = absurd (eqb-false (o .price) p eb (st .total (o .price) p ea w))
 
-  margin-holds : (v : ℕ) (os : List Order) → Ordered better os → 0 < v → v ≤ quantities os → (above (marginal v os) os < v) × (v ≤ above (marginal v os) os + level (marginal v os) os)
+  margin-holds : (v : ℕ) (os : List Order) → Ordered better os → 0 < v → v ≤ quantities os → (above (marginal v os) os < v)
+      × (v ≤ above (marginal v os) os + level (marginal v os) os)
   unfolding marginal
   margin-holds v [] e pos le = absurd (omega arith)
   margin-holds v (o ∷ os) e pos le = go (decLe v (o .quantity)) (λ k l. margin-holds (v - o .quantity) os (e .1) k l)
     where
-      go : Dec (v ≤ o .quantity) → (0 < v - o .quantity → v - o .quantity ≤ quantities os → (above (marginal (v - o .quantity) os) os < v - o .quantity) × (v - o .quantity ≤ above (marginal (v - o .quantity) os) os + level (marginal (v - o .quantity) os) os))
-          → (above (cond (leb v (o .quantity)) (o .price) (marginal (v - o .quantity) os)) (o ∷ os) < v) × (v ≤ above (cond (leb v (o .quantity)) (o .price) (marginal (v - o .quantity) os)) (o ∷ os) + level (cond (leb v (o .quantity)) (o .price) (marginal (v - o .quantity) os)) (o ∷ os))
+      go : Dec (v ≤ o .quantity) → (0 < v - o .quantity → v - o .quantity ≤ quantities os → (above (marginal (v - o .quantity) os) os < v - o .quantity)
+          × (v - o .quantity ≤ above (marginal (v - o .quantity) os) os + level (marginal (v - o .quantity) os) os))
+          → (above (cond (leb v (o .quantity)) (o .price) (marginal (v - o .quantity) os)) (o ∷ os) < v)
+          × (v ≤ above (cond (leb v (o .quantity)) (o .price) (marginal (v - o .quantity) os)) (o
+          ∷ os) + level (cond (leb v (o .quantity)) (o .price) (marginal (v - o .quantity) os)) (o ∷ os))
       go (yes h) ih = rw (le-leb v (o .quantity) h) (first-holds v o os (e .0) pos h)
       go (no h) ih =
           let p = marginal (v - o .quantity) os in
           rw (lt-leb v (o .quantity) (omega arith))
-          (later-holds p v o os (priced (λ q. better q (o .price) ≡ false) (v - o .quantity) os (e .0) (omega arith) (omega arith)) (omega arith) (ih (omega arith) (omega arith)))
+          (later-holds p v o os (priced (λ q. better q (o .price) ≡ false) (v - o .quantity) os (e .0) (omega arith) (omega arith)) (omega arith)
+          (ih (omega arith) (omega arith)))
 
   margin-within : (p : ℕ) (os : List Order) → above p os + level p os ≤ quantities os
   margin-within p [] = omega arith
   margin-within p (o ∷ os) = go (better (o .price) p) refl (eqb (o .price) p) refl (margin-within p os)
     where
       go : (a : Bool) → better (o .price) p ≡ a → (b : Bool) → eqb (o .price) p ≡ b → above p os + level p os ≤ quantities os
-          → quantities (cond a (o ∷ keep (λ x. better (x .price) p) os) (keep (λ x. better (x .price) p) os)) + quantities (cond b (o ∷ keep (λ x. eqb (x .price) p) os) (keep (λ x. eqb (x .price) p) os)) ≤ o .quantity + quantities os
+          → quantities (cond a (o ∷ keep (λ x. better (x .price) p) os) (keep (λ x. better (x .price) p) os)) + quantities
+          (cond b (o ∷ keep (λ x. eqb (x .price) p) os) (keep (λ x. eqb (x .price) p) os)) ≤ o .quantity + quantities os
       go true ea true eb ih = both-ways (sym ea ∙ ap (λ (x : ℕ). better x p) (eqb-true (o .price) p eb) ∙ st .same p)
       go true ea false eb ih = omega arith
       go false ea true eb ih = omega arith
@@ -235,10 +270,12 @@ pub cleared-bids : (bl al : List Order) → clearedVolume bl al ≤ quantities b
 unfolding clearedVolume
 cleared-bids bl al =
     largest-below (λ o. tradedAt bl al (o .price)) (bl ++ al) (quantities bl)
-    (each-all (λ o. tradedAt bl al (o .price) ≤ quantities bl) (bl ++ al) (λ o. omega (arith, traded bl al (o .price), keep-some (λ x. leb (o .price) (x .price)) bl)))
+    (each-all (λ o. tradedAt bl al (o .price) ≤ quantities bl) (bl
+    ++ al) (λ o. omega (arith, traded bl al (o .price), keep-some (λ x. leb (o .price) (x .price)) bl)))
 
 pub cleared-asks : (bl al : List Order) → clearedVolume bl al ≤ quantities al
 unfolding clearedVolume
 cleared-asks bl al =
     largest-below (λ o. tradedAt bl al (o .price)) (bl ++ al) (quantities al)
-    (each-all (λ o. tradedAt bl al (o .price) ≤ quantities al) (bl ++ al) (λ o. omega (arith, traded bl al (o .price), keep-some (λ x. leb (x .price) (o .price)) al)))
+    (each-all (λ o. tradedAt bl al (o .price) ≤ quantities al) (bl
+    ++ al) (λ o. omega (arith, traded bl al (o .price), keep-some (λ x. leb (x .price) (o .price)) al)))

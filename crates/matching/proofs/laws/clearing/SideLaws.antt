@@ -11,12 +11,37 @@ use Rattle.measures.specs.Sharing.{parts}
 use Rattle.measures.proofs.ListLaws.{both-ways, and-true}
 use Rattle.matching.specs.Orders.{Order, quantities, laid, leaving}
 use Rattle.matching.specs.Clearing.{Fill, filled, fillsOf, afterFills}
-use Rattle.matching.proofs.laws.lists.EachLaws.{Each, Has, Pairs, each-map, each-both, each-append, each-keep, kept, keep-sum, keep-all, keep-keep, pairs-keep, pairs-append}
+use Rattle.matching.proofs.laws.lists.EachLaws.{
+  Each,
+  Has,
+  Pairs,
+  each-map,
+  each-both,
+  each-append,
+  each-keep,
+  kept,
+  keep-sum,
+  keep-all,
+  keep-keep,
+  pairs-keep,
+  pairs-append,
+}
 use Rattle.matching.proofs.laws.lists.SumLaws.{sumOf-has}
 use Rattle.matching.proofs.laws.orders.LaidLaws.{laid-each, laid-keep-quantities}
 use Rattle.matching.proofs.laws.orders.AheadLaws.{Strict}
 use Rattle.matching.proofs.laws.clearing.MarginLaws.{Margin, betterThan, atPrice}
-use Rattle.matching.proofs.laws.clearing.FillLaws.{amounts, Fits, filled-each, filled-pairs, sideFills, side-sum, side-fits, side-each, side-prices, side-better}
+use Rattle.matching.proofs.laws.clearing.FillLaws.{
+  amounts,
+  Fits,
+  filled-each,
+  filled-pairs,
+  sideFills,
+  side-sum,
+  side-fits,
+  side-each,
+  side-prices,
+  side-better,
+}
 use Rattle.matching.proofs.laws.orders.LessenLaws.{Numbered, same-number, openUnder}
 use Rattle.matching.proofs.laws.orders.AfterLaws.{Due, after-open}
 
@@ -44,9 +69,11 @@ both-due fs hs os d e a =
     }
 
 -- of the laid orders of a kind, what passes a test of prices
-pub kind-quantities : (kind : Order → Bool) (ahead : Order → Order → Bool) (os : List Order) (h : ℕ → Bool) → quantities (keep (λ o. kind o && h (o .price)) os) ≡ quantities (keep (λ o. h (o .price)) (laid ahead (keep kind os)))
+pub kind-quantities : (kind : Order → Bool) (ahead : Order → Order → Bool) (os : List Order) (h : ℕ → Bool)
+    → quantities (keep (λ o. kind o && h (o .price)) os) ≡ quantities (keep (λ o. h (o .price)) (laid ahead (keep kind os)))
 kind-quantities kind ahead os h =
-    ap (λ (l : List Order). quantities l) (sym (keep-keep (λ o. h (o .price)) kind os)) ∙ sym (laid-keep-quantities ahead (λ o. h (o .price)) (keep kind os))
+    ap (λ (l : List Order). quantities l) (sym (keep-keep (λ o. h (o .price)) kind os))
+    ∙ sym (laid-keep-quantities ahead (λ o. h (o .price)) (keep kind os))
 
 -- one that passes a test has no more than all that pass
 pub one-of : (t : Order → Bool) (os : List Order) (a : Order) → Has a os → t a ≡ true → a .quantity ≤ quantities (keep t os)
@@ -86,9 +113,11 @@ module _ (better : ℕ → ℕ → Bool) (st : Strict better) (v m : ℕ) where
           both-ways (sym t ∙ st .same m)
 
   -- one side of all fills fs: its orders are those of a kind, laid
-  module _ (kind : Order → Bool) (still : (o : Order) (q : ℕ) → kind (leaving o q) ≡ kind o) (ahead : Order → Order → Bool) (os : List Order) (fs : List Fill)
+  module _ (kind : Order → Bool) (still : (o : Order) (q : ℕ) → kind (leaving o q) ≡ kind o) (ahead : Order → Order
+      → Bool) (os : List Order) (fs : List Fill)
       (g : Margin better v m (laid ahead (keep kind os))) (n : Numbered os) (d : Due fs os)
-      (more : (t : Order → Bool) → amounts (keep (λ f. t (f .order)) (sideFills better v m (laid ahead (keep kind os)))) ≤ amounts (keep (λ f. t (f .order)) fs)) where
+      (more : (t : Order → Bool) → amounts (keep (λ f. t (f .order)) (sideFills better v m (laid ahead (keep kind os))))
+      ≤ amounts (keep (λ f. t (f .order)) fs)) where
     abbrev side : List Order
     side = laid ahead (keep kind os)
 
@@ -104,7 +133,8 @@ module _ (better : ℕ → ℕ → Bool) (st : Strict better) (v m : ℕ) where
       still-test o q = ap (λ (b : Bool). b && h (o .price)) (still o q)
 
       -- one that is left is part of what was there and is not filled
-      left : (a : Order) → Has a (afterFills fs os) → kind a ≡ true → h (a .price) ≡ true → a .quantity + amounts (keep (λ f. test (f .order)) (sideFills better v m side)) ≤ quantities (keep (λ o. h (o .price)) side)
+      left : (a : Order) → Has a (afterFills fs os) → kind a ≡ true → h (a .price) ≡ true
+          → a .quantity + amounts (keep (λ f. test (f .order)) (sideFills better v m side)) ≤ quantities (keep (λ o. h (o .price)) side)
       left a s k p =
           let o = after-open test still-test fs os n d in
           let b = kind-quantities kind ahead os h in
@@ -119,19 +149,22 @@ module _ (better : ℕ → ℕ → Bool) (st : Strict better) (v m : ℕ) where
         go : (b : Bool) → better (a .price) m ≡ b → b ≡ false
         go true e =
             let x = left (λ p. better p m) a s k e in
-            let y = side-better better v m side (test (λ p. better p m)) (each-map (λ o. kind o ≡ true) (λ o. better (o .price) m ≡ true → test (λ p. better p m) o ≡ true) side (λ o c f. and-true (kind o) (better (o .price) m) c f) side-kind) in
+            let y = side-better better v m side (test (λ p. better p m)) (each-map (λ o. kind o ≡ true) (λ o. better (o .price) m ≡ true
+            → test (λ p. better p m) o ≡ true) side (λ o c f. and-true (kind o) (better (o .price) m) c f) side-kind) in
             absurd (omega arith)
         go false e = refl
 
     -- with one that is left, the side has more than the volume
-    pub left-over : (h : ℕ → Bool) → ((p : ℕ) → better p m ≡ true → h p ≡ true) → h m ≡ true → (a : Order) → Has a (afterFills fs os) → kind a ≡ true → 0 < a .quantity → h (a .price) ≡ true
+    pub left-over : (h : ℕ → Bool) → ((p : ℕ) → better p m ≡ true → h p ≡ true) → h m ≡ true → (a : Order) → Has a (afterFills fs os) → kind a ≡ true → 0
+        < a .quantity → h (a .price) ≡ true
         → v < quantities (keep (λ o. h (o .price)) side)
     left-over h up at a s k pos p =
         let x = left h a s k p in
         let T : Fill → Bool = λ f. test h (f .order) in
         let all : keep T (sideFills better v m side) ≡ sideFills better v m side =
         keep-all T (sideFills better v m side)
-        (each-both (λ f. kind (f .order) ≡ true) (λ f. h (f .order .price) ≡ true) (λ f. test h (f .order) ≡ true) (sideFills better v m side) (λ f c e. and-true (kind (f .order)) (h (f .order .price)) c e)
+        (each-both (λ f. kind (f .order) ≡ true) (λ f. h (f .order .price) ≡ true) (λ f. test h (f .order)
+        ≡ true) (sideFills better v m side) (λ f c e. and-true (kind (f .order)) (h (f .order .price)) c e)
         (side-each better v m side (λ o. kind o ≡ true) side-kind)
         (side-prices better v m side (λ q. h q ≡ true) up (λ q e. ap h (eqb-true _ _ e) ∙ at))) in
         let y : amounts (keep T (sideFills better v m side)) ≡ amounts (sideFills better v m side) = ap amounts all in

@@ -14,7 +14,20 @@ use Rattle.measures.proofs.ListLaws.{cond-true, cond-false, both-ways, and-left
 use Rattle.matching.specs.declared.orders.Matched.the-variants.{Unfit, Done}
 use Rattle.matching.specs.Orders.{Order, quantities, bidAhead, askAhead, laid, bids, asks}
 use Rattle.matching.specs.Memory.{ordersIn, written}
-use Rattle.matching.specs.Clearing.{Fill, clearedVolume, marginal, clearingPrice, fillsOf, bidFills, askFills, endToEnd, overlapRows, afterFills, Cleared, clearPeriod}
+use Rattle.matching.specs.Clearing.{
+  Fill,
+  clearedVolume,
+  marginal,
+  clearingPrice,
+  fillsOf,
+  bidFills,
+  askFills,
+  endToEnd,
+  overlapRows,
+  afterFills,
+  Cleared,
+  clearPeriod,
+}
 use Rattle.matching.specs.Answers.{fit, Clears}
 use Rattle.matching.specs.inner.Places.{ordersAt, aheadOn, belongs, chosen, Stand, AreMargins, AtMargin}
 use Rattle.matching.proofs.laws.orders.OrderLaws.{orders-length}
@@ -41,13 +54,19 @@ clears-unfit m rows n period e =
     }
 
 -- the definition, where nothing trades and where something does
-none-trades : (period : ℕ) (os : List Order) → clearedVolume (bids period os) (asks period os) ≡ 0 → clearPeriod period os ≡ record { rows = []; orders = os }
+none-trades : (period : ℕ) (os : List Order) → clearedVolume (bids period os) (asks period os) ≡ 0 → clearPeriod period os
+    ≡ record { rows = []; orders = os }
 unfolding clearPeriod
 none-trades period os e = cond-true _ _ _ (eq-eqb _ 0 e) refl
 
-some-trades : (period : ℕ) (os : List Order) (v b s : ℕ) (fb fa : List Fill) → v ≡ clearedVolume (bids period os) (asks period os) → 0 < v → b ≡ marginal v (bids period os) → s ≡ marginal v (asks period os)
+some-trades : (period : ℕ) (os : List Order) (v b s : ℕ) (fb fa : List Fill) → v ≡ clearedVolume (bids period os) (asks period os) → 0 < v → b
+    ≡ marginal v (bids period os) → s ≡ marginal v (asks period os)
     → fb ≡ bidFills v b (bids period os) → fa ≡ askFills v s (asks period os)
-    → clearPeriod period os ≡ record { rows = overlapRows period (clearingPrice b s) (endToEnd 0 fb) (endToEnd 0 fa); orders = afterFills fa (afterFills fb os) }
+    → clearPeriod period os ≡ record {
+      rows = overlapRows period (clearingPrice b s) (endToEnd 0 fb) (endToEnd 0 fa);
+      orders = afterFills fa
+          (afterFills fb os);
+    }
 unfolding clearPeriod
 some-trades period os v b s fb fa ev pos eb es efb efa =
     let n : (clearedVolume (bids period os) (asks period os) ≡ 0 → ⊥) = λ z. (let y : v ≡ 0 = ev ∙ z in omega arith) in
@@ -55,12 +74,14 @@ some-trades period os v b s fb fa ev pos eb es efb efa =
 
 pub clears-none : (m rows : List ℕ) (n period v b s : ℕ) (bs ks : List ℕ) (nb na : ℕ) (z : Energy)
     → fit m n rows ≡ true → z .0 ≡ 0
-    → Stand m bs n nb (laid (aheadOn 1) (keep (belongs 1 period) (ordersIn m n))) → Stand m ks n na (laid (aheadOn 0) (keep (belongs 0 period) (ordersIn m n)))
+    → Stand m bs n nb (laid (aheadOn 1) (keep (belongs 1 period) (ordersIn m n)))
+    → Stand m ks n na (laid (aheadOn 0) (keep (belongs 0 period) (ordersIn m n)))
     → AreMargins (ordersAt m (take nb bs)) (ordersAt m (take na ks)) v b s → v ≡ 0
     → Clears m rows n period (Done z 0 n) m rows
 unfolding aheadOn
 clears-none m rows n period v b s bs ks nb na z e ez sb sa g ev =
-    let c : clearedVolume (bids period (ordersIn m n)) (asks period (ordersIn m n)) ≡ 0 = ap₂ clearedVolume (sym (sb .orders)) (sym (sa .orders)) ∙ sym (g .cleared) ∙ ev in
+    let c : clearedVolume (bids period (ordersIn m n)) (asks period (ordersIn m n)) ≡ 0 = ap₂ clearedVolume (sym (sb .orders)) (sym (sa .orders))
+    ∙ sym (g .cleared) ∙ ev in
     let k = none-trades period (ordersIn m n) c in
     record {
       fits = sym e;
@@ -73,7 +94,8 @@ clears-none m rows n period v b s bs ks nb na z e ez sb sa g ev =
     }
 
 -- both sides together are no more than the orders
-pub sides-few : (m bs ks : List ℕ) (n period nb na : ℕ) → Stand m bs n nb (laid (aheadOn 1) (keep (belongs 1 period) (ordersIn m n))) → Stand m ks n na (laid (aheadOn 0) (keep (belongs 0 period) (ordersIn m n))) → nb + na ≤ n
+pub sides-few : (m bs ks : List ℕ) (n period nb na : ℕ) → Stand m bs n nb (laid (aheadOn 1) (keep (belongs 1 period) (ordersIn m n)))
+    → Stand m ks n na (laid (aheadOn 0) (keep (belongs 0 period) (ordersIn m n))) → nb + na ≤ n
 sides-few m bs ks n period nb na sb sa =
     let a = stand-length m bs n nb _ sb in
     let lb = laid-length (aheadOn 1) (keep (belongs 1 period) (ordersIn m n)) in
@@ -90,7 +112,8 @@ sides-few m bs ks n period nb na sb sa =
 
 -- the volume lies at the margin of each side
 module _ (m rows bs ks : List ℕ) (n period nb na v b s : ℕ) (e : fit m n rows ≡ true) (pos : 0 < v)
-    (sb : Stand m bs n nb (laid (aheadOn 1) (keep (belongs 1 period) (ordersIn m n)))) (sa : Stand m ks n na (laid (aheadOn 0) (keep (belongs 0 period) (ordersIn m n))))
+    (sb : Stand m bs n nb (laid (aheadOn 1) (keep (belongs 1 period) (ordersIn m n))))
+    (sa : Stand m ks n na (laid (aheadOn 0) (keep (belongs 0 period) (ordersIn m n))))
     (g : AreMargins (ordersAt m (take nb bs)) (ordersAt m (take na ks)) v b s) where
   bids-are : ordersAt m (take nb bs) ≡ bids period (ordersIn m n)
   unfolding aheadOn
@@ -120,13 +143,15 @@ module _ (m rows bs ks : List ℕ) (n period nb na v b s : ℕ) (e : fit m n row
   unfolding chosen
   bids-at-margin =
       let w = cleared-bids (bids period (ordersIn m n)) (asks period (ordersIn m n)) in
-      rw (g .ofBids pos, bids-are) (at-margin dearer dearer-strict v (bids period (ordersIn m n)) (bids-ordered period (ordersIn m n)) pos (omega (arith, volume-is)) bids-small)
+      rw (g .ofBids pos, bids-are) (at-margin dearer dearer-strict v (bids period (ordersIn m n)) (bids-ordered period (ordersIn m n)) pos
+      (omega (arith, volume-is)) bids-small)
 
   pub asks-at-margin : AtMargin v (keep (chosen 0 s) (ordersAt m (take na ks))) (keep (chosen 2 s) (ordersAt m (take na ks)))
   unfolding chosen
   asks-at-margin =
       let w = cleared-asks (bids period (ordersIn m n)) (asks period (ordersIn m n)) in
-      rw (g .ofAsks pos, asks-are) (at-margin cheaper cheaper-strict v (asks period (ordersIn m n)) (asks-ordered period (ordersIn m n)) pos (omega (arith, volume-is)) asks-small)
+      rw (g .ofAsks pos, asks-are) (at-margin cheaper cheaper-strict v (asks period (ordersIn m n)) (asks-ordered period (ordersIn m n)) pos
+      (omega (arith, volume-is)) asks-small)
 
   pub clears-some : (fb fa : List Fill) (p count standing : ℕ) (z : Energy) (m′ rows′ : List ℕ) → z .0 ≡ 0 → p ≡ clearingPrice b s
       → fb ≡ fillsOf v (keep (chosen 1 b) (ordersAt m (take nb bs))) (keep (chosen 2 b) (ordersAt m (take nb bs)))
@@ -136,7 +161,8 @@ module _ (m rows bs ks : List ℕ) (n period nb na v b s : ℕ) (e : fit m n row
       → Clears m rows n period (Done z count standing) m′ rows′
   unfolding chosen
   clears-some fb fa p count standing z m′ rows′ ez ep efb efa er ec eo past =
-      let k = some-trades period (ordersIn m n) v b s fb fa volume-is pos (g .ofBids pos ∙ ap (marginal v) bids-are) (g .ofAsks pos ∙ ap (marginal v) asks-are)
+      let k = some-trades period (ordersIn m n) v b s fb fa volume-is pos (g .ofBids pos ∙ ap (marginal v) bids-are) (g .ofAsks pos
+      ∙ ap (marginal v) asks-are)
       (rw bids-are at efb) (rw asks-are at efa) in
       record {
         fits = sym e;
@@ -144,6 +170,7 @@ module _ (m rows bs ks : List ℕ) (n period nb na v b s : ℕ) (e : fit m n row
         left = λ _. ez;
         count = λ _. ec ∙ ap (λ (x : ℕ). length (overlapRows period x (endToEnd 0 fb) (endToEnd 0 fa))) ep ∙ ap (λ (x : Cleared). length (x .rows)) (sym k);
         orders = λ _. eo ∙ ap (λ (x : Cleared). x .orders) (sym k);
-        handed = λ _. er ∙ ap (λ (x : ℕ). written rows (overlapRows period x (endToEnd 0 fb) (endToEnd 0 fa))) ep ∙ ap (λ (x : Cleared). written rows (x .rows)) (sym k);
+        handed = λ _. er ∙ ap (λ (x : ℕ). written rows (overlapRows period x (endToEnd 0 fb) (endToEnd 0 fa))) ep
+            ∙ ap (λ (x : Cleared). written rows (x .rows)) (sym k);
         past = past;
       }

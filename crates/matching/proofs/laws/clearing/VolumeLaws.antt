@@ -30,7 +30,8 @@ pub keep-more : (f g : Order → Bool) (os : List Order) → Each (λ o. f o ≡
 keep-more f g [] e = omega arith
 keep-more f g (o ∷ os) e = go (f o) (g o) (e .0) (keep-more f g os (e .1))
   where
-    go : (s t : Bool) → (s ≡ true → t ≡ true) → quantities (keep f os) ≤ quantities (keep g os) → quantities (cond s (o ∷ keep f os) (keep f os)) ≤ quantities (cond t (o ∷ keep g os) (keep g os))
+    go : (s t : Bool) → (s ≡ true → t ≡ true) → quantities (keep f os) ≤ quantities (keep g os) → quantities (cond s (o ∷ keep f os) (keep f os))
+        ≤ quantities (cond t (o ∷ keep g os) (keep g os))
     go true true h ih = omega arith
     go true false h ih = both-ways (sym (h refl))
     go false true h ih = omega arith
@@ -90,7 +91,16 @@ next p (x ∷ xs) = go (next p xs) (decLt (x .price) p)
   where
     lower : (n : Next p xs) → p ≤ x .price → Dec (x .price < n .order .price) → Next p (x ∷ xs)
     lower n h (yes l) =
-        record { order = x; stands = inl refl; above = h; least = (λ _. omega arith, each-map (λ o. p ≤ o .price → n .order .price ≤ o .price) (λ o. p ≤ o .price → x .price ≤ o .price) xs (λ o k g. let w = k g in omega arith) (n .least)) }
+        record {
+          order = x;
+          stands = inl refl;
+          above = h;
+          least = (
+            λ _. omega arith,
+            each-map (λ o. p ≤ o .price → n .order .price ≤ o .price) (λ o. p
+                ≤ o .price → x .price ≤ o .price) xs (λ o k g. let w = k g in omega arith) (n .least),
+          );
+        }
     lower n h (no l) = record { order = n .order; stands = inr (n .stands); above = n .above; least = (λ _. omega arith, n .least) }
 
     go : Next p xs ⊎ Each (λ o. o .price < p) xs → Dec (x .price < p) → Next p (x ∷ xs) ⊎ Each (λ o. o .price < p) (x ∷ xs)
@@ -98,7 +108,16 @@ next p (x ∷ xs) = go (next p xs) (decLt (x .price) p)
     go (inl n) (no l) = inl (lower n (omega arith) (decLt (x .price) (n .order .price)))
     go (inr e) (yes l) = inr (l, e)
     go (inr e) (no l) =
-        inl (record { order = x; stands = inl refl; above = omega arith; least = (λ _. omega arith, each-map (λ o. o .price < p) (λ o. p ≤ o .price → x .price ≤ o .price) xs (λ o k g. absurd (omega arith)) e) })
+        inl (record {
+          order = x;
+          stands = inl refl;
+          above = omega arith;
+          least = (
+            λ _. omega arith,
+            each-map (λ o. o .price < p) (λ o. p ≤ o .price
+                → x .price ≤ o .price) xs (λ o k g. absurd (omega arith)) e,
+          );
+        })
 
 -- "Volume V is the largest, over all prices p": prices that no order has included
 pub no-price-trades-more : (bl al : List Order) (p : ℕ) → tradedAt bl al p ≤ clearedVolume bl al
@@ -111,12 +130,14 @@ no-price-trades-more bl al p = go (next p bl)
         let a = n .above in
         let d : demand bl p ≤ demand bl q =
         keep-more (λ o. leb p (o .price)) (λ o. leb q (o .price)) bl
-        (each-map (λ o. p ≤ o .price → q ≤ o .price) (λ o. leb p (o .price) ≡ true → leb q (o .price) ≡ true) bl (λ o k e. le-leb _ _ (k (leb-true _ _ e))) (n .least)) in
+        (each-map (λ o. p ≤ o .price → q ≤ o .price) (λ o. leb p (o .price) ≡ true → leb q (o .price)
+        ≡ true) bl (λ o k e. le-leb _ _ (k (leb-true _ _ e))) (n .least)) in
         let s : supply al p ≤ supply al q =
         keep-more (λ o. leb (o .price) p) (λ o. leb (o .price) q) al
         (each-all (λ o. leb (o .price) p ≡ true → leb (o .price) q ≡ true) al (λ o e. le-leb (o .price) q (omega (arith, leb-true (o .price) p e)))) in
         let m = largest-at (λ o. tradedAt bl al (o .price)) (bl ++ al) (n .order) (append-has bl al (n .order) (n .stands)) in
         omega (arith, traded bl al p, traded bl al q)
     go (inr e) =
-        let d : demand bl p ≡ 0 = keep-none (λ o. leb p (o .price)) bl (each-map (λ o. o .price < p) (λ o. leb p (o .price) ≡ false) bl (λ o h. lt-leb _ _ h) e) in
+        let d : demand bl p ≡ 0 = keep-none (λ o. leb p (o .price)) bl (each-map (λ o. o .price < p) (λ o. leb p (o .price)
+        ≡ false) bl (λ o h. lt-leb _ _ h) e) in
         omega (arith, traded bl al p)

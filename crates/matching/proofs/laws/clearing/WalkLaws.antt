@@ -53,7 +53,8 @@ kept-taken f [] (suc i) e = omega arith
 kept-taken f (o ∷ os) zero e = let ih = kept-taken f os zero (e .1) in rw (e .0) ih
 kept-taken f (o ∷ os) (suc i) e = go (f o) (kept-taken f os i e)
   where
-    go : (b : Bool) → quantities (keep f os) ≤ quantities (take i os) → quantities (cond b (o ∷ keep f os) (keep f os)) ≤ o .quantity + quantities (take i os)
+    go : (b : Bool) → quantities (keep f os) ≤ quantities (take i os) → quantities (cond b (o ∷ keep f os) (keep f os))
+        ≤ o .quantity + quantities (take i os)
     go true ih = omega arith
     go false ih = omega arith
 
@@ -104,7 +105,8 @@ supply-upto al j rise h =
 
 module _ (bl al : List Order) (i j x y v b s : ℕ) (w : Walk bl al i j x y v b s) where
   -- t more of bid i and of ask j, whose prices meet
-  pub walk-takes : (t : ℕ) → Falling bl → Rising al → i < length bl → j < length al → priceAt al j ≤ priceAt bl i → x + t ≤ quantityAt bl i → y + t ≤ quantityAt al j → 0 < t
+  pub walk-takes : (t : ℕ) → Falling bl → Rising al → i < length bl → j < length al → priceAt al j ≤ priceAt bl i → x + t ≤ quantityAt bl i → y + t
+      ≤ quantityAt al j → 0 < t
       → Walk bl al i j (x + t) (y + t) (v + t) (priceAt bl i) (priceAt al j)
   walk-takes t fall rise hi hj meet hx hy pos =
       let ev = w .bought in

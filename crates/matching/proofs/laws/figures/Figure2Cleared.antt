@@ -16,5 +16,6 @@ use lib.ListN.{length}
 pub figure2-cleared : (m rows : List ℕ) (a : Matched) (m′ rows′ : List ℕ) → ordersIn m 4 ≡ orders2 → fit m 4 rows ≡ true → Clears m rows 4 0 a m′ rows′
     → (answerOf a .count ≡ 2) × (rows′ ≡ written rows (aRow 3 3 1 10 475 ∷ aRow 3 4 2 4 475 ∷ []))
 figure2-cleared m rows a m′ rows′ o e c =
-    let r : clearPeriod 0 (ordersIn m 4) .rows ≡ aRow 3 3 1 10 475 ∷ aRow 3 4 2 4 475 ∷ [] = ap (λ (os : List Order). clearPeriod 0 os .rows) o ∙ figure2-holds .1 in
+    let r : clearPeriod 0 (ordersIn m 4) .rows ≡ aRow 3 3 1 10 475 ∷ aRow 3 4 2 4 475 ∷ [] = ap (λ (os : List Order). clearPeriod 0 os .rows) o
+    ∙ figure2-holds .1 in
     (c .count e ∙ ap (λ (rs : List Row). length rs) r, c .handed e ∙ ap (written rows) r)

@@ -24,6 +24,7 @@ module _ (m rows : List ℕ) (n period : ℕ)
       → (rows′ ≡ written rows (clearPeriod period (ordersIn m n) .rows)) × Each (λ r. r .price ≡ 476) (clearPeriod period (ordersIn m n) .rows)
   figure3-cleared a m′ rows′ e c = (
     c .handed e,
-    each-map (λ r. (r .way ≡ 3) × (r .period ≡ period) × (r .price ≡ priceOf period (ordersIn m n))) (λ r. r .price ≡ 476) (clearPeriod period (ordersIn m n) .rows)
+    each-map (λ r. (r .way ≡ 3) × (r .period ≡ period) × (r .price ≡ priceOf period (ordersIn m n))) (λ r. r .price
+        ≡ 476) (clearPeriod period (ordersIn m n) .rows)
         (λ r h. h .2 ∙ price) (rows-at-price period (ordersIn m n)),
   )

@@ -3,11 +3,24 @@ use mathlib.Core.Path.{refl}
 use Rattle.measures.specs.Sharing.{parts}
 use Rattle.matching.specs.Orders.{lessen, bidAhead, askAhead, insert, laid}
 use Rattle.matching.specs.Rolling.{candidate, counterparts, matches, matchRow, afterMatches, meet}
-use Rattle.matching.specs.Clearing.{tradedAt, largest, clearedVolume, marginal, filled, fillsOf, endToEnd, rowsOfBid, overlapRows, afterFills, clearPeriod}
+use Rattle.matching.specs.Clearing.{
+  tradedAt,
+  largest,
+  clearedVolume,
+  marginal,
+  filled,
+  fillsOf,
+  endToEnd,
+  rowsOfBid,
+  overlapRows,
+  afterFills,
+  clearPeriod,
+}
 use Rattle.matching.specs.Figures.{Figure2, Figure3, Figure4}
 
 pub figure2-holds : Figure2
-unfolding parts lessen bidAhead askAhead insert laid tradedAt largest clearedVolume marginal filled fillsOf endToEnd rowsOfBid overlapRows afterFills clearPeriod
+unfolding parts lessen bidAhead askAhead insert laid tradedAt largest clearedVolume marginal filled fillsOf endToEnd rowsOfBid overlapRows afterFills
+    clearPeriod
 figure2-holds = (refl, refl)
 
 pub figure3-holds : Figure3

@@ -113,7 +113,8 @@ module _ {A : Type 0} where
   keep-sum f g [] = refl
   keep-sum f g (x ∷ xs) = go (g x) (keep-sum f g xs)
     where
-      go : (b : Bool) → sumOf f (keep g xs) ≡ sumOf (λ y. cond (g y) (f y) 0) xs → sumOf f (cond b (x ∷ keep g xs) (keep g xs)) ≡ cond b (f x) 0 + sumOf (λ y. cond (g y) (f y) 0) xs
+      go : (b : Bool) → sumOf f (keep g xs) ≡ sumOf (λ y. cond (g y) (f y) 0) xs → sumOf f (cond b (x ∷ keep g xs) (keep g xs))
+          ≡ cond b (f x) 0 + sumOf (λ y. cond (g y) (f y) 0) xs
       go true ih = omega arith
       go false ih = omega arith
 
@@ -133,6 +134,7 @@ module _ {A : Type 0} where
   keep-keep f g [] = refl
   keep-keep f g (x ∷ xs) = go (g x) (keep-keep f g xs)
     where
-      go : (b : Bool) → keep f (keep g xs) ≡ keep (λ y. g y && f y) xs → keep f (cond b (x ∷ keep g xs) (keep g xs)) ≡ cond (b && f x) (x ∷ keep (λ y. g y && f y) xs) (keep (λ y. g y && f y) xs)
+      go : (b : Bool) → keep f (keep g xs) ≡ keep (λ y. g y && f y) xs → keep f (cond b (x ∷ keep g xs) (keep g xs))
+          ≡ cond (b && f x) (x ∷ keep (λ y. g y && f y) xs) (keep (λ y. g y && f y) xs)
       go true ih = ap (λ (l : List A). cond (f x) (x ∷ l) l) ih
       go false ih = ih

@@ -95,7 +95,8 @@ module _ (better : ℕ → ℕ → Bool) (st : Strict better) where
   is-ahead a b (inl h) = rw h
   is-ahead a b (inr h) = go (better (a .price) (b .price)) (eq-eqb _ _ (h .0)) (lt-ltb _ _ (h .1))
     where
-      go : (t : Bool) → eqb (a .price) (b .price) ≡ true → ltb (a .number) (b .number) ≡ true → (t || (eqb (a .price) (b .price) && ltb (a .number) (b .number))) ≡ true
+      go : (t : Bool) → eqb (a .price) (b .price) ≡ true → ltb (a .number) (b .number) ≡ true
+          → (t || (eqb (a .price) (b .price) && ltb (a .number) (b .number))) ≡ true
       go true e f = refl
       go false e f = rw (e, f)
 
@@ -244,8 +245,10 @@ Rising os = Pairs (λ a b. a .price ≤ b .price) os
 
 pub bids-fall : (period : ℕ) (os : List Order) → Falling (bids period os)
 bids-fall period os =
-    pairs-map (λ a b. dearer (b .price) (a .price) ≡ false) (λ a b. b .price ≤ a .price) (bids period os) (λ a b e. ltb-false _ _ e) (bids-ordered period os)
+    pairs-map (λ a b. dearer (b .price) (a .price) ≡ false) (λ a b. b .price
+    ≤ a .price) (bids period os) (λ a b e. ltb-false _ _ e) (bids-ordered period os)
 
 pub asks-rise : (period : ℕ) (os : List Order) → Rising (asks period os)
 asks-rise period os =
-    pairs-map (λ a b. cheaper (b .price) (a .price) ≡ false) (λ a b. a .price ≤ b .price) (asks period os) (λ a b e. ltb-false _ _ e) (asks-ordered period os)
+    pairs-map (λ a b. cheaper (b .price) (a .price) ≡ false) (λ a b. a .price
+    ≤ b .price) (asks period os) (λ a b e. ltb-false _ _ e) (asks-ordered period os)

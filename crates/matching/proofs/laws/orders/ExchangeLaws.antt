@@ -44,8 +44,20 @@ exchanged-none os = record { sold = λ u p. omega arith; bought = λ u p. omega 
 pub exchanged-append : (os os′ os″ : List Order) (rs ts : List Row) → Exchanged os os′ rs → Exchanged os′ os″ ts → Exchanged os os″ (rs ++ ts)
 exchanged-append os os′ os″ rs ts x y =
     record {
-      sold = λ u p. omega (arith, x .sold u p, y .sold u p, sumOf-append (λ (r : Row). cond (eqb (r .seller) u && eqb (r .period) p) (r .quantity) 0) rs ts);
-      bought = λ u p. omega (arith, x .bought u p, y .bought u p, sumOf-append (λ (r : Row). cond (eqb (r .buyer) u && eqb (r .period) p) (r .quantity) 0) rs ts);
+      sold = λ u p. omega (
+        arith,
+        x .sold u p,
+        y .sold u p,
+        sumOf-append (λ (r : Row). cond (eqb (r .seller) u && eqb (r .period) p) (r .quantity) 0) rs
+            ts,
+      );
+      bought = λ u p. omega (
+        arith,
+        x .bought u p,
+        y .bought u p,
+        sumOf-append (λ (r : Row). cond (eqb (r .buyer) u && eqb (r .period) p) (r .quantity) 0)
+            rs ts,
+      );
     }
 
 -- one period cleared
@@ -63,7 +75,8 @@ module _ (period : ℕ) (os : List Order) (rises : rising (numbers os) ≡ true)
   traded-there : (party : Row → ℕ) (u : ℕ) → tradedOf party u period rows ≡ sumOf (λ r. r .quantity) (keep (λ r. eqb (party r) u) rows)
   traded-there party u =
       sumOf-ext (λ (r : Row). cond (eqb (party r) u && eqb (r .period) period) (r .quantity) 0) (λ (r : Row). cond (eqb (party r) u) (r .quantity) 0) rows
-      (each-map (λ r. r .period ≡ period) (λ (r : Row). cond (eqb (party r) u && eqb (r .period) period) (r .quantity) 0 ≡ cond (eqb (party r) u) (r .quantity) 0) rows
+      (each-map (λ r. r .period ≡ period) (λ (r : Row). cond (eqb (party r) u && eqb (r .period) period) (r .quantity) 0
+      ≡ cond (eqb (party r) u) (r .quantity) 0) rows
       (λ r e. rw (eq-eqb (r .period) period e) (go (eqb (party r) u) (r .quantity))) in-period)
       ∙ sym (keep-sum (λ r. r .quantity) (λ r. eqb (party r) u) rows)
     where
@@ -97,10 +110,13 @@ module _ (period : ℕ) (os : List Order) (rises : rising (numbers os) ≡ true)
           go false b c h = refl
 
   -- the orders of a unit in the period, as the laws of clearing say it
-  there : (f : ℕ → Bool) (u : ℕ) (l : List Order) → openOf f u period l ≡ quantities (keep (λ o. (f (o .direction) && eqb (o .period) period) && eqb (o .unit) u) l)
+  there : (f : ℕ → Bool) (u : ℕ) (l : List Order) → openOf f u period l
+      ≡ quantities (keep (λ o. (f (o .direction) && eqb (o .period) period) && eqb (o .unit) u) l)
   there f u l =
-      sumOf-ext (λ (o : Order). cond (isOf f u period o) (o .quantity) 0) (λ (o : Order). cond ((f (o .direction) && eqb (o .period) period) && eqb (o .unit) u) (o .quantity) 0) l
-      (each-all (λ (o : Order). cond (isOf f u period o) (o .quantity) 0 ≡ cond ((f (o .direction) && eqb (o .period) period) && eqb (o .unit) u) (o .quantity) 0) l
+      sumOf-ext (λ (o : Order). cond (isOf f u period o) (o .quantity) 0) (λ (o : Order). cond ((f (o .direction) && eqb (o .period) period)
+      && eqb (o .unit) u) (o .quantity) 0) l
+      (each-all (λ (o : Order). cond (isOf f u period o) (o .quantity) 0
+      ≡ cond ((f (o .direction) && eqb (o .period) period) && eqb (o .unit) u) (o .quantity) 0) l
       (λ o. go (eqb (o .unit) u) (eqb (o .period) period) (f (o .direction)) (o .quantity)))
       ∙ sym (keep-sum (λ o. o .quantity) (λ o. (f (o .direction) && eqb (o .period) period) && eqb (o .unit) u) l)
     where
@@ -115,7 +131,8 @@ module _ (period : ℕ) (os : List Order) (rises : rising (numbers os) ≡ true)
       go false false false q = refl
 
   side : (f : ℕ → Bool) (party : Row → ℕ)
-      → ((u : ℕ) → quantities (keep (λ o. (f (o .direction) && eqb (o .period) period) && eqb (o .unit) u) after) + sumOf (λ r. r .quantity) (keep (λ r. eqb (party r) u) rows)
+      → ((u : ℕ) → quantities (keep (λ o. (f (o .direction) && eqb (o .period) period) && eqb (o .unit) u) after) + sumOf (λ r. r .quantity)
+      (keep (λ r. eqb (party r) u) rows)
       ≡ quantities (keep (λ o. (f (o .direction) && eqb (o .period) period) && eqb (o .unit) u) os))
       → (u p : ℕ) → openOf f u p after + tradedOf party u p rows ≡ openOf f u p os
   side f party h u p = go (ℕ-discrete p period)
@@ -125,4 +142,8 @@ module _ (period : ℕ) (os : List Order) (rises : rising (numbers os) ≡ true)
       go (no n) = rw (traded-elsewhere party u p n, open-elsewhere f u p n) (omega arith)
 
   pub period-exchanged : Exchanged os after rows
-  period-exchanged = record { sold = side sells seller (λ u. asks-less-rows period os u rises); bought = side buys buyer (λ u. bids-less-rows period os u rises) }
+  period-exchanged = record {
+    sold = side sells seller (λ u. asks-less-rows period os u rises);
+    bought = side buys buyer
+        (λ u. bids-less-rows period os u rises);
+  }

@@ -110,11 +110,13 @@ pub record Summing (m : List ℕ) (n sum k : ℕ) : Type 0 where
   pub small : sum ≤ mostEnergy
   pub rest : sum + quantities (drop k (ordersIn m n)) ≡ quantities (ordersIn m n)
 
-pub summing-more : (m : List ℕ) (n sum k : ℕ) → k < n → sum + getD m (6 * k + 5) 0 ≤ mostEnergy → Summing m n sum k → Summing m n (sum + getD m (6 * k + 5) 0) (k + 1)
+pub summing-more : (m : List ℕ) (n sum k : ℕ) → k < n → sum + getD m (6 * k + 5) 0 ≤ mostEnergy → Summing m n sum k
+    → Summing m n (sum + getD m (6 * k + 5) 0) (k + 1)
 summing-more m n sum k l h s =
     record { at = omega arith; small = h; rest = omega (arith, s .rest, quantities-more m n k l) }
 
-pub summing-over : (m : List ℕ) (n sum k : ℕ) → k < n → mostEnergy < sum + getD m (6 * k + 5) 0 → Summing m n sum k → leb (quantities (ordersIn m n)) mostEnergy ≡ false
+pub summing-over : (m : List ℕ) (n sum k : ℕ) → k < n → mostEnergy < sum + getD m (6 * k + 5) 0 → Summing m n sum k
+    → leb (quantities (ordersIn m n)) mostEnergy ≡ false
 summing-over m n sum k l h s = lt-leb (quantities (ordersIn m n)) mostEnergy (omega (arith, s .rest, quantities-more m n k l))
 
 pub summing-ends : (m : List ℕ) (n sum k : ℕ) → n ≤ k → Summing m n sum k → leb (quantities (ordersIn m n)) mostEnergy ≡ true
@@ -140,7 +142,8 @@ module _ (m rows : List ℕ) (n : ℕ) where
   unfolding fit
   not-rising a b c h = rw (le-leb n 256 a, le-leb (6 * n) (length m) b, le-leb (6 * n) (length rows) c, h)
 
-  pub is-fit : n ≤ 256 → 6 * n ≤ length m → 6 * n ≤ length rows → rising (numbers (ordersIn m n)) ≡ true → fit m n rows ≡ leb (quantities (ordersIn m n)) mostEnergy
+  pub is-fit : n ≤ 256 → 6 * n ≤ length m → 6 * n ≤ length rows → rising (numbers (ordersIn m n)) ≡ true → fit m n rows
+      ≡ leb (quantities (ordersIn m n)) mostEnergy
   unfolding fit
   is-fit a b c h = rw (le-leb n 256 a, le-leb (6 * n) (length m) b, le-leb (6 * n) (length rows) c, h)
 

@@ -18,13 +18,20 @@ Numbered os = Pairs (λ a b. a .number < b .number) os
 
 every-each : (n : ℕ) (os : List Order) → every (ltb n) (numbers os) ≡ true → Each (λ o. n < o .number) os
 every-each n [] e = tt
-every-each n (o ∷ os) e = (ltb-true _ _ (and-left (ltb n (o .number)) (every (ltb n) (numbers os)) e), every-each n os (and-right (ltb n (o .number)) (every (ltb n) (numbers os)) e))
+every-each n (o ∷ os) e = (
+  ltb-true _ _ (and-left (ltb n (o .number)) (every (ltb n) (numbers os)) e),
+  every-each n os
+      (and-right (ltb n (o .number)) (every (ltb n) (numbers os)) e),
+)
 
 pub rising-numbered : (os : List Order) → rising (numbers os) ≡ true → Numbered os
 unfolding rising
 rising-numbered [] e = tt
-rising-numbered (o ∷ os) e =
-    (every-each (o .number) os (and-left (every (ltb (o .number)) (numbers os)) (rising (numbers os)) e), rising-numbered os (and-right (every (ltb (o .number)) (numbers os)) (rising (numbers os)) e))
+rising-numbered (o ∷ os) e = (
+  every-each (o .number) os (and-left (every (ltb (o .number)) (numbers os)) (rising (numbers os)) e),
+  rising-numbered os
+      (and-right (every (ltb (o .number)) (numbers os)) (rising (numbers os)) e),
+)
 
 each-every : (n : ℕ) (os : List Order) → Each (λ o. n < o .number) os → every (ltb n) (numbers os) ≡ true
 each-every n [] e = refl
@@ -33,7 +40,8 @@ each-every n (o ∷ os) e = and-true (ltb n (o .number)) (every (ltb n) (numbers
 pub numbered-rising : (os : List Order) → Numbered os → rising (numbers os) ≡ true
 unfolding rising
 numbered-rising [] p = refl
-numbered-rising (o ∷ os) p = and-true (every (ltb (o .number)) (numbers os)) (rising (numbers os)) (each-every (o .number) os (p .0)) (numbered-rising os (p .1))
+numbered-rising (o ∷ os) p = and-true (every (ltb (o .number)) (numbers os)) (rising (numbers os)) (each-every (o .number) os (p .0))
+    (numbered-rising os (p .1))
 
 -- a number is one order's
 pub same-number : (os : List Order) (a b : Order) → Numbered os → Has a os → Has b os → a .number ≡ b .number → a ≡ b
@@ -105,14 +113,17 @@ module _ (g : Order → Bool) (still : (o : Order) (q : ℕ) → g (leaving o q)
   first-less o x s true h = omega arith
   first-less o x s false h = omega arith
 
-  pub lessen-open : (x : ℕ) (os : List Order) (o : Order) → Numbered os → Has o os → x ≤ o .quantity → sumOf (openUnder g) (lessen (o .number) x os) + cond (g o) x 0 ≡ sumOf (openUnder g) os
+  pub lessen-open : (x : ℕ) (os : List Order) (o : Order) → Numbered os → Has o os → x ≤ o .quantity
+      → sumOf (openUnder g) (lessen (o .number) x os) + cond (g o) x 0 ≡ sumOf (openUnder g) os
   unfolding lessen
   lessen-open x [] o p m le = absurd m
   lessen-open x (y ∷ os) o p (inl q) le =
       rw q
-      (cond-case (λ (l : List Order). sumOf (openUnder g) l + cond (g y) x 0 ≡ openUnder g y + sumOf (openUnder g) os) (eqb (y .number) (y .number)) (cond (leb (y .quantity) x) os (less y x ∷ os)) (y ∷ lessen (y .number) x os)
+      (cond-case (λ (l : List Order). sumOf (openUnder g) l + cond (g y) x 0 ≡ openUnder g y + sumOf (openUnder g) os) (eqb (y .number) (y .number))
+      (cond (leb (y .quantity) x) os (less y x ∷ os)) (y ∷ lessen (y .number) x os)
       (λ _.
-      cond-case (λ (l : List Order). sumOf (openUnder g) l + cond (g y) x 0 ≡ openUnder g y + sumOf (openUnder g) os) (leb (y .quantity) x) os (less y x ∷ os)
+      cond-case (λ (l : List Order). sumOf (openUnder g) l + cond (g y) x 0 ≡ openUnder g y + sumOf (openUnder g) os) (leb (y .quantity) x) os (less y x
+      ∷ os)
       (λ f.
       let a = leb-true (y .quantity) x f in
       let b : o .quantity ≡ y .quantity = ap (λ (z : Order). z .quantity) q in

@@ -74,7 +74,8 @@ module _ (m : List ℕ) (n k : ℕ) (o : Order) (hk : k < n) (hm : 6 * n ≤ len
   abbrev six : List ℕ
   six = set s4 (6 * k + 5) (o .quantity)
 
-  stays : (i : ℕ) → (i ≡ 6 * k → ⊥) → (i ≡ 6 * k + 1 → ⊥) → (i ≡ 6 * k + 2 → ⊥) → (i ≡ 6 * k + 3 → ⊥) → (i ≡ 6 * k + 4 → ⊥) → (i ≡ 6 * k + 5 → ⊥) → getD six i 0 ≡ getD m i 0
+  stays : (i : ℕ) → (i ≡ 6 * k → ⊥) → (i ≡ 6 * k + 1 → ⊥) → (i ≡ 6 * k + 2 → ⊥) → (i ≡ 6 * k + 3 → ⊥) → (i ≡ 6 * k + 4 → ⊥) → (i ≡ 6 * k + 5 → ⊥)
+      → getD six i 0 ≡ getD m i 0
   stays i h0 h1 h2 h3 h4 h5 =
       getD-set-other s4 (6 * k + 5) i (o .quantity) 0 h5
       ∙ getD-set-other s3 (6 * k + 4) i (o .price) 0 h4
@@ -142,7 +143,8 @@ orders-take m n c h =
     (λ k hk. sym (getD-take c (ordersIn m n) k noOrder hk ∙ orders-at m n k (omega arith)))
 
 -- the orders behind place k moved up
-module _ (m x : List ℕ) (n k : ℕ) (hk : k < n) (low : (i : ℕ) → i < 6 * k → getD x i 0 ≡ getD m i 0) (high : (i : ℕ) → 6 * k ≤ i → i < 6 * n - 6 → getD x i 0 ≡ getD m (i + 6) 0) where
+module _ (m x : List ℕ) (n k : ℕ) (hk : k < n) (low : (i : ℕ) → i < 6 * k → getD x i 0 ≡ getD m i 0) (high : (i : ℕ) → 6 * k ≤ i → i < 6 * n - 6
+    → getD x i 0 ≡ getD m (i + 6) 0) where
   pub moved : ordersIn x (n - 1) ≡ (take k (ordersIn m n) ++ drop (suc k) (ordersIn m n))
   moved = orders-ext x (n - 1) ((take k (ordersIn m n) ++ drop (suc k) (ordersIn m n))) len at
     where
@@ -159,7 +161,8 @@ module _ (m x : List ℕ) (n k : ℕ) (hk : k < n) (low : (i : ℕ) → i < 6 * 
       go j hj (yes l) =
           let a : j < length (take k (ordersIn m n)) = omega (arith, lk) in
           order-same x m j j (λ f hf. low (6 * j + f) (omega arith))
-          ∙ sym (orders-at m n j (omega arith)) ∙ sym (getD-take k (ordersIn m n) j noOrder l) ∙ sym (List·getD-append (take k (ordersIn m n)) (drop (suc k) (ordersIn m n)) noOrder j a)
+          ∙ sym (orders-at m n j (omega arith)) ∙ sym (getD-take k (ordersIn m n) j noOrder l)
+          ∙ sym (List·getD-append (take k (ordersIn m n)) (drop (suc k) (ordersIn m n)) noOrder j a)
       go j hj (no l) =
           let d : j ≡ length (take k (ordersIn m n)) + (j - k) = omega (arith, lk) in
           let s : suc k + (j - k) ≡ suc j = omega arith in
@@ -185,9 +188,19 @@ pub record Moving (m : List ℕ) (n k : ℕ) (x : List ℕ) (j : ℕ) : Type 0 w
 
 pub moving-start : (m : List ℕ) (n k : ℕ) → k < n → Moving m n k m (6 * k)
 moving-start m n k h =
-    record { low = omega arith; high = omega arith; long = refl; before = λ i l. refl; here = λ i l g. absurd (omega arith); after = λ i l. refl; past = refl }
+    record {
+      low = omega arith;
+      high = omega arith;
+      long = refl;
+      before = λ i l. refl;
+      here = λ i l g. absurd (omega arith);
+      after = λ i l. refl;
+      past =
+          refl;
+    }
 
-pub moving-more : (m : List ℕ) (n k : ℕ) (x : List ℕ) (j : ℕ) → 6 * n ≤ length m → j < 6 * n - 6 → Moving m n k x j → Moving m n k (set x j (getD x (j + 6) 0)) (j + 1)
+pub moving-more : (m : List ℕ) (n k : ℕ) (x : List ℕ) (j : ℕ) → 6 * n ≤ length m → j < 6 * n - 6 → Moving m n k x j
+    → Moving m n k (set x j (getD x (j + 6) 0)) (j + 1)
 moving-more m n k x j hn hj g =
     let v = getD x (j + 6) 0 in
     let lo = g .low in

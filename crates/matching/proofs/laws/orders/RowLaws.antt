@@ -36,7 +36,8 @@ written-more d rs r n e h =
     let w = flat rs ++ drop (6 * length rs) d in
     let lf : length (flat rs) ≡ 6 * n = flat-length rs ∙ ap (λ (k : ℕ). 6 * k) e in
     let m1 : length (rs ++ (r ∷ [])) ≡ n + 1 = length-append rs (r ∷ []) ∙ ap (λ (k : ℕ). k + 1) e in
-    let d1 : drop (6 * n + 6) w ≡ drop (6 * n + 6) d = drop-past (flat rs) (drop (6 * length rs) d) (6 * n) 6 lf ∙ ap (λ (k : ℕ). drop 6 (drop (6 * k) d)) e ∙ drop-drop 6 (6 * n) d in
+    let d1 : drop (6 * n + 6) w ≡ drop (6 * n + 6) d = drop-past (flat rs) (drop (6 * length rs) d) (6 * n) 6 lf ∙ ap (λ (k : ℕ). drop 6 (drop (6 * k) d)) e
+    ∙ drop-drop 6 (6 * n) d in
     let d2 : 6 * (n + 1) ≡ 6 * n + 6 = omega arith in
     sets-eq (flatRow r) w (6 * n) h
     ∙ rw (take-at (flat rs) (drop (6 * length rs) d) (6 * n) lf, d1, m1, d2, flat-append rs (r ∷ []))

@@ -28,7 +28,8 @@ gone (o ∷ os) (suc b) x e l h =
     rw (ne-eqb (o .number) (getD os b noOrder .number) (omega arith))
     (ap (λ (y : List Order). o ∷ y) (gone os b x (e .1) (omega arith) h))
 
-kept : (os : List Order) (b x : ℕ) → Numbered os → b < length os → x < getD os b noOrder .quantity → lessen (getD os b noOrder .number) x os ≡ set os b (less (getD os b noOrder) x)
+kept : (os : List Order) (b x : ℕ) → Numbered os → b < length os → x < getD os b noOrder .quantity → lessen (getD os b noOrder .number) x os
+    ≡ set os b (less (getD os b noOrder) x)
 unfolding lessen
 kept [] b x e l h = absurd (not-suc-le-zero l)
 kept (o ∷ os) zero x e l h = rw (eq-eqb (o .number) (o .number) refl, lt-leb (o .quantity) x h)

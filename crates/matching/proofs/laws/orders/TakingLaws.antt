@@ -25,7 +25,8 @@ unfolding lessen
 lessen-absent n x [] h = refl
 lessen-absent n x (o ∷ os) h =
     let l : n < o .number = ltb-true n (o .number) (and-left (ltb n (o .number)) (every (ltb n) (numbers os)) h) in
-    cond-false _ _ _ (ne-eqb (o .number) n (omega arith)) (ap (λ (r : List Order). o ∷ r) (lessen-absent n x os (and-right (ltb n (o .number)) (every (ltb n) (numbers os)) h)))
+    cond-false _ _ _ (ne-eqb (o .number) n (omega arith)) (ap (λ (r : List Order). o
+    ∷ r) (lessen-absent n x os (and-right (ltb n (o .number)) (every (ltb n) (numbers os)) h)))
 
 -- what holds of all numbers holds of those that stand
 standing-every : (f : ℕ → Bool) (ss : List ℕ) (os : List Order) → every f (numbers os) ≡ true → every f (numbers (standing ss os)) ≡ true
@@ -34,7 +35,8 @@ standing-every f [] os h = refl
 standing-every f (s ∷ ss) [] h = refl
 standing-every f (s ∷ ss) (o ∷ os) h = go (eqb s 0) refl (standing-every f ss os (and-right (f (o .number)) (every f (numbers os)) h))
   where
-    go : (b : Bool) → eqb s 0 ≡ b → every f (numbers (standing ss os)) ≡ true → every f (numbers (cond (eqb s 0) (standing ss os) (o ∷ standing ss os))) ≡ true
+    go : (b : Bool) → eqb s 0 ≡ b → every f (numbers (standing ss os)) ≡ true → every f (numbers (cond (eqb s 0) (standing ss os) (o ∷ standing ss os)))
+        ≡ true
     go true e ih = rw e ih
     go false e ih = rw e (and-true (f (o .number)) (every f (numbers (standing ss os))) (and-left (f (o .number)) (every f (numbers os)) h) ih)
 
@@ -55,17 +57,20 @@ every-map-at f (o ∷ os) (suc p) e h = every-map-at f os p (and-right (f (o .nu
 above-first : (o : Order) (os : List Order) (p : ℕ) → rising (numbers (o ∷ os)) ≡ true → p < length os → o .number < getD os p noOrder .number
 unfolding rising
 above-first o os p h l =
-    ltb-true (o .number) (getD os p noOrder .number) (every-map-at (ltb (o .number)) os p (and-left (every (ltb (o .number)) (numbers os)) (rising (numbers os)) h) l)
+    ltb-true (o .number) (getD os p noOrder .number) (every-map-at (ltb (o .number)) os p
+    (and-left (every (ltb (o .number)) (numbers os)) (rising (numbers os)) h) l)
 
 -- x is taken off the order at place p: off what stands, by its number
 pub lessen-at : (ss : List ℕ) (os : List Order) (p x : ℕ) → length os ≤ length ss → rising (numbers os) ≡ true → p < length os
-    → lessen (getD os p noOrder .number) x (standing ss os) ≡ cond (leb (getD os p noOrder .quantity) x) (standing (set ss p 0) os) (standing ss (set os p (less (getD os p noOrder) x)))
+    → lessen (getD os p noOrder .number) x (standing ss os) ≡ cond (leb (getD os p noOrder .quantity) x) (standing (set ss p 0) os)
+    (standing ss (set os p (less (getD os p noOrder) x)))
 unfolding lessen standing rising
 lessen-at [] [] p x hl hr hp = absurd (not-suc-le-zero hp)
 lessen-at [] (o ∷ os) p x hl hr hp = absurd (not-suc-le-zero hl)
 lessen-at (s ∷ ss) [] p x hl hr hp = absurd (not-suc-le-zero hp)
 lessen-at (s ∷ ss) (o ∷ os) zero x hl hr hp =
-    go (eqb s 0) refl (lessen-absent (o .number) x (standing ss os) (standing-every (ltb (o .number)) ss os (and-left (every (ltb (o .number)) (numbers os)) (rising (numbers os)) hr)))
+    go (eqb s 0) refl (lessen-absent (o .number) x (standing ss os)
+    (standing-every (ltb (o .number)) ss os (and-left (every (ltb (o .number)) (numbers os)) (rising (numbers os)) hr)))
   where
     rest : List Order
     rest = standing ss os
@@ -76,10 +81,12 @@ lessen-at (s ∷ ss) (o ∷ os) zero x hl hr hp =
     go true e h = rw e (h ∙ same-cond (leb (o .quantity) x) (standing ss os))
     go false e h = rw e (cond-true _ _ _ (eq-eqb (o .number) (o .number) refl) refl)
 lessen-at (s ∷ ss) (o ∷ os) (suc p) x hl hr hp =
-    go (eqb s 0) refl (lessen-at ss os p x (omega arith) (and-right (every (ltb (o .number)) (numbers os)) (rising (numbers os)) hr) (omega arith)) (above-first o os p hr (omega arith))
+    go (eqb s 0) refl (lessen-at ss os p x (omega arith) (and-right (every (ltb (o .number)) (numbers os)) (rising (numbers os)) hr) (omega arith))
+    (above-first o os p hr (omega arith))
   where
     go : (b : Bool) → eqb s 0 ≡ b
-        → lessen (getD os p noOrder .number) x (standing ss os) ≡ cond (leb (getD os p noOrder .quantity) x) (standing (set ss p 0) os) (standing ss (set os p (less (getD os p noOrder) x)))
+        → lessen (getD os p noOrder .number) x (standing ss os)
+        ≡ cond (leb (getD os p noOrder .quantity) x) (standing (set ss p 0) os) (standing ss (set os p (less (getD os p noOrder) x)))
         → o .number < getD os p noOrder .number
         → lessen (getD os p noOrder .number) x (cond (eqb s 0) (standing ss os) (o ∷ standing ss os))
         ≡ cond (leb (getD os p noOrder .quantity) x)
@@ -126,21 +133,26 @@ module _ (m ss : List ℕ) (n p x : ℕ) (marks : n ≤ length ss) (hp : p < n) 
   lt = length-take-le n ss marks
 
   by-place : lessen (orderAt m p .number) x (standing (take n ss) (ordersIn m n))
-      ≡ cond (leb (orderAt m p .quantity) x) (standing (set (take n ss) p 0) (ordersIn m n)) (standing (take n ss) (set (ordersIn m n) p (less (orderAt m p) x)))
+      ≡ cond (leb (orderAt m p .quantity) x) (standing (set (take n ss) p 0) (ordersIn m n))
+      (standing (take n ss) (set (ordersIn m n) p (less (orderAt m p) x)))
   by-place =
       ap (λ (o : Order). lessen (o .number) x (standing (take n ss) (ordersIn m n))) (sym at-p)
       ∙ lessen-at (take n ss) (ordersIn m n) p x (omega (arith, ln, lt)) rises (omega (arith, ln))
-      ∙ ap (λ (o : Order). cond (leb (o .quantity) x) (standing (set (take n ss) p 0) (ordersIn m n)) (standing (take n ss) (set (ordersIn m n) p (less o x)))) at-p
+      ∙ ap (λ (o : Order). cond (leb (o .quantity) x) (standing (set (take n ss) p 0) (ordersIn m n))
+      (standing (take n ss) (set (ordersIn m n) p (less o x)))) at-p
 
-  pub taken-whole : (q : ℕ) → q ≡ orderAt m p .quantity → q ≤ x → Taken m ss n (lessen (orderAt m p .number) x (standing (take n ss) (ordersIn m n))) m (set ss p 0)
+  pub taken-whole : (q : ℕ) → q ≡ orderAt m p .quantity → q ≤ x
+      → Taken m ss n (lessen (orderAt m p .number) x (standing (take n ss) (ordersIn m n))) m (set ss p 0)
   taken-whole q e h =
       record {
-        orders = ap (λ (s : List ℕ). standing s (ordersIn m n)) (take-set-lt n ss p 0 hp) ∙ sym (by-place ∙ cond-true _ _ _ (le-leb (orderAt m p .quantity) x (omega arith)) refl);
+        orders = ap (λ (s : List ℕ). standing s (ordersIn m n)) (take-set-lt n ss p 0 hp)
+            ∙ sym (by-place ∙ cond-true _ _ _ (le-leb (orderAt m p .quantity) x (omega arith)) refl);
         numbers = refl;
         past = refl;
       }
 
-  pub taken-part : (q : ℕ) (m′ : List ℕ) → q ≡ orderAt m p .quantity → x < q → ordersIn m′ n ≡ set (ordersIn m n) p (leaving (orderAt m p) (q - x)) → drop (6 * n) m′ ≡ drop (6 * n) m
+  pub taken-part : (q : ℕ) (m′ : List ℕ) → q ≡ orderAt m p .quantity → x < q → ordersIn m′ n ≡ set (ordersIn m n) p (leaving (orderAt m p) (q - x))
+      → drop (6 * n) m′ ≡ drop (6 * n) m
       → Taken m ss n (lessen (orderAt m p .number) x (standing (take n ss) (ordersIn m n))) m′ ss
   taken-part q m′ e h w past =
       let v : ordersIn m′ n ≡ set (ordersIn m n) p (less (orderAt m p) x) = w ∙ ap (λ (r : ℕ). set (ordersIn m n) p (leaving (orderAt m p) (r - x))) e in
@@ -165,7 +177,8 @@ pub record Taking (m₀ ss₀ ps xs : List ℕ) (n c : ℕ) (m ss : List ℕ) (i
   pub marks : length ss ≡ length ss₀
   pub numbers : numbers (ordersIn m n) ≡ numbers (ordersIn m₀ n)
   pub past : drop (6 * n) m ≡ drop (6 * n) m₀
-  pub rest : afterFills (filled (ordersAt m₀ (drop i (take c ps))) (drop i (take c xs))) (standing (take n ss) (ordersIn m n)) ≡ afterFills (fillsAt m₀ ps xs c) (standing (take n ss₀) (ordersIn m₀ n))
+  pub rest : afterFills (filled (ordersAt m₀ (drop i (take c ps))) (drop i (take c xs))) (standing (take n ss) (ordersIn m n))
+      ≡ afterFills (fillsAt m₀ ps xs c) (standing (take n ss₀) (ordersIn m₀ n))
 
 pub taking-start : (m ss ps xs : List ℕ) (n c : ℕ) → Taking m ss ps xs n c m ss 0
 unfolding fillsAt
@@ -173,16 +186,19 @@ taking-start m ss ps xs n c = record { at = omega arith; long = refl; marks = re
 
 module _ (m₀ ss₀ ps xs : List ℕ) (n c : ℕ) (m ss : List ℕ) (i : ℕ) (f : Filling ps xs n c) (g : Taking m₀ ss₀ ps xs n c m ss i) where
   pub taking-more : (m′ ss′ : List ℕ) → i < c → length m′ ≡ length m → length ss′ ≡ length ss
-      → Taken m ss n (lessen (orderAt m (getD ps i 0) .number) (getD xs i 0) (standing (take n ss) (ordersIn m n))) m′ ss′ → Taking m₀ ss₀ ps xs n c m′ ss′ (i + 1)
+      → Taken m ss n (lessen (orderAt m (getD ps i 0) .number) (getD xs i 0) (standing (take n ss) (ordersIn m n))) m′ ss′
+      → Taking m₀ ss₀ ps xs n c m′ ss′ (i + 1)
   taking-more m′ ss′ h lm ls t =
       let few = f .few in
       let lp : i < length (take c ps) = let a = f .places in simp length-take (omega arith) in
       let lx : i < length (take c xs) = let a = f .amounts in simp length-take (omega arith) in
       let p = getD ps i 0 in
       let hp : p < n = filling-below ps xs n c i f h in
-      let same : orderAt m p .number ≡ orderAt m₀ p .number = sym (numbers-at m n p hp) ∙ ap (λ (l : List ℕ). getD l p 0) (g .numbers) ∙ numbers-at m₀ n p hp in
+      let same : orderAt m p .number ≡ orderAt m₀ p .number = sym (numbers-at m n p hp) ∙ ap (λ (l : List ℕ). getD l p 0) (g .numbers)
+      ∙ numbers-at m₀ n p hp in
       let next = fills-next m₀ (take c ps) (take c xs) (standing (take n ss) (ordersIn m n)) i lp lx in
-      let step : standing (take n ss′) (ordersIn m′ n) ≡ lessen (orderAt m₀ (getD (take c ps) i 0) .number) (getD (take c xs) i 0) (standing (take n ss) (ordersIn m n)) =
+      let step : standing (take n ss′) (ordersIn m′ n) ≡ lessen (orderAt m₀ (getD (take c ps) i 0) .number) (getD (take c xs) i 0)
+      (standing (take n ss) (ordersIn m n)) =
       rw (getD-take c ps i 0 h, getD-take c xs i 0 h) (t .orders ∙ ap (λ (k : ℕ). lessen k (getD xs i 0) (standing (take n ss) (ordersIn m n))) same) in
       record {
         at = omega arith;
@@ -210,7 +226,8 @@ pub record Closing (m₀ ss : List ℕ) (n : ℕ) (m : List ℕ) (to k : ℕ) : 
 pub closing-start : (m ss : List ℕ) (n : ℕ) → Closing m ss n m 0 0
 closing-start m ss n = record { at = omega arith; low = omega arith; long = refl; past = refl; rest = refl }
 
-stands-next : (ss : List ℕ) (os : List Order) (k : ℕ) → k < length ss → k < length os → standing (drop k ss) (drop k os) ≡ cond (eqb (getD ss k 0) 0) (standing (drop (suc k) ss) (drop (suc k) os)) (getD os k noOrder ∷ standing (drop (suc k) ss) (drop (suc k) os))
+stands-next : (ss : List ℕ) (os : List Order) (k : ℕ) → k < length ss → k < length os → standing (drop k ss) (drop k os)
+    ≡ cond (eqb (getD ss k 0) 0) (standing (drop (suc k) ss) (drop (suc k) os)) (getD os k noOrder ∷ standing (drop (suc k) ss) (drop (suc k) os))
 unfolding standing
 stands-next ss os k h l = rw (drop-cons ss k 0 h, drop-cons os k noOrder l)
 
@@ -233,23 +250,27 @@ module _ (m₀ ss : List ℕ) (n : ℕ) (m : List ℕ) (to k : ℕ) (hs : n ≤ 
   pub closing-skip : getD ss k 0 ≡ 0 → Closing m₀ ss n m to (k + 1)
   closing-skip e =
       let low = g .low in
-      let next : standing (drop k S) (drop k X) ≡ standing (drop (suc k) S) (drop (suc k) X) = stands-next S X k lS (omega (arith, lX)) ∙ cond-true _ _ _ (eq-eqb (getD S k 0) 0 (mark ∙ e)) refl in
+      let next : standing (drop k S) (drop k X) ≡ standing (drop (suc k) S) (drop (suc k) X) = stands-next S X k lS (omega (arith, lX))
+      ∙ cond-true _ _ _ (eq-eqb (getD S k 0) 0 (mark ∙ e)) refl in
       record { at = omega arith; low = omega arith; long = g .long; past = g .past; rest = rw (add-one k, ← next) (g .rest) }
 
-  pub closing-move : (m′ : List ℕ) → (getD ss k 0 ≡ 0 → ⊥) → length m′ ≡ length m → ordersIn m′ n ≡ set (ordersIn m n) to (orderAt m k) → drop (6 * n) m′ ≡ drop (6 * n) m → Closing m₀ ss n m′ (to + 1) (k + 1)
+  pub closing-move : (m′ : List ℕ) → (getD ss k 0 ≡ 0 → ⊥) → length m′ ≡ length m → ordersIn m′ n ≡ set (ordersIn m n) to (orderAt m k) → drop (6 * n) m′
+      ≡ drop (6 * n) m → Closing m₀ ss n m′ (to + 1) (k + 1)
   closing-move m′ ne lm w past =
       let low = g .low in
       let o : getD X k noOrder ≡ orderAt m k = orders-at m n k hk in
       let tx : to < length X = omega (arith, lX) in
       let d : drop (suc k) (set X to (orderAt m k)) ≡ drop (suc k) X = drop-set-lt (suc k) X to (orderAt m k) (omega arith) in
       let next : standing (drop k S) (drop k X) ≡ orderAt m k ∷ standing (drop (suc k) S) (drop (suc k) X) =
-      stands-next S X k lS (omega (arith, lX)) ∙ cond-false _ _ _ (ne-eqb (getD S k 0) 0 (λ z. ne (sym mark ∙ z))) (ap (λ (y : Order). y ∷ standing (drop (suc k) S) (drop (suc k) X)) o) in
+      stands-next S X k lS (omega (arith, lX)) ∙ cond-false _ _ _ (ne-eqb (getD S k 0) 0 (λ z. ne (sym mark ∙ z))) (ap (λ (y : Order). y
+      ∷ standing (drop (suc k) S) (drop (suc k) X)) o) in
       record {
         at = omega arith;
         low = omega arith;
         long = lm ∙ g .long;
         past = past ∙ g .past;
-        rest = rw (add-one k, add-one to, w, take-suc-set X to (orderAt m k) tx, d) (append-assoc (take to X) (orderAt m k ∷ []) (standing (drop (suc k) S) (drop (suc k) X)) ∙ ap (λ (l : List Order). take to X ++ l) (sym next) ∙ g .rest);
+        rest = rw (add-one k, add-one to, w, take-suc-set X to (orderAt m k) tx, d) (append-assoc (take to X) (orderAt m k
+            ∷ []) (standing (drop (suc k) S) (drop (suc k) X)) ∙ ap (λ (l : List Order). take to X ++ l) (sym next) ∙ g .rest);
       }
 
 standing-none : (ss : List ℕ) → standing ss [] ≡ []
@@ -258,7 +279,8 @@ standing-none [] = refl
 standing-none (s ∷ ss) = refl
 
 -- an order with no gap before it stays
-pub closing-stay : (m₀ ss : List ℕ) (n : ℕ) (m : List ℕ) (to k : ℕ) → n ≤ length ss → k < n → Closing m₀ ss n m to k → (getD ss k 0 ≡ 0 → ⊥) → to ≡ k → Closing m₀ ss n m (to + 1) (k + 1)
+pub closing-stay : (m₀ ss : List ℕ) (n : ℕ) (m : List ℕ) (to k : ℕ) → n ≤ length ss → k < n → Closing m₀ ss n m to k → (getD ss k 0 ≡ 0 → ⊥) → to ≡ k
+    → Closing m₀ ss n m (to + 1) (k + 1)
 closing-stay m₀ ss n m to k hs hk g ne e =
     let w : set (ordersIn m n) to (orderAt m k) ≡ ordersIn m n = rw (e, ← orders-at m n k hk) (set-getD (ordersIn m n) k noOrder) in
     closing-move m₀ ss n m to k hs hk g m ne refl (sym w) refl
@@ -268,7 +290,8 @@ closing-end m₀ ss n m to k h g =
     let at = g .at in
     let low = g .low in
     let e : drop k (ordersIn m n) ≡ [] = drop-of-length-le (ordersIn m n) {i = k} (omega (arith, orders-length m n)) in
-    orders-take m n to (omega arith) ∙ sym (append-nil (take to (ordersIn m n))) ∙ ap (λ (l : List Order). take to (ordersIn m n) ++ l) (sym (ap (standing (drop k (take n ss))) e ∙ standing-none (drop k (take n ss)))) ∙ g .rest
+    orders-take m n to (omega arith) ∙ sym (append-nil (take to (ordersIn m n)))
+    ∙ ap (λ (l : List Order). take to (ordersIn m n) ++ l) (sym (ap (standing (drop k (take n ss))) e ∙ standing-none (drop k (take n ss)))) ∙ g .rest
 
 -- where no mark is 0 all stand
 standing-all : (n w : ℕ) (os : List Order) → length os ≡ n → n ≤ w → standing (take n (replicate w 1)) os ≡ os
@@ -280,7 +303,8 @@ standing-all (suc n) (suc w) [] e h = refl
 standing-all (suc n) (suc w) (o ∷ os) e h = ap (λ (l : List Order). o ∷ l) (standing-all n w os (omega arith) (omega arith))
 
 -- orders at places keep their numbers
-numbers-there : (m m′ ps : List ℕ) (n : ℕ) → numbers (ordersIn m′ n) ≡ numbers (ordersIn m n) → every (λ p. ltb p n) ps ≡ true → numbers (ordersAt m′ ps) ≡ numbers (ordersAt m ps)
+numbers-there : (m m′ ps : List ℕ) (n : ℕ) → numbers (ordersIn m′ n) ≡ numbers (ordersIn m n) → every (λ p. ltb p n) ps ≡ true → numbers (ordersAt m′ ps)
+    ≡ numbers (ordersAt m ps)
 numbers-there m m′ [] n e b = refl
 numbers-there m m′ (p ∷ ps) n e b =
     let l : p < n = ltb-true p n (and-left (ltb p n) (every (λ q. ltb q n) ps) b) in
@@ -301,4 +325,5 @@ pub rests-left : (m m₁ ss₁ m₂ ss₂ bids bought asks sold : List ℕ) (n n
 unfolding fillsAt
 rests-left m m₁ ss₁ m₂ ss₂ bids bought asks sold n nb na h f t u =
     u .orders ∙ ap (afterFills (fillsAt m₁ asks sold na)) (rest-left m m₁ ss₁ bids bought n nb h t)
-    ∙ fills-by-number (ordersAt m₁ (take na asks)) (ordersAt m (take na asks)) (take na sold) (afterFills (fillsAt m bids bought nb) (ordersIn m n)) (numbers-there m m₁ (take na asks) n (t .numbers) (f .below))
+    ∙ fills-by-number (ordersAt m₁ (take na asks)) (ordersAt m (take na asks)) (take na sold) (afterFills (fillsAt m bids bought nb) (ordersIn m n))
+    (numbers-there m m₁ (take na asks) n (t .numbers) (f .below))

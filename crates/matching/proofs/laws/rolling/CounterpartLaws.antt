@@ -64,7 +64,8 @@ picked-first i o os e h =
     some (omega arith)
     (counterparts-with i o os e ∙ ap (insert (aheadFor i) o) h ∙ insert-none (aheadFor i) o ∙ ap (λ (cs : List Order). o ∷ cs) (sym h))
 
-module _ (i o : Order) (os : List Order) (b : ℕ) (e : candidate i o ≡ true) (l : b < length os) (h : counterparts i os ≡ getD os b noOrder ∷ counterparts i (without b os)) where
+module _ (i o : Order) (os : List Order) (b : ℕ) (e : candidate i o ≡ true) (l : b < length os) (h : counterparts i os ≡ getD os b noOrder
+    ∷ counterparts i (without b os)) where
   picked-ahead : aheadFor i o (getD os b noOrder) ≡ true → Picked i (o ∷ os) 0
   unfolding without
   picked-ahead a =
@@ -92,7 +93,8 @@ picked-more i o os b p = go (candidate i o) refl p
     found e l h true f = picked-ahead i o os b e l h f
     found e l h false f = picked-behind i o os b e l h f
 
-    go : (c : Bool) → candidate i o ≡ c → Picked i os b → Picked i (o ∷ os) (cond c (cond (eqb b (length os)) 0 (cond (aheadFor i o (getD os b noOrder)) 0 (suc b))) (suc b))
+    go : (c : Bool) → candidate i o ≡ c → Picked i os b → Picked i (o
+        ∷ os) (cond c (cond (eqb b (length os)) 0 (cond (aheadFor i o (getD os b noOrder)) 0 (suc b))) (suc b))
     go false e q = picked-past i o os b e q
     go true e (none l h) = rw (eq-eqb b (length os) l) (picked-first i o os e h)
     go true e (some l h) =
@@ -104,7 +106,8 @@ picked i [] = none refl refl
 picked i (o ∷ os) = picked-more i o os (best i os) (picked i os)
 
 -- what is found
-pub found-laid-first : (i : Order) (os : List Order) → best i os < length os → counterparts i os ≡ getD os (best i os) noOrder ∷ counterparts i (without (best i os) os)
+pub found-laid-first : (i : Order) (os : List Order) → best i os < length os → counterparts i os ≡ getD os (best i os) noOrder
+    ∷ counterparts i (without (best i os) os)
 found-laid-first i os l = go (picked i os)
   where
     go : Picked i os (best i os) → counterparts i os ≡ getD os (best i os) noOrder ∷ counterparts i (without (best i os) os)

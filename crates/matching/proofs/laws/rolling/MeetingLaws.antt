@@ -28,7 +28,8 @@ unfolding matches
 matches-spent q [] e = refl
 matches-spent q (o ∷ cs) e = rw (eq-eqb q 0 e)
 
-pub matches-more : (q : ℕ) (o : Order) (cs : List Order) → (q ≡ 0 → ⊥) → matches q (o ∷ cs) ≡ match o (min q (o .quantity)) ∷ matches (q - min q (o .quantity)) cs
+pub matches-more : (q : ℕ) (o : Order) (cs : List Order) → (q ≡ 0 → ⊥) → matches q (o ∷ cs) ≡ match o (min q (o .quantity))
+    ∷ matches (q - min q (o .quantity)) cs
 unfolding matches
 matches-more q o cs ne = rw (ne-eqb q 0 ne)
 
@@ -41,7 +42,8 @@ unfolding afterMatches
 after-none os = refl
 
 -- one match, with the best counterpart, at place b: x is taken off it
-module _ (i : Order) (os os′ : List Order) (q b x : ℕ) (some : q ≡ 0 → ⊥) (rises : rising (numbers os) ≡ true) (l : b < length os) (eb : b ≡ best i os) (ex : x ≡ min q (getD os b noOrder .quantity)) (el : os′ ≡ lessen (getD os b noOrder .number) x os) where
+module _ (i : Order) (os os′ : List Order) (q b x : ℕ) (some : q ≡ 0 → ⊥) (rises : rising (numbers os) ≡ true) (l : b < length os) (eb : b
+    ≡ best i os) (ex : x ≡ min q (getD os b noOrder .quantity)) (el : os′ ≡ lessen (getD os b noOrder .number) x os) where
   laid-first : counterparts i os ≡ getD os b noOrder ∷ counterparts i (without b os)
   laid-first = rw eb (found-laid-first i os (rw eb at l))
 
@@ -72,7 +74,8 @@ module _ (i : Order) (os os′ : List Order) (q b x : ℕ) (some : q ≡ 0 → �
   pub matched-length : (length os′ + 1 ≤ length os + (1 - (q - x))) × (length os′ ≤ length os) × ((q - x) + length os′ < q + length os)
   matched-length = go (decLt x (getD os b noOrder .quantity))
     where
-      go : Dec (x < getD os b noOrder .quantity) → (length os′ + 1 ≤ length os + (1 - (q - x))) × (length os′ ≤ length os) × ((q - x) + length os′ < q + length os)
+      go : Dec (x < getD os b noOrder .quantity) → (length os′ + 1 ≤ length os + (1 - (q - x))) × (length os′ ≤ length os)
+          × ((q - x) + length os′ < q + length os)
       go (yes h) =
           let e : length os′ ≡ length os = ap length (el ∙ lessen-kept os b x rises l h) ∙ length-set os b (less (getD os b noOrder) x) in
           omega arith

@@ -71,16 +71,19 @@ module _ (i : Order) (os : List Order) where
   unfolding counterparts
   met-due n =
       record {
-        stand = matched-each (λ o. Has o os) (i .quantity) (counterparts i os) (laid-each (aheadFor i) (λ o. Has o os) (keep (candidate i) os) (each-keep (λ o. Has o os) (candidate i) os (has-self os)));
+        stand = matched-each (λ o. Has o os) (i .quantity) (counterparts i os)
+            (laid-each (aheadFor i) (λ o. Has o os) (keep (candidate i) os) (each-keep (λ o. Has o os) (candidate i) os (has-self os)));
         fit = matched-fit (i .quantity) (counterparts i os);
         apart =
             matched-pairs Apart (i .quantity) (counterparts i os)
-            (laid-pairs (aheadFor i) Apart (λ a b h e. h (sym e)) (keep (candidate i) os) (pairs-keep Apart (candidate i) os (pairs-map (λ a b. a .number < b .number) Apart os (λ a b l e. omega arith) n)));
+            (laid-pairs (aheadFor i) Apart (λ a b h e. h (sym e)) (keep (candidate i) os)
+            (pairs-keep Apart (candidate i) os (pairs-map (λ a b. a .number < b .number) Apart os (λ a b l e. omega arith) n)));
       }
 
   -- what is open under a test that does not look at quantities falls by what is taken
   met-open : Numbered os → (g : Order → Bool) → ((o : Order) (q : ℕ) → g (leaving o q) ≡ g o)
-      → sumOf (λ (o : Order). cond (g o) (o .quantity) 0) (meet i os .orders) + sumOf (λ (f : Fill). cond (g (f .order)) (f .amount) 0) (fillsOf met) ≡ sumOf (λ (o : Order). cond (g o) (o .quantity) 0) os
+      → sumOf (λ (o : Order). cond (g o) (o .quantity) 0) (meet i os .orders) + sumOf (λ (f : Fill). cond (g (f .order)) (f .amount) 0) (fillsOf met)
+      ≡ sumOf (λ (o : Order). cond (g o) (o .quantity) 0) os
   unfolding meet
   met-open n g still =
       let a = after-open g still (fillsOf met) os n (met-due n) in
@@ -128,14 +131,16 @@ module _ (i : Order) (d : Match) where
   sale-books b = (record { names = rw b; period = rw b; quantity = rw b }, record { names = rw b; period = rw b; quantity = rw b })
 
 own-rows : (i : Order) (party : Row → ℕ) (u p : ℕ) → ((d : Match) → Books i party (i .unit) d) → (ms : List Match)
-    → Each (λ (r : Row). cond (eqb (party r) u && eqb (r .period) p) (r .quantity) 0 ≡ cond (eqb (i .unit) u && eqb (i .period) p) (r .quantity) 0) (map (matchRow i) ms)
+    → Each (λ (r : Row). cond (eqb (party r) u && eqb (r .period) p) (r .quantity) 0
+    ≡ cond (eqb (i .unit) u && eqb (i .period) p) (r .quantity) 0) (map (matchRow i) ms)
 own-rows i party u p h [] = tt
 own-rows i party u p h (d ∷ ms) = (rw ((h d) .names, (h d) .period), own-rows i party u p h ms)
 
 -- one side of the orders and of the rows, with the incoming order as it came and as it is left
 module _ (i : Order) (os : List Order) (n : Numbered os) (f : ℕ → Bool) (party : Row → ℕ) (u p : ℕ) where
   abbrev Side : Type 0
-  Side = openOf f u p (meet i os .orders) + cond (isOf f u p i) (meet i os .left) 0 + tradedOf party u p (meet i os .rows) ≡ openOf f u p os + cond (isOf f u p i) (i .quantity) 0
+  Side = openOf f u p (meet i os .orders) + cond (isOf f u p i) (meet i os .left) 0 + tradedOf party u p (meet i os .rows)
+      ≡ openOf f u p os + cond (isOf f u p i) (i .quantity) 0
 
   never : (a b c : Bool) → c ≡ false → (a && b && c) ≡ false
   never true true c e = e
@@ -148,23 +153,28 @@ module _ (i : Order) (os : List Order) (n : Numbered os) (f : ℕ → Bool) (par
   always false b c e = refl
 
   -- the side of the waiting orders
-  waiting-side : f (i .direction) ≡ false → ((d : Match) → Books i party (d .order .unit) d) → ((o : Order) → candidate i o ≡ true → f (o .direction) ≡ true) → Side
+  waiting-side : f (i .direction) ≡ false → ((d : Match) → Books i party (d .order .unit) d)
+      → ((o : Order) → candidate i o ≡ true → f (o .direction) ≡ true) → Side
   unfolding meet
   waiting-side out h k =
       let a = met-open i os n (isOf f u p) (λ o q. refl) in
       let t : tradedOf party u p (map (matchRow i) (met i os)) ≡ sumOf (λ (x : Fill). cond (isOf f u p (x .order)) (x .amount) 0) (fillsOf (met i os)) =
-      rows-fills i (λ o. candidate i o ≡ true) (λ (r : Row). cond (eqb (party r) u && eqb (r .period) p) (r .quantity) 0) (λ (x : Fill). cond (isOf f u p (x .order)) (x .amount) 0) same
+      rows-fills i (λ o. candidate i o ≡ true) (λ (r : Row). cond (eqb (party r) u && eqb (r .period) p) (r .quantity) 0)
+      (λ (x : Fill). cond (isOf f u p (x .order)) (x .amount) 0) same
       (met i os) (met-each i os (λ o. candidate i o ≡ true) (λ o c. c)) in
       rw (never (eqb (i .unit) u) (eqb (i .period) p) (f (i .direction)) out, t) (omega arith)
     where
-      same : (d : Match) → candidate i (d .order) ≡ true → cond (eqb (party (matchRow i d)) u && eqb (matchRow i d .period) p) (matchRow i d .quantity) 0 ≡ cond (isOf f u p (d .order)) (d .quantity) 0
+      same : (d : Match) → candidate i (d .order) ≡ true → cond (eqb (party (matchRow i d)) u && eqb (matchRow i d .period) p) (matchRow i d .quantity) 0
+          ≡ cond (isOf f u p (d .order)) (d .quantity) 0
       same d c =
           let b = h d in
           rw (b .names, b .period, b .quantity, ← candidate-period i (d .order) c)
-          (ap (λ (t : Bool). cond t (d .quantity) 0) (always (eqb (d .order .unit) u) (eqb (d .order .period) p) (f (d .order .direction)) (k (d .order) c)))
+          (ap (λ (t : Bool). cond t (d .quantity) 0) (always (eqb (d .order .unit) u) (eqb (d .order .period) p) (f (d .order .direction))
+          (k (d .order) c)))
 
   -- the incoming order's own side
-  incoming-side : f (i .direction) ≡ true → ((d : Match) → Books i party (i .unit) d) → ((o : Order) → candidate i o ≡ true → f (o .direction) ≡ false) → Side
+  incoming-side : f (i .direction) ≡ true → ((d : Match) → Books i party (i .unit) d) → ((o : Order) → candidate i o ≡ true → f (o .direction) ≡ false)
+      → Side
   unfolding meet
   incoming-side own h k =
       let a = met-open i os n (isOf f u p) (λ o q. refl) in
@@ -173,12 +183,15 @@ module _ (i : Order) (os : List Order) (n : Numbered os) (f : ℕ → Bool) (par
       (each-map (λ x. isOf f u p (x .order) ≡ false) (λ (x : Fill). cond (isOf f u p (x .order)) (x .amount) 0 ≡ 0) (fillsOf (met i os)) (λ x e. rw e)
       (met-each i os (λ o. isOf f u p o ≡ false) (λ o c. never (eqb (o .unit) u) (eqb (o .period) p) (f (o .direction)) (k o c)))) in
       rw (← always (eqb (i .unit) u) (eqb (i .period) p) (f (i .direction)) own, all-rows (met i os))
-      (join (eqb (i .unit) u && eqb (i .period) p) (sumOf (λ r. r .quantity) (map (matchRow i) (met i os))) (meet i os .left) (i .quantity) _ _ (omega arith) (traded-and-left i os))
+      (join (eqb (i .unit) u && eqb (i .period) p) (sumOf (λ r. r .quantity) (map (matchRow i) (met i os))) (meet i os .left) (i .quantity) _ _
+      (omega arith) (traded-and-left i os))
     where
-      all-rows : (ms : List Match) → tradedOf party u p (map (matchRow i) ms) ≡ cond (eqb (i .unit) u && eqb (i .period) p) (sumOf (λ r. r .quantity) (map (matchRow i) ms)) 0
+      all-rows : (ms : List Match) → tradedOf party u p (map (matchRow i) ms)
+          ≡ cond (eqb (i .unit) u && eqb (i .period) p) (sumOf (λ r. r .quantity) (map (matchRow i) ms)) 0
       all-rows ms =
           let rs = map (matchRow i) ms in
-          sumOf-ext (λ (r : Row). cond (eqb (party r) u && eqb (r .period) p) (r .quantity) 0) (λ (r : Row). cond (eqb (i .unit) u && eqb (i .period) p) (r .quantity) 0) rs (own-rows i party u p h ms)
+          sumOf-ext (λ (r : Row). cond (eqb (party r) u && eqb (r .period) p) (r .quantity) 0) (λ (r : Row). cond (eqb (i .unit) u
+          && eqb (i .period) p) (r .quantity) 0) rs (own-rows i party u p h ms)
           ∙ sumOf-when (eqb (i .unit) u && eqb (i .period) p) (λ (r : Row). r .quantity) rs
 
       join : (c : Bool) (s l q x y : ℕ) → x ≡ y → s + l ≡ q → x + cond c l 0 + cond c s 0 ≡ y + cond c q 0
@@ -186,14 +199,16 @@ module _ (i : Order) (os : List Order) (n : Numbered os) (f : ℕ → Bool) (par
       join false s l q x y e z = omega arith
 
 -- w is what waits of the incoming order: with it, all orders lose what the rows trade
-pub met-exchanged : (i : Order) (os w : List Order) → rising (numbers os) ≡ true → i .direction ≤ 1 → ((f : ℕ → Bool) (u p : ℕ) → openOf f u p w ≡ cond (isOf f u p i) (meet i os .left) 0)
+pub met-exchanged : (i : Order) (os w : List Order) → rising (numbers os) ≡ true → i .direction ≤ 1
+    → ((f : ℕ → Bool) (u p : ℕ) → openOf f u p w ≡ cond (isOf f u p i) (meet i os .left) 0)
     → Exchanged (os ++ (i ∷ [])) (meet i os .orders ++ w) (meet i os .rows)
 met-exchanged i os w rises le left = go (ℕ-discrete (i .direction) 1)
   where
     n : Numbered os
     n = rising-numbered os rises
 
-    whole : (f : ℕ → Bool) (party : Row → ℕ) (u p : ℕ) → Side i os n f party u p → openOf f u p (meet i os .orders ++ w) + tradedOf party u p (meet i os .rows) ≡ openOf f u p (os ++ (i ∷ []))
+    whole : (f : ℕ → Bool) (party : Row → ℕ) (u p : ℕ) → Side i os n f party u p
+        → openOf f u p (meet i os .orders ++ w) + tradedOf party u p (meet i os .rows) ≡ openOf f u p (os ++ (i ∷ []))
     whole f party u p s =
         let a = sumOf-append (λ (o : Order). cond (isOf f u p o) (o .quantity) 0) (meet i os .orders) w in
         let b = sumOf-append (λ (o : Order). cond (isOf f u p o) (o .quantity) 0) os (i ∷ []) in
@@ -205,13 +220,17 @@ met-exchanged i os w rises le left = go (ℕ-discrete (i .direction) 1)
         let t : buys (i .direction) ≡ true = eq-eqb _ _ e in
         let z : sells (i .direction) ≡ false = ne-eqb (i .direction) 0 (omega arith) in
         record {
-          sold = λ u p. whole sells seller u p (waiting-side i os n sells seller u p z (λ d. buy-books i d t .0) (λ o c. eq-eqb _ _ (candidate-sale i o t c)));
-          bought = λ u p. whole buys buyer u p (incoming-side i os n buys buyer u p t (λ d. buy-books i d t .1) (λ o c. let s = candidate-sale i o t c in ne-eqb (o .direction) 1 (omega arith)));
+          sold = λ u p. whole sells seller u p (waiting-side i os n sells seller u p z (λ d. buy-books i d t .0)
+              (λ o c. eq-eqb _ _ (candidate-sale i o t c)));
+          bought = λ u p. whole buys buyer u p (incoming-side i os n buys buyer u p t (λ d. buy-books i d t .1)
+              (λ o c. let s = candidate-sale i o t c in ne-eqb (o .direction) 1 (omega arith)));
         }
     go (no e) =
         let t : buys (i .direction) ≡ false = ne-eqb _ _ e in
         let z : sells (i .direction) ≡ true = eq-eqb (i .direction) 0 (omega arith) in
         record {
-          sold = λ u p. whole sells seller u p (incoming-side i os n sells seller u p z (λ d. sale-books i d t .1) (λ o c. let s = candidate-buy i o t c in ne-eqb (o .direction) 0 (omega arith)));
-          bought = λ u p. whole buys buyer u p (waiting-side i os n buys buyer u p t (λ d. sale-books i d t .0) (λ o c. eq-eqb _ _ (candidate-buy i o t c)));
+          sold = λ u p. whole sells seller u p (incoming-side i os n sells seller u p z (λ d. sale-books i d t .1)
+              (λ o c. let s = candidate-buy i o t c in ne-eqb (o .direction) 0 (omega arith)));
+          bought = λ u p. whole buys buyer u p (waiting-side i os n buys buyer u p t (λ d. sale-books i d t .0)
+              (λ o c. eq-eqb _ _ (candidate-buy i o t c)));
         }

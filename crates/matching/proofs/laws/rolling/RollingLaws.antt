@@ -65,7 +65,8 @@ matches-each P q (o ∷ cs) e =
     matches-case (Each (λ d. P (d .order))) q o cs (λ z. tt)
     (λ ne. (e .0, matches-each P (q - min q (o .quantity)) cs (e .1)))
 
-rows-each : (i : Order) (P : Match → Type 0) (Q : Row → Type 0) (ms : List Match) → ((d : Match) → P d → Q (matchRow i d)) → Each P ms → Each Q (map (matchRow i) ms)
+rows-each : (i : Order) (P : Match → Type 0) (Q : Row → Type 0) (ms : List Match) → ((d : Match) → P d → Q (matchRow i d)) → Each P ms
+    → Each Q (map (matchRow i) ms)
 rows-each i P Q [] h e = tt
 rows-each i P Q (d ∷ ms) h e = (h d (e .0), rows-each i P Q ms h (e .1))
 
@@ -144,8 +145,32 @@ sides : (i : Order) (os : List Order) (d : Match) → Counterpart i os (d .order
 unfolding matchRow
 sides i os d m =
     cond-case (Sides i os) (buys (i .direction)) _ _
-    (λ b. record { waiting = d .order; waits = m .1; sale = d .order; buy = i; opposite = buy-meets i (d .order) b (m .0); incoming = inl (refl, refl); seller = refl; buyer = refl; period = refl; price = refl })
-    (λ b. record { waiting = d .order; waits = m .1; sale = i; buy = d .order; opposite = sale-meets i (d .order) b (m .0); incoming = inr (refl, refl); seller = refl; buyer = refl; period = refl; price = refl })
+    (λ b. record {
+      waiting = d .order;
+      waits = m .1;
+      sale = d .order;
+      buy = i;
+      opposite = buy-meets i (d .order) b (m .0);
+      incoming = inl
+          (refl, refl);
+      seller = refl;
+      buyer = refl;
+      period = refl;
+      price = refl;
+    })
+    (λ b. record {
+      waiting = d .order;
+      waits = m .1;
+      sale = i;
+      buy = d .order;
+      opposite = sale-meets i (d .order) b (m .0);
+      incoming = inr
+          (refl, refl);
+      seller = refl;
+      buyer = refl;
+      period = refl;
+      price = refl;
+    })
 
 pub row-sides : (i : Order) (os : List Order) → Each (Sides i os) (meet i os .rows)
 unfolding meet
@@ -170,7 +195,8 @@ none-kept : (f : Order → Bool) (os : List Order) → length (keep f os) ≡ 0 
 none-kept f [] e = tt
 none-kept f (o ∷ os) e = go (f o) refl (λ h. none-kept f os h) e
   where
-    go : (b : Bool) → f o ≡ b → (length (keep f os) ≡ 0 → Each (λ o. f o ≡ false) os) → length (cond b (o ∷ keep f os) (keep f os)) ≡ 0 → (f o ≡ false) × Each (λ o. f o ≡ false) os
+    go : (b : Bool) → f o ≡ b → (length (keep f os) ≡ 0 → Each (λ o. f o ≡ false) os) → length (cond b (o ∷ keep f os) (keep f os)) ≡ 0 → (f o ≡ false)
+        × Each (λ o. f o ≡ false) os
     go true h ih z = absurd (omega arith)
     go false h ih z = (h, ih z)
 
@@ -205,7 +231,8 @@ crosses-none (suc f) i os q b rises l = go (λ os″ q″ c r k. crosses-none f 
         rw (matched-after i os os′ q (best i os) x ne rises u refl refl refl)
         (ih os′ (q - x) (omega arith) (lessen-rises (getD os (best i os) noOrder .number) x os rises) (omega arith))
 
-pub nothing-crosses-after : (i : Order) (os : List Order) → rising (numbers os) ≡ true → 0 < meet i os .left → Each (λ o. candidate i o ≡ false) (meet i os .orders)
+pub nothing-crosses-after : (i : Order) (os : List Order) → rising (numbers os) ≡ true → 0 < meet i os .left
+    → Each (λ o. candidate i o ≡ false) (meet i os .orders)
 unfolding meet
 nothing-crosses-after i os rises l = crosses-none (i .quantity + length os) i os (i .quantity) (omega arith) rises (omega arith)
 
@@ -215,7 +242,8 @@ unfolding counterparts
 best-first i os = laid-sorted (aheadFor i) (λ a b. aheadFor i b a ≡ false) one (λ a b e. e) far (keep (candidate i) os)
   where
     one : (a b : Order) → aheadFor i a b ≡ true → aheadFor i b a ≡ false
-    one a b = cond-case (λ (g : Order → Order → Bool). g a b ≡ true → g b a ≡ false) (buys (i .direction)) askAhead bidAhead (λ e. ask-one a b) (λ e. bid-one a b)
+    one a b = cond-case (λ (g : Order → Order → Bool). g a b ≡ true → g b a
+        ≡ false) (buys (i .direction)) askAhead bidAhead (λ e. ask-one a b) (λ e. bid-one a b)
 
     far : (a b c : Order) → aheadFor i b a ≡ false → aheadFor i c b ≡ false → aheadFor i c a ≡ false
     far a b c =
@@ -243,7 +271,8 @@ matches-pairs R q (o ∷ cs) p =
     matches-case (Pairs (λ d e. R (d .order) (e .order))) q o cs (λ z. tt)
     (λ ne. (matches-each (R o) (q - min q (o .quantity)) cs (p .0), matches-pairs R (q - min q (o .quantity)) cs (p .1)))
 
-rows-pairs : (i : Order) (P : Match → Match → Type 0) (Q : Row → Row → Type 0) (ms : List Match) → ((d e : Match) → P d e → Q (matchRow i d) (matchRow i e)) → Pairs P ms → Pairs Q (map (matchRow i) ms)
+rows-pairs : (i : Order) (P : Match → Match → Type 0) (Q : Row → Row → Type 0) (ms : List Match) → ((d e : Match) → P d e → Q (matchRow i d) (matchRow i e))
+    → Pairs P ms → Pairs Q (map (matchRow i) ms)
 rows-pairs i P Q [] h p = tt
 rows-pairs i P Q (d ∷ ms) h p = (rows-each i (P d) (Q (matchRow i d)) ms (h d) (p .0), rows-pairs i P Q ms h (p .1))
 

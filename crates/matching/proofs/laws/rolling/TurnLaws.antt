@@ -63,7 +63,8 @@ module _ (i o : Order) where
   no-side h = go (eqb (o .period) (i .period)) (ne-eqb (i .direction) 1 (omega arith)) (ne-eqb (i .direction) 0 (omega arith))
     where
       go : (b : Bool) → eqb (i .direction) 1 ≡ false → eqb (i .direction) 0 ≡ false
-          → (b && cond (eqb (i .direction) 1) (eqb (o .direction) 0 && leb (o .price) (i .price)) (eqb (i .direction) 0 && (eqb (o .direction) 1 && leb (i .price) (o .price)))) ≡ false
+          → (b && cond (eqb (i .direction) 1) (eqb (o .direction) 0 && leb (o .price) (i .price)) (eqb (i .direction) 0
+          && (eqb (o .direction) 1 && leb (i .price) (o .price)))) ≡ false
       go true e f = rw (e, f)
       go false e f = refl
 
@@ -78,17 +79,25 @@ side-is i m n d period limit words hi small ed ep el = go (ℕ-discrete (i .dire
         let z : 1 - i .direction ≡ 0 = omega arith in
         let a : aheadFor i ≡ askAhead = rw (eq-eqb (i .direction) 1 e) in
         rw (ed, ep, el, z, a)
-        (ap (laid askAhead) (keep-ext (wanted 0 (i .period) (keyOf 0 (i .price))) (candidate i) (ordersIn m n) (each-order (λ o. wanted 0 (i .period) (keyOf 0 (i .price)) o ≡ candidate i o) m n (λ k. wanted-sale i (orderAt m k) e))))
+        (ap (laid askAhead) (keep-ext (wanted 0 (i .period) (keyOf 0 (i .price))) (candidate i) (ordersIn m n)
+        (each-order (λ o. wanted 0 (i .period) (keyOf 0 (i .price)) o ≡ candidate i o) m n (λ k. wanted-sale i (orderAt m k) e))))
     go (no ne) =
         let z : 1 - i .direction ≡ 1 = omega arith in
         let s : i .direction ≡ 0 = omega arith in
         let a : aheadFor i ≡ bidAhead = rw (ne-eqb (i .direction) 1 ne) in
         rw (ed, ep, el, z, a)
-        (ap (laid bidAhead) (keep-ext (wanted 1 (i .period) (keyOf 1 (i .price))) (candidate i) (ordersIn m n) (each-order (λ o. wanted 1 (i .period) (keyOf 1 (i .price)) o ≡ candidate i o) m n (λ k. wanted-buy i (orderAt m k) s (words (6 * k + 4)) hi))))
+        (ap (laid bidAhead) (keep-ext (wanted 1 (i .period) (keyOf 1 (i .price))) (candidate i) (ordersIn m n)
+        (each-order (λ o. wanted 1 (i .period) (keyOf 1 (i .price)) o ≡ candidate i o) m n (λ k. wanted-buy i (orderAt m k) s (words (6 * k + 4)) hi))))
 
 counterparts-few : (i : Order) (m : List ℕ) (n : ℕ) → length (counterparts i (ordersIn m n)) ≤ n
 unfolding counterparts
-counterparts-few i m n = omega (arith, laid-length (aheadFor i) (keep (candidate i) (ordersIn m n)), keep-few (candidate i) (ordersIn m n), orders-length m n)
+counterparts-few i m n = omega (
+  arith,
+  laid-length (aheadFor i) (keep (candidate i) (ordersIn m n)),
+  keep-few (candidate i) (ordersIn m n),
+  orders-length m
+      n,
+)
 
 -- where matching stands, with q left of the incoming order
 pub record Meeting (m ks ps es : List ℕ) (d n r : ℕ) (i : Order) (rows₀ hs met taken rows : List ℕ) (q c : ℕ) : Type 0 where
@@ -120,7 +129,8 @@ meeting-start m ks ps hs es d n r i met taken rows g e =
     }
 
 -- the same from the side that is met
-pub meeting-begins : (m ks ps hs es : List ℕ) (d n r : ℕ) (i : Order) (met taken rows : List ℕ) (period limit : ℕ) → ((k : ℕ) → getD m k 0 ≤ mostWord) → i .price ≤ mostWord → i .direction < 2
+pub meeting-begins : (m ks ps hs es : List ℕ) (d n r : ℕ) (i : Order) (met taken rows : List ℕ) (period limit : ℕ) → ((k : ℕ) → getD m k 0 ≤ mostWord)
+    → i .price ≤ mostWord → i .direction < 2
     → d ≡ 1 - i .direction → period ≡ i .period → limit ≡ keyOf (1 - i .direction) (i .price) → Runs m ks ps hs es d n r
     → merged (aheadOn d) (runAt m ps hs es) r ≡ laid (aheadOn d) (keep (wanted d period limit) (ordersIn m n))
     → Meeting m ks ps es (1 - i .direction) n r i rows hs met taken rows (i .quantity) 0
@@ -134,12 +144,14 @@ least-of x q o p e h = e ∙ ap (λ (z : Order). min q (z .quantity)) h
 pub row-of : (i : Order) (row : Row) (o p : Order) (x : ℕ) → row ≡ matchRow i (match o x) → o ≡ p → row ≡ matchRow i (match p x)
 row-of i row o p x e h = e ∙ ap (λ (z : Order). matchRow i (match z x)) h
 
-module _ (m ks ps es : List ℕ) (d n r : ℕ) (i : Order) (rows₀ hs met taken rows : List ℕ) (q c : ℕ) (g : Meeting m ks ps es d n r i rows₀ hs met taken rows q c) where
+module _ (m ks ps es : List ℕ) (d n r : ℕ) (i : Order) (rows₀ hs met taken rows : List ℕ) (q c : ℕ)
+    (g : Meeting m ks ps es d n r i rows₀ hs met taken rows q c) where
   abbrev left : List Order
   left = merged (aheadOn d) (runAt m ps hs es) r
 
   -- one match more, with the first order of run b
-  module _ (b p x : ℕ) (f : FirstOf m ps hs es d r b) (ne : b ≡ r → ⊥) (lp : n ≤ length ps) (lh : r ≤ length hs) (lm : n ≤ length met) (lt : n ≤ length taken) where
+  module _ (b p x : ℕ) (f : FirstOf m ps hs es d r b) (ne : b ≡ r → ⊥) (lp : n ≤ length ps) (lh : r ≤ length hs) (lm : n ≤ length met) (lt : n
+      ≤ length taken) where
     pub meeting-room : (b < r) × (getD hs b 0 < getD es b 0) × (getD hs b 0 < n) × (getD ps (getD hs b 0) 0 < n) × (c < n)
     meeting-room =
         let w = f .left ne in
@@ -148,7 +160,8 @@ module _ (m ks ps es : List ℕ) (d n r : ℕ) (i : Order) (rows₀ hs met taken
         let y = g .few in
         (w .0, w .1, u .0, u .1, omega arith)
 
-    pub meeting-more : (hs′ rows′ : List ℕ) → (q ≡ 0 → ⊥) → p ≡ getD ps (getD hs b 0) 0 → hs′ ≡ set hs b (getD hs b 0 + 1) → x ≡ min q (orderAt m p .quantity)
+    pub meeting-more : (hs′ rows′ : List ℕ) → (q ≡ 0 → ⊥) → p ≡ getD ps (getD hs b 0) 0 → hs′ ≡ set hs b (getD hs b 0 + 1) → x
+        ≡ min q (orderAt m p .quantity)
         → rows′ ≡ written rows₀ (map (matchRow i) (g .done) ++ (matchRow i (match (orderAt m p) x) ∷ []))
         → Meeting m ks ps es d n r i rows₀ hs′ (set met c p) (set taken c x) rows′ (q - x) (c + 1)
     meeting-more hs′ rows′ some ep eh ex er =
@@ -166,8 +179,10 @@ module _ (m ks ps es : List ℕ) (d n r : ℕ) (i : Order) (rows₀ hs met taken
           below = below-more met n c p (omega arith) (g .below) (omega arith);
           done = g .done ++ (y ∷ []);
           counted = ap length em ∙ length-append (map (matchRow i) (g .done)) (matchRow i y ∷ []) ∙ ap (λ (z : ℕ). z + 1) (g .counted);
-          orders = places-more met n c p (omega arith) m ∙ ap (λ (l : List Order). l ++ (o ∷ [])) (g .orders) ∙ sym (map-join (λ (z : Match). z .order) (g .done) (y ∷ []));
-          amounts = ap (λ (z : ℕ). take z (set taken c x)) (add-one c) ∙ take-suc-set taken c x (omega arith) ∙ ap (λ (l : List ℕ). l ++ (x ∷ [])) (g .amounts) ∙ sym (map-join (λ (z : Match). z .quantity) (g .done) (y ∷ []));
+          orders = places-more met n c p (omega arith) m ∙ ap (λ (l : List Order). l ++ (o ∷ [])) (g .orders)
+              ∙ sym (map-join (λ (z : Match). z .order) (g .done) (y ∷ []));
+          amounts = ap (λ (z : ℕ). take z (set taken c x)) (add-one c) ∙ take-suc-set taken c x (omega arith)
+              ∙ ap (λ (l : List ℕ). l ++ (x ∷ [])) (g .amounts) ∙ sym (map-join (λ (z : Match). z .quantity) (g .done) (y ∷ []));
           handed = er ∙ ap (written rows₀) (sym em);
           given = omega (arith, sumOf-append (λ (z : Match). z .quantity) (g .done) (y ∷ []), g .given);
           rest =
@@ -208,7 +223,8 @@ matches-under : (q : ℕ) (cs : List Order) → sumOf (λ d. d .quantity) (match
 unfolding matches
 matches-under q [] = omega arith
 matches-under q (o ∷ cs) =
-    cond-case (λ (l : List Match). sumOf (λ d. d .quantity) l ≤ o .quantity + quantities cs) (eqb q 0) [] (match o (min q (o .quantity)) ∷ matches (q - min q (o .quantity)) cs)
+    cond-case (λ (l : List Match). sumOf (λ d. d .quantity) l ≤ o .quantity + quantities cs) (eqb q 0) [] (match o (min q (o .quantity))
+    ∷ matches (q - min q (o .quantity)) cs)
     (λ e. omega arith) (λ e. let t = matches-under (q - min q (o .quantity)) cs in omega arith)
 
 keep-under : (f : Order → Bool) (os : List Order) → quantities (keep f os) ≤ quantities os
@@ -222,7 +238,13 @@ keep-under f (o ∷ os) = go (f o) (keep-under f os)
 met-under : (i : Order) (os : List Order) → sumOf (λ d. d .quantity) (matches (i .quantity) (counterparts i os)) ≤ quantities os
 unfolding counterparts
 met-under i os =
-    omega (arith, matches-under (i .quantity) (laid (aheadFor i) (keep (candidate i) os)), laid-quantities (aheadFor i) (keep (candidate i) os), keep-under (candidate i) os)
+    omega (
+      arith,
+      matches-under (i .quantity) (laid (aheadFor i) (keep (candidate i) os)),
+      laid-quantities (aheadFor i) (keep (candidate i) os),
+      keep-under
+          (candidate i) os,
+    )
 
 total-taken : (ms : List Match) → total (map (λ d. d .quantity) ms) ≡ sumOf (λ d. d .quantity) ms
 total-taken [] = refl
@@ -233,7 +255,8 @@ unfolding filled
 filled-fills [] = refl
 filled-fills (d ∷ ms) = ap (λ (l : List Fill). record { order = d .order; amount = d .quantity } ∷ l) (filled-fills ms)
 
-module _ (m : List ℕ) (n : ℕ) (i : Order) (rows₀ : List ℕ) (q c : ℕ) (met taken rows : List ℕ) (t : InTurn m n i (matches (i .quantity) (counterparts i (ordersIn m n))) rows₀ q c met taken rows) (e : fit m n rows₀ ≡ true) where
+module _ (m : List ℕ) (n : ℕ) (i : Order) (rows₀ : List ℕ) (q c : ℕ) (met taken rows : List ℕ)
+    (t : InTurn m n i (matches (i .quantity) (counterparts i (ordersIn m n))) rows₀ q c met taken rows) (e : fit m n rows₀ ≡ true) where
   abbrev ms : List Match
   ms = matches (i .quantity) (counterparts i (ordersIn m n))
 
@@ -241,7 +264,14 @@ module _ (m : List ℕ) (n : ℕ) (i : Order) (rows₀ : List ℕ) (q c : ℕ) (
   turn-fills lm lt =
       let f = fit-gives m rows₀ n e in
       let s = f .small in
-      record { few = t .few; places = lm; amounts = lt; below = t .below; small = rw (t .amounts, total-taken ms) (omega (arith, met-under i (ordersIn m n))) }
+      record {
+        few = t .few;
+        places = lm;
+        amounts = lt;
+        below = t .below;
+        small = rw (t .amounts, total-taken ms)
+            (omega (arith, met-under i (ordersIn m n)));
+      }
 
   pub meets-turn : (a : Matched) (m′ : List ℕ) (standing : ℕ) → answerOf a ≡ record { fits = true; left = q; count = c; standing = standing }
       → ordersIn m′ standing ≡ afterFills (fillsAt m met taken c) (ordersIn m n) → drop (6 * n) m′ ≡ drop (6 * n) m → Meets m rows₀ n i a m′ rows
@@ -272,14 +302,16 @@ pub meets-none : (m rows : List ℕ) (n : ℕ) (i : Order) (a : Matched) → fit
     → answerOf a ≡ record { fits = true; left = i .quantity; count = 0; standing = n } → Meets m rows n i a m rows
 unfolding meet
 meets-none m rows n i a e h ea =
-    let z : matches (i .quantity) (counterparts i (ordersIn m n)) ≡ [] = ap (matches (i .quantity)) (counterparts-none i (ordersIn m n) h) ∙ matches-none (i .quantity) in
+    let z : matches (i .quantity) (counterparts i (ordersIn m n)) ≡ [] = ap (matches (i .quantity)) (counterparts-none i (ordersIn m n) h)
+    ∙ matches-none (i .quantity) in
     let s : sumOf (λ d. d .quantity) (matches (i .quantity) (counterparts i (ordersIn m n))) ≡ 0 = ap (λ (l : List Match). sumOf (λ d. d .quantity) l) z in
     record {
       fits = ap (λ (y : Answer). y .fits) ea ∙ sym e;
       stay = λ f. (refl, refl);
       left = λ f. ap (λ (y : Answer). y .left) ea ∙ omega arith;
       count = λ f. ap (λ (y : Answer). y .count) ea ∙ sym (ap (λ (l : List Match). length (map (matchRow i) l)) z);
-      orders = λ f. ap (λ (y : Answer). ordersIn m (y .standing)) ea ∙ sym (ap (λ (l : List Match). afterMatches l (ordersIn m n)) z ∙ after-none (ordersIn m n));
+      orders = λ f. ap (λ (y : Answer). ordersIn m (y .standing)) ea
+          ∙ sym (ap (λ (l : List Match). afterMatches l (ordersIn m n)) z ∙ after-none (ordersIn m n));
       handed = λ f. written-none rows ∙ sym (ap (λ (l : List Match). written rows (map (matchRow i) l)) z);
       past = refl;
     }

@@ -37,7 +37,8 @@ module _ (period price : ℕ) where
       row : Row
       row = record { way = 3; period = period; seller = y .unit; buyer = x .unit; quantity = overlap x y; price = price }
 
-      go : (b : Bool) → eqb (overlap x y) 0 ≡ b → cond (eqb (overlap x y) 0) (rowsOfBid period price x ys) (row ∷ rowsOfBid period price x ys) ≡ cond (eqb (overlap x y) 0) [] (row ∷ []) ++ rowsOfBid period price x ys
+      go : (b : Bool) → eqb (overlap x y) 0 ≡ b → cond (eqb (overlap x y) 0) (rowsOfBid period price x ys) (row ∷ rowsOfBid period price x ys)
+          ≡ cond (eqb (overlap x y) 0) [] (row ∷ []) ++ rowsOfBid period price x ys
       go true e = rw e
       go false e = rw e
 
@@ -47,15 +48,18 @@ module _ (period price : ℕ) where
   bid-past x s [] h = refl
   bid-past x s (f ∷ fs) h =
       bid-cons x (record { unit = f .order .unit; from = s; upto = s + f .amount }) (endToEnd (s + f .amount) fs)
-      ∙ ap₂ (λ (a b : List Row). a ++ b) (none-row x (record { unit = f .order .unit; from = s; upto = s + f .amount }) (omega arith)) (bid-past x (s + f .amount) fs (omega arith))
+      ∙ ap₂ (λ (a b : List Row). a ++ b) (none-row x (record { unit = f .order .unit; from = s; upto = s + f .amount }) (omega arith))
+      (bid-past x (s + f .amount) fs (omega arith))
 
   -- an ask that ends before the bids begin shares nothing with them
-  pub ask-past : (y : Span) (ys : List Span) (s : ℕ) (fs : List Fill) → y .upto ≤ s → overlapRows period price (endToEnd s fs) (y ∷ ys) ≡ overlapRows period price (endToEnd s fs) ys
+  pub ask-past : (y : Span) (ys : List Span) (s : ℕ) (fs : List Fill) → y .upto ≤ s → overlapRows period price (endToEnd s fs) (y ∷ ys)
+      ≡ overlapRows period price (endToEnd s fs) ys
   unfolding overlapRows endToEnd
   ask-past y ys s [] h = refl
   ask-past y ys s (f ∷ fs) h =
       let x : Span = record { unit = f .order .unit; from = s; upto = s + f .amount } in
-      ap₂ (λ (a b : List Row). a ++ b) (bid-cons x y ys ∙ ap (λ (a : List Row). a ++ rowsOfBid period price x ys) (none-row x y (omega arith))) (ask-past y ys (s + f .amount) fs (omega arith))
+      ap₂ (λ (a b : List Row). a ++ b) (bid-cons x y ys ∙ ap (λ (a : List Row). a ++ rowsOfBid period price x ys) (none-row x y (omega arith)))
+      (ask-past y ys (s + f .amount) fs (omega arith))
 
   pub overlap-none : (xs : List Span) → overlapRows period price xs [] ≡ []
   unfolding overlapRows rowsOfBid
@@ -70,7 +74,8 @@ module _ (period price : ℕ) where
   module _ (a : ℕ) (f : Fill) (fs : List Fill) (e : ℕ) (g : Fill) (gs : List Fill) where
     pub bid-step : a + f .amount ≤ e + g .amount
         → overlapRows period price (endToEnd a (f ∷ fs)) (endToEnd e (g ∷ gs))
-        ≡ overlapRow period price (g .order .unit) (f .order .unit) a (a + f .amount) e (e + g .amount) ++ overlapRows period price (endToEnd (a + f .amount) fs) (endToEnd e (g ∷ gs))
+        ≡ overlapRow period price (g .order .unit) (f .order .unit) a (a + f .amount) e (e + g .amount)
+        ++ overlapRows period price (endToEnd (a + f .amount) fs) (endToEnd e (g ∷ gs))
     unfolding overlapRows endToEnd
     bid-step h =
         let x : Span = record { unit = f .order .unit; from = a; upto = a + f .amount } in
@@ -82,13 +87,15 @@ module _ (period price : ℕ) where
 
     pub ask-step : e + g .amount ≤ a + f .amount
         → overlapRows period price (endToEnd a (f ∷ fs)) (endToEnd e (g ∷ gs))
-        ≡ overlapRow period price (g .order .unit) (f .order .unit) a (a + f .amount) e (e + g .amount) ++ overlapRows period price (endToEnd a (f ∷ fs)) (endToEnd (e + g .amount) gs)
+        ≡ overlapRow period price (g .order .unit) (f .order .unit) a (a + f .amount) e (e + g .amount)
+        ++ overlapRows period price (endToEnd a (f ∷ fs)) (endToEnd (e + g .amount) gs)
     unfolding overlapRows endToEnd
     ask-step h =
         let x : Span = record { unit = f .order .unit; from = a; upto = a + f .amount } in
         let y : Span = record { unit = g .order .unit; from = e; upto = e + g .amount } in
         ap₂ (λ (r s : List Row). r ++ s) (bid-cons x y (endToEnd (e + g .amount) gs)) (ask-past y (endToEnd (e + g .amount) gs) (a + f .amount) fs h)
-        ∙ append-assoc (rowOfSpans period price x y) (rowsOfBid period price x (endToEnd (e + g .amount) gs)) (overlapRows period price (endToEnd (a + f .amount) fs) (endToEnd (e + g .amount) gs))
+        ∙ append-assoc (rowOfSpans period price x y) (rowsOfBid period price x (endToEnd (e + g .amount) gs))
+        (overlapRows period price (endToEnd (a + f .amount) fs) (endToEnd (e + g .amount) gs))
 
 abbrev pub noFill : Fill
 noFill = record { order = noOrder; amount = 0 }
@@ -104,7 +111,8 @@ filled-length m [] xs e = refl
 filled-length m (p ∷ ps) [] e = absurd (omega arith)
 filled-length m (p ∷ ps) (x ∷ xs) e = ap suc (filled-length m ps xs (omega arith))
 
-filled-at : (m ps xs : List ℕ) (i : ℕ) → i < length ps → i < length xs → getD (filled (ordersAt m ps) xs) i noFill ≡ record { order = orderAt m (getD ps i 0); amount = getD xs i 0 }
+filled-at : (m ps xs : List ℕ) (i : ℕ) → i < length ps → i < length xs → getD (filled (ordersAt m ps) xs) i noFill
+    ≡ record { order = orderAt m (getD ps i 0); amount = getD xs i 0 }
 unfolding filled
 filled-at m [] xs i h l = absurd (not-suc-le-zero h)
 filled-at m (p ∷ ps) [] i h l = absurd (not-suc-le-zero l)
@@ -152,7 +160,8 @@ pub record Rowing (period price : ℕ) (fb fa : List Fill) (r₀ r : List ℕ) (
   pub lowAsks : e + amounts (drop j fa) ≤ mostEnergy
   pub rest : done ++ overlapRows period price (endToEnd a (drop i fb)) (endToEnd e (drop j fa)) ≡ overlapRows period price (endToEnd 0 fb) (endToEnd 0 fa)
 
-pub rowing-start : (period price : ℕ) (fb fa : List Fill) (r : List ℕ) → amounts fb ≤ mostEnergy → amounts fa ≤ mostEnergy → Rowing period price fb fa r r 0 0 0 0 0
+pub rowing-start : (period price : ℕ) (fb fa : List Fill) (r : List ℕ) → amounts fb ≤ mostEnergy → amounts fa ≤ mostEnergy
+    → Rowing period price fb fa r r 0 0 0 0 0
 rowing-start period price fb fa r hb ha =
     record {
       done = [];
@@ -176,26 +185,33 @@ Wrote period price seller buyer q r count r′ count′ =
     × (count′ ≤ count + 1)
 
 module _ (q count : ℕ) (row : Row) (m r : List ℕ) (rs : List Row) (l : length rs ≡ count) where
-  pub wrote-none : q ≡ 0 → r ≡ written m rs → (r ≡ written m (rs ++ cond (eqb q 0) [] (row ∷ []))) × (length (rs ++ cond (eqb q 0) [] (row ∷ [])) ≡ count) × (count ≤ count + 1)
+  pub wrote-none : q ≡ 0 → r ≡ written m rs → (r ≡ written m (rs ++ cond (eqb q 0) [] (row ∷ []))) × (length (rs ++ cond (eqb q 0) [] (row ∷ [])) ≡ count)
+      × (count ≤ count + 1)
   wrote-none e k = rw (eq-eqb q 0 e, append-nil rs) (k, l, omega arith)
 
-  pub wrote-one : (q ≡ 0 → ⊥) → r ≡ written m (rs ++ (row ∷ [])) → (r ≡ written m (rs ++ cond (eqb q 0) [] (row ∷ []))) × (length (rs ++ cond (eqb q 0) [] (row ∷ [])) ≡ count + 1) × (count + 1 ≤ count + 1)
+  pub wrote-one : (q ≡ 0 → ⊥) → r ≡ written m (rs ++ (row ∷ [])) → (r ≡ written m (rs ++ cond (eqb q 0) [] (row ∷ [])))
+      × (length (rs ++ cond (eqb q 0) [] (row ∷ [])) ≡ count + 1) × (count + 1 ≤ count + 1)
   wrote-one e k = rw (ne-eqb q 0 e) (k, length-append rs (row ∷ []) ∙ ap (λ (i : ℕ). i + 1) l, omega arith)
 
 module _ (period price : ℕ) (fb fa : List Fill) (r₀ r : List ℕ) (i j a e count : ℕ) (g : Rowing period price fb fa r₀ r i j a e count) where
-  pub rowing-bids-end : length fb ≤ i → (r ≡ written r₀ (overlapRows period price (endToEnd 0 fb) (endToEnd 0 fa))) × (count ≡ length (overlapRows period price (endToEnd 0 fb) (endToEnd 0 fa)))
+  pub rowing-bids-end : length fb ≤ i → (r ≡ written r₀ (overlapRows period price (endToEnd 0 fb) (endToEnd 0 fa)))
+      × (count ≡ length (overlapRows period price (endToEnd 0 fb) (endToEnd 0 fa)))
   unfolding endToEnd overlapRows
   rowing-bids-end h =
       let d : drop i fb ≡ [] = drop-of-length-le fb {i = i} h in
       let all : g .done ≡ overlapRows period price (endToEnd 0 fb) (endToEnd 0 fa) = sym (append-nil (g .done)) ∙ rw d at (g .rest) in
       (g .kept ∙ ap (written r₀) all, sym (g .counted) ∙ ap length all)
 
-  pub rowing-asks-end : length fa ≤ j → (r ≡ written r₀ (overlapRows period price (endToEnd 0 fb) (endToEnd 0 fa))) × (count ≡ length (overlapRows period price (endToEnd 0 fb) (endToEnd 0 fa)))
+  pub rowing-asks-end : length fa ≤ j → (r ≡ written r₀ (overlapRows period price (endToEnd 0 fb) (endToEnd 0 fa)))
+      × (count ≡ length (overlapRows period price (endToEnd 0 fb) (endToEnd 0 fa)))
   unfolding endToEnd
   rowing-asks-end h =
       let d : drop j fa ≡ [] = drop-of-length-le fa {i = j} h in
-      let none : overlapRows period price (endToEnd a (drop i fb)) (endToEnd e (drop j fa)) ≡ [] = ap (λ (l : List Fill). overlapRows period price (endToEnd a (drop i fb)) (endToEnd e l)) d ∙ overlap-none period price (endToEnd a (drop i fb)) in
-      let all : g .done ≡ overlapRows period price (endToEnd 0 fb) (endToEnd 0 fa) = sym (append-nil (g .done)) ∙ ap (λ (l : List Row). g .done ++ l) (sym none) ∙ g .rest in
+      let none : overlapRows period price (endToEnd a (drop i fb)) (endToEnd e (drop j fa))
+      ≡ [] = ap (λ (l : List Fill). overlapRows period price (endToEnd a (drop i fb)) (endToEnd e l)) d
+      ∙ overlap-none period price (endToEnd a (drop i fb)) in
+      let all : g .done ≡ overlapRows period price (endToEnd 0 fb) (endToEnd 0 fa) = sym (append-nil (g .done))
+      ∙ ap (λ (l : List Row). g .done ++ l) (sym none) ∙ g .rest in
       (g .kept ∙ ap (written r₀) all, sym (g .counted) ∙ ap length all)
 
   -- a turn: bid i and ask j, and what they share
@@ -215,7 +231,8 @@ module _ (period price : ℕ) (fb fa : List Fill) (r₀ r : List ℕ) (i j a e c
     abbrev one : List Row
     one = overlapRow period price (h .order .unit) (f .order .unit) a (a + f .amount) e (e + h .amount)
 
-    module _ (seller buyer q : ℕ) (r′ : List ℕ) (count′ : ℕ) (es : seller ≡ h .order .unit) (eb : buyer ≡ f .order .unit) (eq : q ≡ min (a + f .amount) (e + h .amount) - max a e) (lr : length r′ ≡ length r) (w : Wrote period price seller buyer q r count r′ count′) where
+    module _ (seller buyer q : ℕ) (r′ : List ℕ) (count′ : ℕ) (es : seller ≡ h .order .unit) (eb : buyer ≡ f .order .unit) (eq : q
+        ≡ min (a + f .amount) (e + h .amount) - max a e) (lr : length r′ ≡ length r) (w : Wrote period price seller buyer q r count r′ count′) where
       wrote : (r′ ≡ written r₀ (g .done ++ one)) × (length (g .done ++ one) ≡ count′) × (count′ ≤ count + 1)
       unfolding overlapRow
       wrote = rw (← es, ← eb, ← eq) (w r₀ (g .done) (g .counted) (g .kept))
@@ -238,7 +255,8 @@ module _ (period price : ℕ) (fb fa : List Fill) (r₀ r : List ℕ) (i j a e c
             lowAsks = g .lowAsks;
             rest =
                 append-assoc (g .done) one (overlapRows period price (endToEnd (a + f .amount) (drop (i + 1) fb)) (endToEnd e (drop j fa)))
-                ∙ ap (λ (l : List Row). g .done ++ l) (ap (λ (l : List Fill). one ++ overlapRows period price (endToEnd (a + f .amount) (drop (i + 1) fb)) (endToEnd e l)) dh
+                ∙ ap (λ (l : List Row). g .done ++ l) (ap (λ (l : List Fill). one
+                ++ overlapRows period price (endToEnd (a + f .amount) (drop (i + 1) fb)) (endToEnd e l)) dh
                 ∙ sym (bid-step period price a f (drop (i + 1) fb) e h (drop (j + 1) fa) le)
                 ∙ ap₂ (λ (l k : List Fill). overlapRows period price (endToEnd a l) (endToEnd e k)) (sym df) (sym dh))
                 ∙ g .rest;
@@ -262,14 +280,16 @@ module _ (period price : ℕ) (fb fa : List Fill) (r₀ r : List ℕ) (i j a e c
             lowAsks = omega arith;
             rest =
                 append-assoc (g .done) one (overlapRows period price (endToEnd a (drop i fb)) (endToEnd (e + h .amount) (drop (j + 1) fa)))
-                ∙ ap (λ (l : List Row). g .done ++ l) (ap (λ (l : List Fill). one ++ overlapRows period price (endToEnd a l) (endToEnd (e + h .amount) (drop (j + 1) fa))) df
+                ∙ ap (λ (l : List Row). g .done ++ l) (ap (λ (l : List Fill). one
+                ++ overlapRows period price (endToEnd a l) (endToEnd (e + h .amount) (drop (j + 1) fa))) df
                 ∙ sym (ask-step period price a f (drop (i + 1) fb) e h (drop (j + 1) fa) le)
                 ∙ ap₂ (λ (l k : List Fill). overlapRows period price (endToEnd a l) (endToEnd e k)) (sym df) (sym dh))
                 ∙ g .rest;
           }
 
 -- the same by places and amounts in memory
-module _ (period price : ℕ) (m bids bought asks sold : List ℕ) (n nb na : ℕ) (fb : Filling bids bought n nb) (fa : Filling asks sold n na) (r₀ r : List ℕ) (i j a e count : ℕ)
+module _ (period price : ℕ) (m bids bought asks sold : List ℕ) (n nb na : ℕ) (fb : Filling bids bought n nb) (fa : Filling asks sold n na) (r₀ r : List ℕ)
+    (i j a e count : ℕ)
     (g : Rowing period price (fillsAt m bids bought nb) (fillsAt m asks sold na) r₀ r i j a e count) where
   pub bids-within : i ≤ nb
   bids-within = omega (arith, g .bids, fills-length m bids bought n nb fb)
@@ -277,11 +297,15 @@ module _ (period price : ℕ) (m bids bought asks sold : List ℕ) (n nb na : �
   pub asks-within : j ≤ na
   asks-within = omega (arith, g .asks, fills-length m asks sold n na fa)
 
-  pub bids-done : nb ≤ i → (r ≡ written r₀ (overlapRows period price (endToEnd 0 (fillsAt m bids bought nb)) (endToEnd 0 (fillsAt m asks sold na)))) × (count ≡ length (overlapRows period price (endToEnd 0 (fillsAt m bids bought nb)) (endToEnd 0 (fillsAt m asks sold na))))
-  bids-done h = rowing-bids-end period price (fillsAt m bids bought nb) (fillsAt m asks sold na) r₀ r i j a e count g (omega (arith, fills-length m bids bought n nb fb))
+  pub bids-done : nb ≤ i → (r ≡ written r₀ (overlapRows period price (endToEnd 0 (fillsAt m bids bought nb)) (endToEnd 0 (fillsAt m asks sold na))))
+      × (count ≡ length (overlapRows period price (endToEnd 0 (fillsAt m bids bought nb)) (endToEnd 0 (fillsAt m asks sold na))))
+  bids-done h = rowing-bids-end period price (fillsAt m bids bought nb) (fillsAt m asks sold na) r₀ r i j a e count g
+      (omega (arith, fills-length m bids bought n nb fb))
 
-  pub asks-done : na ≤ j → (r ≡ written r₀ (overlapRows period price (endToEnd 0 (fillsAt m bids bought nb)) (endToEnd 0 (fillsAt m asks sold na)))) × (count ≡ length (overlapRows period price (endToEnd 0 (fillsAt m bids bought nb)) (endToEnd 0 (fillsAt m asks sold na))))
-  asks-done h = rowing-asks-end period price (fillsAt m bids bought nb) (fillsAt m asks sold na) r₀ r i j a e count g (omega (arith, fills-length m asks sold n na fa))
+  pub asks-done : na ≤ j → (r ≡ written r₀ (overlapRows period price (endToEnd 0 (fillsAt m bids bought nb)) (endToEnd 0 (fillsAt m asks sold na))))
+      × (count ≡ length (overlapRows period price (endToEnd 0 (fillsAt m bids bought nb)) (endToEnd 0 (fillsAt m asks sold na))))
+  asks-done h = rowing-asks-end period price (fillsAt m bids bought nb) (fillsAt m asks sold na) r₀ r i j a e count g
+      (omega (arith, fills-length m asks sold n na fa))
 
   module _ (hi : i < nb) (hj : j < na) where
     abbrev F : Fill
@@ -297,19 +321,27 @@ module _ (period price : ℕ) (m bids bought asks sold : List ℕ) (n nb na : �
     lj = omega (arith, fills-length m asks sold n na fa)
 
     pub bid-in-range : a + getD bought i 0 ≤ mostEnergy
-    bid-in-range = bid-fits period price (fillsAt m bids bought nb) (fillsAt m asks sold na) r₀ r i j a e count g F H li lj (fills-at m bids bought n nb fb i hi) (fills-at m asks sold n na fa j hj)
+    bid-in-range = bid-fits period price (fillsAt m bids bought nb) (fillsAt m asks sold na) r₀ r i j a e count g F H li lj
+        (fills-at m bids bought n nb fb i hi) (fills-at m asks sold n na fa j hj)
 
     pub ask-in-range : e + getD sold j 0 ≤ mostEnergy
-    ask-in-range = ask-fits period price (fillsAt m bids bought nb) (fillsAt m asks sold na) r₀ r i j a e count g F H li lj (fills-at m bids bought n nb fb i hi) (fills-at m asks sold n na fa j hj)
+    ask-in-range = ask-fits period price (fillsAt m bids bought nb) (fillsAt m asks sold na) r₀ r i j a e count g F H li lj
+        (fills-at m bids bought n nb fb i hi) (fills-at m asks sold n na fa j hj)
 
-    module _ (seller buyer q : ℕ) (r′ : List ℕ) (count′ : ℕ) (es : seller ≡ getD m (6 * getD asks j 0 + 1) 0) (eb : buyer ≡ getD m (6 * getD bids i 0 + 1) 0)
-        (eq : q ≡ min (a + getD bought i 0) (e + getD sold j 0) - max a e) (lr : length r′ ≡ length r) (w : Wrote period price seller buyer q r count r′ count′) where
-      pub bid-row : a + getD bought i 0 ≤ e + getD sold j 0 → Rowing period price (fillsAt m bids bought nb) (fillsAt m asks sold na) r₀ r′ (i + 1) j (a + getD bought i 0) e count′
+    module _ (seller buyer q : ℕ) (r′ : List ℕ) (count′ : ℕ) (es : seller ≡ getD m (6 * getD asks j 0 + 1) 0) (eb : buyer
+        ≡ getD m (6 * getD bids i 0 + 1) 0)
+        (eq : q ≡ min (a + getD bought i 0) (e + getD sold j 0) - max a e) (lr : length r′
+        ≡ length r) (w : Wrote period price seller buyer q r count r′ count′) where
+      pub bid-row : a + getD bought i 0 ≤ e + getD sold j 0 → Rowing period price (fillsAt m bids bought nb) (fillsAt m asks sold na) r₀ r′ (i + 1) j
+          (a + getD bought i 0) e count′
       bid-row h =
-          rowing-bid period price (fillsAt m bids bought nb) (fillsAt m asks sold na) r₀ r i j a e count g F H li lj (fills-at m bids bought n nb fb i hi) (fills-at m asks sold n na fa j hj)
+          rowing-bid period price (fillsAt m bids bought nb) (fillsAt m asks sold na) r₀ r i j a e count g F H li lj (fills-at m bids bought n nb fb i hi)
+          (fills-at m asks sold n na fa j hj)
           seller buyer q r′ count′ es eb eq lr w h
 
-      pub ask-row : e + getD sold j 0 ≤ a + getD bought i 0 → Rowing period price (fillsAt m bids bought nb) (fillsAt m asks sold na) r₀ r′ i (j + 1) a (e + getD sold j 0) count′
+      pub ask-row : e + getD sold j 0 ≤ a + getD bought i 0 → Rowing period price (fillsAt m bids bought nb) (fillsAt m asks sold na) r₀ r′ i (j + 1) a
+          (e + getD sold j 0) count′
       ask-row h =
-          rowing-ask period price (fillsAt m bids bought nb) (fillsAt m asks sold na) r₀ r i j a e count g F H li lj (fills-at m bids bought n nb fb i hi) (fills-at m asks sold n na fa j hj)
+          rowing-ask period price (fillsAt m bids bought nb) (fillsAt m asks sold na) r₀ r i j a e count g F H li lj (fills-at m bids bought n nb fb i hi)
+          (fills-at m asks sold n na fa j hj)
           seller buyer q r′ count′ es eb eq lr w h

@@ -21,13 +21,15 @@ spanAt a f = record { unit = f .order .unit; from = a; upto = a + f .amount }
 
 module _ (period price : ℕ) where
   -- what holds of each pair of spans, and of a quantity that is not 0, holds of each row
-  module _ (P : Row → Type 0) (S B : Span → Type 0) (row : (x y : Span) (q : ℕ) → B x → S y → 0 < q → P (record { way = 3; period = period; seller = y .unit; buyer = x .unit; quantity = q; price = price })) where
+  module _ (P : Row → Type 0) (S B : Span → Type 0) (row : (x y : Span) (q : ℕ) → B x → S y → 0 < q
+      → P (record { way = 3; period = period; seller = y .unit; buyer = x .unit; quantity = q; price = price })) where
     bid-each : (x : Span) (ys : List Span) → B x → Each S ys → Each P (rowsOfBid period price x ys)
     unfolding rowsOfBid
     bid-each x [] b e = tt
     bid-each x (y ∷ ys) b e =
         let ih = bid-each x ys b (e .1) in
-        cond-case (λ (l : List Row). Each P l) (eqb (overlap x y) 0) (rowsOfBid period price x ys) (record { way = 3; period = period; seller = y .unit; buyer = x .unit; quantity = overlap x y; price = price } ∷ rowsOfBid period price x ys)
+        cond-case (λ (l : List Row). Each P l) (eqb (overlap x y) 0) (rowsOfBid period price x ys)
+        (record { way = 3; period = period; seller = y .unit; buyer = x .unit; quantity = overlap x y; price = price } ∷ rowsOfBid period price x ys)
         (λ _. ih)
         (λ f. let n = eqb-false (overlap x y) 0 f in (row x y (overlap x y) b (e .0) (positive (overlap x y) n), ih))
       where
@@ -37,24 +39,35 @@ module _ (period price : ℕ) where
     pub rows-each : (xs ys : List Span) → Each B xs → Each S ys → Each P (overlapRows period price xs ys)
     unfolding overlapRows
     rows-each [] ys b s = tt
-    rows-each (x ∷ xs) ys b s = each-append P (rowsOfBid period price x ys) (overlapRows period price xs ys) (bid-each x ys (b .0) s) (rows-each xs ys (b .1) s)
+    rows-each (x ∷ xs) ys b s = each-append P (rowsOfBid period price x ys) (overlapRows period price xs ys) (bid-each x ys (b .0) s)
+        (rows-each xs ys (b .1) s)
 
   -- a sum over the rows by seller, buyer and quantity is a sum over the pairs of spans
   module _ (h : ℕ → ℕ → ℕ → ℕ) (none : (s b : ℕ) → h s b 0 ≡ 0) where
-    bid-sum : (x : Span) (ys : List Span) → sumOf (λ r. h (r .seller) (r .buyer) (r .quantity)) (rowsOfBid period price x ys) ≡ sumOf (λ y. h (y .unit) (x .unit) (overlap x y)) ys
+    bid-sum : (x : Span) (ys : List Span) → sumOf (λ r. h (r .seller) (r .buyer) (r .quantity)) (rowsOfBid period price x ys)
+        ≡ sumOf (λ y. h (y .unit) (x .unit) (overlap x y)) ys
     unfolding rowsOfBid
     bid-sum x [] = refl
     bid-sum x (y ∷ ys) =
         let ih = bid-sum x ys in
-        cond-case (λ (l : List Row). sumOf (λ r. h (r .seller) (r .buyer) (r .quantity)) l ≡ h (y .unit) (x .unit) (overlap x y) + sumOf (λ z. h (z .unit) (x .unit) (overlap x z)) ys)
-        (eqb (overlap x y) 0) (rowsOfBid period price x ys) (record { way = 3; period = period; seller = y .unit; buyer = x .unit; quantity = overlap x y; price = price } ∷ rowsOfBid period price x ys)
+        cond-case (λ (l : List Row). sumOf (λ r. h (r .seller) (r .buyer) (r .quantity)) l
+        ≡ h (y .unit) (x .unit) (overlap x y) + sumOf (λ z. h (z .unit) (x .unit) (overlap x z)) ys)
+        (eqb (overlap x y) 0) (rowsOfBid period price x ys) (record {
+          way = 3;
+          period = period;
+          seller = y .unit;
+          buyer = x .unit;
+          quantity = overlap x y;
+          price = price;
+        } ∷ rowsOfBid period price x ys)
         (λ f. let z : h (y .unit) (x .unit) (overlap x y) ≡ 0 = ap (h (y .unit) (x .unit)) (eqb-true (overlap x y) 0 f) ∙ none _ _ in ih ∙ zero-in z)
         (λ f. ap (λ (n : ℕ). h (y .unit) (x .unit) (overlap x y) + n) ih)
       where
         zero-in : {a b : ℕ} → a ≡ 0 → b ≡ a + b
         zero-in e = omega arith
 
-    pub rows-pairs : (xs ys : List Span) → sumOf (λ r. h (r .seller) (r .buyer) (r .quantity)) (overlapRows period price xs ys) ≡ sumOf (λ x. sumOf (λ y. h (y .unit) (x .unit) (overlap x y)) ys) xs
+    pub rows-pairs : (xs ys : List Span) → sumOf (λ r. h (r .seller) (r .buyer) (r .quantity)) (overlapRows period price xs ys)
+        ≡ sumOf (λ x. sumOf (λ y. h (y .unit) (x .unit) (overlap x y)) ys) xs
     unfolding overlapRows
     rows-pairs [] ys = refl
     rows-pairs (x ∷ xs) ys =
@@ -102,7 +115,8 @@ spans-each P a [] e = tt
 spans-each P a (f ∷ fs) e = (e .0, spans-each P (a + f .amount) fs (e .1))
 
 -- a sum over spans below v is one over fills
-spans-sum : (w : Span → ℕ) (k : Fill → ℕ) (v a : ℕ) (fs : List Fill) → ((c : ℕ) (f : Fill) → c + f .amount ≤ v → w (spanAt c f) ≡ k f) → a + amounts fs ≤ v → sumOf w (endToEnd a fs) ≡ sumOf k fs
+spans-sum : (w : Span → ℕ) (k : Fill → ℕ) (v a : ℕ) (fs : List Fill) → ((c : ℕ) (f : Fill) → c + f .amount ≤ v → w (spanAt c f) ≡ k f) → a + amounts fs ≤ v
+    → sumOf w (endToEnd a fs) ≡ sumOf k fs
 unfolding endToEnd
 spans-sum w k v a [] h le = refl
 spans-sum w k v a (f ∷ fs) h le = ap₂ (λ (m n : ℕ). m + n) (h a f (omega arith)) (spans-sum w k v (a + f .amount) fs h (omega arith))
@@ -125,7 +139,8 @@ module _ (period price v : ℕ) (fb fa : List Fill) (sb : amounts fb ≡ v) (sa 
   rows-bought u =
       rows-pairs period price (λ s b q. cond (eqb b u) q 0) (λ s b. same (eqb b u)) (endToEnd 0 fb) (endToEnd 0 fa)
       ∙ spans-sum (λ x. sumOf (λ y. cond (eqb (x .unit) u) (overlap x y) 0) (endToEnd 0 fa)) (λ f. cond (eqb (f .order .unit) u) (f .amount) 0) v 0 fb
-      (λ c f le. sumOf-when (eqb (f .order .unit) u) (λ y. overlap (spanAt c f) y) (endToEnd 0 fa) ∙ ap (λ (n : ℕ). cond (eqb (f .order .unit) u) n 0) (whole fa sa c f le))
+      (λ c f le. sumOf-when (eqb (f .order .unit) u) (λ y. overlap (spanAt c f) y) (endToEnd 0 fa)
+      ∙ ap (λ (n : ℕ). cond (eqb (f .order .unit) u) n 0) (whole fa sa c f le))
       (omega arith)
 
   -- and those in which it sells, to its asks' fills
@@ -137,7 +152,8 @@ module _ (period price v : ℕ) (fb fa : List Fill) (sb : amounts fb ≡ v) (sa 
       (λ c f le.
       sumOf-when (eqb (f .order .unit) u) (λ x. overlap x (spanAt c f)) (endToEnd 0 fb)
       ∙ ap (λ (n : ℕ). cond (eqb (f .order .unit) u) n 0)
-      (sumOf-ext (λ x. overlap x (spanAt c f)) (λ x. overlap (spanAt c f) x) (endToEnd 0 fb) (each-all (λ x. overlap x (spanAt c f) ≡ overlap (spanAt c f) x) (endToEnd 0 fb) (λ x. overlap-flip x (spanAt c f)))
+      (sumOf-ext (λ x. overlap x (spanAt c f)) (λ x. overlap (spanAt c f) x) (endToEnd 0 fb) (each-all (λ x. overlap x (spanAt c f)
+      ≡ overlap (spanAt c f) x) (endToEnd 0 fb) (λ x. overlap-flip x (spanAt c f)))
       ∙ whole fb sb c f le))
       (omega arith)
 

@@ -31,7 +31,11 @@ same-length c = search needs
 
 -- src/orders.rt:56:1
 returns : tie.Need-returns
-returns c = (left-at _ _ _ _ (c .pre .1) (c .pre .0), drop-set-lt (6 * c .args .n) (c .args .orders .now) (6 * c .args .k + 5) (c .args .q .0) (omega arith))
+returns c = (
+  left-at _ _ _ _ (c .pre .1) (c .pre .0),
+  drop-set-lt (6 * c .args .n) (c .args .orders .now) (6 * c .args .k + 5) (c .args .q .0)
+      (omega arith),
+)
 
 pub leave-spec : {M : Type 1} → statement M
 leave-spec =

@@ -88,8 +88,11 @@ same-length c = search needs
 -- src/orders.rt:71:1
 returns : tie.Need-returns
 returns c =
-    let a = c .args in
-    (order-written (a .orders .now) (a .n) (a .k) (orderOf (a .o)) (c .pre .1) (c .pre .0), past-written (a .orders .now) (a .n) (a .k) (orderOf (a .o)) (c .pre .1) (c .pre .0))
+    let a = c .args in (
+      order-written (a .orders .now) (a .n) (a .k) (orderOf (a .o)) (c .pre .1) (c .pre .0),
+      past-written (a .orders .now) (a .n) (a .k) (orderOf (a .o))
+          (c .pre .1) (c .pre .0),
+    )
 
 pub write-spec : {M : Type 1} → statement M
 write-spec =

@@ -3,7 +3,17 @@ use Prim.Native.Nat.{_+_, _-_, _≤_}
 use native.Mathlib.Omega.{arith}
 use Rattle.matching.specs.inner.Places.{fillsAt}
 use Rattle.matching.proofs.laws.orders.TakingLaws.{filling-below}
-use Rattle.matching.proofs.laws.rows.OverlapLaws.{Rowing, rowing-start, fills-amounts, bids-done, asks-done, bid-in-range, ask-in-range, bid-row, ask-row}
+use Rattle.matching.proofs.laws.rows.OverlapLaws.{
+  Rowing,
+  rowing-start,
+  fills-amounts,
+  bids-done,
+  asks-done,
+  bid-in-range,
+  ask-in-range,
+  bid-row,
+  ask-row,
+}
 use borrow.Author.Needs.{needs}
 use Rattle.matching.proofs.overlaps.put_overlaps.Statement.{statement}
 use Rattle.matching.proofs.overlaps.put_overlaps.Tie as tie
@@ -24,7 +34,9 @@ same-length : tie.Need-same-length Inv-loop μ-loop
 same-length c = c .before .before .loop .inv .2 .room
 
 returns : tie.Need-returns Inv-loop μ-loop
-returns c = asks-done _ _ _ _ _ _ _ _ _ _ (c .before .before .before .before .before .before .before .before .before .pre .4) (c .before .before .before .before .before .before .before .before .before .pre .5) _ _ _ _ _ _ _ (c .before .before .loop .inv .2) (omega arith)
+returns c =
+    let c9 = c .before .before .before .before .before .before .before .before .before in
+    asks-done _ _ _ _ _ _ _ _ _ _ (c9 .pre .4) (c9 .pre .5) _ _ _ _ _ _ _ (c .before .before .loop .inv .2) (omega arith)
 
 mul-x : tie.Need-mul-x Inv-loop μ-loop
 mul-x c = search needs
@@ -34,8 +46,9 @@ shared-slice-read-x c = search needs
 
 add-x : tie.Need-add-x Inv-loop μ-loop
 add-x c =
+    let c3 = c .before .before .before in
     let s = c .before .before .before .before .before .before .before .before .before .before in
-    let b = bid-in-range _ _ _ _ _ _ _ _ _ _ (s .pre .4) (s .pre .5) _ _ _ _ _ _ _ (c .before .before .before .loop .inv .2) (c .before .before .loop-test .taken) (omega arith) in
+    let b = bid-in-range _ _ _ _ _ _ _ _ _ _ (s .pre .4) (s .pre .5) _ _ _ _ _ _ _ (c3 .loop .inv .2) (c .before .before .loop-test .taken) (omega arith) in
     omega arith
 
 mul-y : tie.Need-mul-y Inv-loop μ-loop
@@ -46,8 +59,10 @@ shared-slice-read-y c = search needs
 
 add-y : tie.Need-add-y Inv-loop μ-loop
 add-y c =
+    let c3 = c .before .before .before in
+    let c4 = c3 .before in
     let s = c .before .before .before .before .before .before .before .before .before .before .before in
-    let b = ask-in-range _ _ _ _ _ _ _ _ _ _ (s .pre .4) (s .pre .5) _ _ _ _ _ _ _ (c .before .before .before .before .loop .inv .2) (c .before .before .before .loop-test .taken) (omega arith) in
+    let b = ask-in-range _ _ _ _ _ _ _ _ _ _ (s .pre .4) (s .pre .5) _ _ _ _ _ _ _ (c4 .loop .inv .2) (c3 .loop-test .taken) (omega arith) in
     omega arith
 
 mul-unit-at : tie.Need-mul-unit-at Inv-loop μ-loop
@@ -58,8 +73,9 @@ shared-slice-read-unit-at c = search needs
 
 unit-at-requires : tie.Need-unit-at-requires Inv-loop μ-loop
 unit-at-requires c κs =
+    let c5 = c .before .before .before .before .before in
     let s = c .before .before .before .before .before .before .before .before .before .before .before .before in
-    let b = filling-below _ _ _ _ (c .before .before .before .before .before .loop .i) (s .pre .4) (c .before .before .before .before .loop-test .taken) in
+    let b = filling-below _ _ _ _ (c5 .loop .i) (s .pre .4) (c .before .before .before .before .loop-test .taken) in
     omega arith
 
 mul-unit-at-2 : tie.Need-mul-unit-at-2 Inv-loop μ-loop
@@ -70,8 +86,9 @@ shared-slice-read-unit-at-2 c = search needs
 
 unit-at-requires-2 : tie.Need-unit-at-requires-2 Inv-loop μ-loop
 unit-at-requires-2 c κs =
+    let c7 = c .before .before .before .before .before .before .before in
     let s = c .before .before .before .before .before .before .before .before .before .before .before .before .before .before in
-    let b = filling-below _ _ _ _ (c .before .before .before .before .before .before .before .loop .j) (s .pre .5) (omega arith) in
+    let b = filling-below _ _ _ _ (c7 .loop .j) (s .pre .5) (omega arith) in
     omega arith
 
 shared-requires : tie.Need-shared-requires Inv-loop μ-loop
@@ -79,7 +96,8 @@ shared-requires c κs = search needs
 
 put-some-requires : tie.Need-put-some-requires Inv-loop μ-loop
 put-some-requires c κs =
-    let g = c .before .before .before .before .before .before .before .before .before .before .loop .inv .2 in
+    let c10 = c .before .before .before .before .before .before .before .before .before .before in
+    let g = c10 .loop .inv .2 in
     let l = g .room in
     let k = g .few in
     omega arith
@@ -92,12 +110,19 @@ loop-less c = search needs
 
 loop-again : tie.Need-loop-again Inv-loop μ-loop
 loop-again c =
-    let s = c .before .before .before .before .before .before .before .before .before .before .before .before .before .before .before .before .before .before .before .before .before in
+    let s = c .before .before .before .before .before .before .before .before .before .before .before .before .before .before .before .before .before
+    .before .before .before .before in
     let l = c .before .before .before .before .before .before .before .before .before .before .before .before .before .before .loop in (
       omega arith,
       omega arith,
-      bid-row _ _ _ _ _ _ _ _ _ _ (s .pre .4) (s .pre .5) _ _ _ _ _ _ _ (l .inv .2) (c .before .before .before .before .before .before .before .before .before .before .before .before .before .loop-test .taken) (omega arith)
-          (c .before .before .before .before .before .before .unit-at2 .result) (c .before .before .before .before .before .before .before .before .unit-at .result) (c .before .before .before .before .before .shared .result) _ _ (c .before .before .before .before .before .before .unit-at2 .ensures) (c .before .before .before .before .before .before .before .before .unit-at .ensures) (c .before .before .before .before .before .shared .ensures) (c .before .before .before .put-some .kept .0) (c .before .before .before .put-some .ensures) (c .if2 .taken),
+      bid-row _ _ _ _ _ _ _ _ _ _ (s .pre .4) (s .pre .5) _ _ _ _ _ _ _ (l .inv .2)
+          (c .before .before .before .before .before .before .before .before .before .before .before .before .before .loop-test .taken) (omega arith)
+          (c .before .before .before .before .before .before .unit-at2 .result)
+          (c .before .before .before .before .before .before .before .before .unit-at .result)
+          (c .before .before .before .before .before .shared .result) _ _ (c .before .before .before .before .before .before .unit-at2 .ensures)
+          (c .before .before .before .before .before .before .before .before .unit-at .ensures)
+          (c .before .before .before .before .before .shared .ensures) (c .before .before .before .put-some .kept .0)
+          (c .before .before .before .put-some .ensures) (c .if2 .taken),
     )
 
 add-j : tie.Need-add-j Inv-loop μ-loop
@@ -108,19 +133,28 @@ loop-less-2 c = search needs
 
 loop-again-2 : tie.Need-loop-again-2 Inv-loop μ-loop
 loop-again-2 c =
-    let s = c .before .before .before .before .before .before .before .before .before .before .before .before .before .before .before .before .before .before .before .before .before in
+    let s = c .before .before .before .before .before .before .before .before .before .before .before .before .before .before .before .before .before
+    .before .before .before .before in
     let l = c .before .before .before .before .before .before .before .before .before .before .before .before .before .before .loop in (
       omega arith,
       omega arith,
-      ask-row _ _ _ _ _ _ _ _ _ _ (s .pre .4) (s .pre .5) _ _ _ _ _ _ _ (l .inv .2) (c .before .before .before .before .before .before .before .before .before .before .before .before .before .loop-test .taken) (omega arith)
-          (c .before .before .before .before .before .before .unit-at2 .result) (c .before .before .before .before .before .before .before .before .unit-at .result) (c .before .before .before .before .before .shared .result) _ _ (c .before .before .before .before .before .before .unit-at2 .ensures) (c .before .before .before .before .before .before .before .before .unit-at .ensures) (c .before .before .before .before .before .shared .ensures) (c .before .before .before .put-some .kept .0) (c .before .before .before .put-some .ensures) (omega arith),
+      ask-row _ _ _ _ _ _ _ _ _ _ (s .pre .4) (s .pre .5) _ _ _ _ _ _ _ (l .inv .2)
+          (c .before .before .before .before .before .before .before .before .before .before .before .before .before .loop-test .taken) (omega arith)
+          (c .before .before .before .before .before .before .unit-at2 .result)
+          (c .before .before .before .before .before .before .before .before .unit-at .result)
+          (c .before .before .before .before .before .shared .result) _ _ (c .before .before .before .before .before .before .unit-at2 .ensures)
+          (c .before .before .before .before .before .before .before .before .unit-at .ensures)
+          (c .before .before .before .before .before .shared .ensures) (c .before .before .before .put-some .kept .0)
+          (c .before .before .before .put-some .ensures) (omega arith),
     )
 
 same-length-2 : tie.Need-same-length-2 Inv-loop μ-loop
 same-length-2 c = c .before .loop .inv .2 .room
 
 returns-2 : tie.Need-returns-2 Inv-loop μ-loop
-returns-2 c = bids-done _ _ _ _ _ _ _ _ _ _ (c .before .before .before .before .before .before .before .before .pre .4) (c .before .before .before .before .before .before .before .before .pre .5) _ _ _ _ _ _ _ (c .before .loop .inv .2) (omega arith)
+returns-2 c =
+    let c8 = c .before .before .before .before .before .before .before .before in
+    bids-done _ _ _ _ _ _ _ _ _ _ (c8 .pre .4) (c8 .pre .5) _ _ _ _ _ _ _ (c .before .loop .inv .2) (omega arith)
 
 pub put-overlaps-spec : {M : Type 1} → statement M
 put-overlaps-spec =

@@ -32,7 +32,10 @@ loop-less : tie.Need-loop-less Inv-loop μ-loop
 loop-less c = search needs
 
 loop-again : tie.Need-loop-again Inv-loop μ-loop
-loop-again c = closing-skip _ _ _ _ _ _ (c .before .before .before .before .before .before .pre .2) (c .before .before .loop-test .taken) (c .before .before .before .loop .inv) (c .if1 .taken)
+loop-again c =
+    let c3 = c .before .before .before in
+    let c6 = c3 .before .before .before in
+    closing-skip _ _ _ _ _ _ (c6 .pre .2) (c .before .before .loop-test .taken) (c3 .loop .inv) (c .if1 .taken)
 
 add-to : tie.Need-add-to Inv-loop μ-loop
 add-to c = search needs
@@ -44,7 +47,11 @@ loop-less-2 : tie.Need-loop-less-2 Inv-loop μ-loop
 loop-less-2 c = search needs
 
 loop-again-2 : tie.Need-loop-again-2 Inv-loop μ-loop
-loop-again-2 c = closing-stay _ _ _ _ _ _ (c .before .before .before .before .before .before .before .pre .2) (c .before .before .before .loop-test .taken) (c .before .before .before .before .loop .inv) (c .before .if1 .left) (c .if2 .taken)
+loop-again-2 c =
+    let c3 = c .before .before .before in
+    let c4 = c3 .before in
+    let c7 = c4 .before .before .before in
+    closing-stay _ _ _ _ _ _ (c7 .pre .2) (c3 .loop-test .taken) (c4 .loop .inv) (c .before .if1 .left) (c .if2 .taken)
 
 read-requires : tie.Need-read-requires Inv-loop μ-loop
 read-requires c κs = search needs
@@ -63,9 +70,15 @@ loop-less-3 c = search needs
 
 loop-again-3 : tie.Need-loop-again-3 Inv-loop μ-loop
 loop-again-3 c =
-    let l = c .before .before .before .before .before .before .before .before .before .before .loop in
-    closing-move _ _ _ _ _ _ (c .before .before .before .before .before .before .before .before .before .before .before .before .before .pre .2) (c .before .before .before .before .before .before .before .before .before .loop-test .taken) (l .inv) _ (c .before .before .before .before .before .before .before .if1 .left) (c .before .before .write .kept .0)
-    (c .before .before .write .ensures .0 ∙ ap (λ (o : Order). set (ordersIn (l .orders) (c .before .before .before .before .before .before .before .before .before .before .before .before .before .args .n)) (l .to) o) (c .before .before .before .before .read .ensures)) (c .before .before .write .ensures .1)
+    let c4 = c .before .before .before .before in
+    let c7 = c4 .before .before .before in
+    let c9 = c7 .before .before in
+    let c10 = c9 .before in
+    let c13 = c10 .before .before .before in
+    let l = c10 .loop in
+    closing-move _ _ _ _ _ _ (c13 .pre .2) (c9 .loop-test .taken) (l .inv) _ (c7 .if1 .left) (c .before .before .write .kept .0)
+    (c .before .before .write .ensures .0 ∙ ap (λ (o : Order). set (ordersIn (l .orders) (c13 .args .n)) (l .to) o) (c4 .read .ensures))
+    (c .before .before .write .ensures .1)
 
 same-length : tie.Need-same-length Inv-loop μ-loop
 same-length c = search needs

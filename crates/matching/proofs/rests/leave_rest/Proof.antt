@@ -21,7 +21,13 @@ same-length : tie.Need-same-length
 same-length c = search needs
 
 returns : tie.Need-returns
-returns c = (c .before .before .close-gaps .ensures .0 ∙ rest-left _ _ _ _ _ _ _ (c .before .before .before .before .before .before .before .before .before .before .before .before .before .before .pre .1) (c .before .before .before .before .before .before .before .before .take-fills .ensures), c .before .before .close-gaps .ensures .1 ∙ c .before .before .before .before .before .before .before .before .take-fills .ensures .past)
+returns c =
+    let c8 = c .before .before .before .before .before .before .before .before in
+    let c14 = c8 .before .before .before .before .before .before in (
+      c .before .before .close-gaps .ensures .0 ∙ rest-left _ _ _ _ _ _ _ (c14 .pre .1) (c8 .take-fills .ensures),
+      c .before .before .close-gaps .ensures .1
+          ∙ c8 .take-fills .ensures .past,
+    )
 
 pub leave-rest-spec : {M : Type 1} → statement M
 leave-rest-spec =

@@ -18,8 +18,9 @@ slice-aggregate-take-fills-2 c = search needs
 
 take-fills-requires-2 : tie.Need-take-fills-requires-2
 take-fills-requires-2 c κs =
+    let c5 = c .before .before .before .before .before in
     let s = c .before .before .before .before .before .before .before .before .before .before .before .before .before in
-    (omega arith, s .pre .1, omega arith, ap rising (c .before .before .before .before .before .take-fills .ensures .numbers) ∙ s .pre .2, s .pre .4)
+    (omega arith, s .pre .1, omega arith, ap rising (c5 .take-fills .ensures .numbers) ∙ s .pre .2, s .pre .4)
 
 slice-aggregate-close-gaps : tie.Need-slice-aggregate-close-gaps
 slice-aggregate-close-gaps c = search needs
@@ -32,9 +33,12 @@ same-length c = search needs
 
 returns : tie.Need-returns
 returns c =
-    let s = c .before .before .before .before .before .before .before .before .before .before .before .before .before .before .before .before .before .before .before .before .before .before in (
-      c .before .before .close-gaps .ensures .0 ∙ rests-left _ _ _ _ _ _ _ _ _ _ _ _ (s .pre .1) (s .pre .4) (c .before .before .before .before .before .before .before .before .before .before .before .before .before .before .take-fills .ensures) (c .before .before .before .before .before .before .before .before .take-fills2 .ensures),
-      c .before .before .close-gaps .ensures .1 ∙ c .before .before .before .before .before .before .before .before .take-fills2 .ensures .past ∙ c .before .before .before .before .before .before .before .before .before .before .before .before .before .before .take-fills .ensures .past,
+    let c8 = c .before .before .before .before .before .before .before .before in
+    let c14 = c8 .before .before .before .before .before .before in
+    let s = c14 .before .before .before .before .before .before .before .before in (
+      c .before .before .close-gaps .ensures .0 ∙ rests-left _ _ _ _ _ _ _ _ _ _ _ _ (s .pre .1) (s .pre .4) (c14 .take-fills .ensures)
+          (c8 .take-fills2 .ensures),
+      c .before .before .close-gaps .ensures .1 ∙ c8 .take-fills2 .ensures .past ∙ c14 .take-fills .ensures .past,
     )
 
 pub leave-rests-spec : {M : Type 1} → statement M

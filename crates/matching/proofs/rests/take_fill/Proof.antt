@@ -24,7 +24,8 @@ same-length-2 c = search needs
 returns : tie.Need-returns
 returns c =
     let s = c .before .before .before .before .before in
-    taken-whole (s .args .orders .now) (s .args .stands .now) (s .args .n) (s .args .p) (s .args .x) (s .pre .2) (s .pre .3) (s .pre .4) _ (ap (λ (o : Order). o .quantity) (c .before .read .ensures)) (c .if1 .taken)
+    taken-whole (s .args .orders .now) (s .args .stands .now) (s .args .n) (s .args .p) (s .args .x) (s .pre .2) (s .pre .3) (s .pre .4) _
+    (ap (λ (o : Order). o .quantity) (c .before .read .ensures)) (c .if1 .taken)
 
 sub-t16 : tie.Need-sub-t16
 sub-t16 c = search needs
@@ -37,8 +38,11 @@ same-length-3 c = search needs
 
 returns-2 : tie.Need-returns-2
 returns-2 c =
+    let c4 = c .before .before .before .before in
+    let c5 = c4 .before in
     let s = c .before .before .before .before .before .before .before .before .before in
-    taken-part (s .args .orders .now) (s .args .stands .now) (s .args .n) (s .args .p) (s .args .x) (s .pre .2) (s .pre .3) (s .pre .4) _ _ (ap (λ (o : Order). o .quantity) (c .before .before .before .before .before .read .ensures)) (c .before .before .before .before .if1 .left) (c .before .before .leave .ensures .0) (c .before .before .leave .ensures .1)
+    taken-part (s .args .orders .now) (s .args .stands .now) (s .args .n) (s .args .p) (s .args .x) (s .pre .2) (s .pre .3) (s .pre .4) _ _
+    (ap (λ (o : Order). o .quantity) (c5 .read .ensures)) (c4 .if1 .left) (c .before .before .leave .ensures .0) (c .before .before .leave .ensures .1)
 
 pub take-fill-spec : {M : Type 1} → statement M
 take-fill-spec =

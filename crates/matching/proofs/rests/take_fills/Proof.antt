@@ -31,9 +31,10 @@ shared-slice-read-x c = search needs
 
 take-fill-requires : tie.Need-take-fill-requires Inv-loop μ-loop
 take-fill-requires c κs =
+    let c5 = c .before .before .before .before .before in
     let s = c .before .before .before .before .before .before .before .before .before .before in
-    let g = c .before .before .before .before .before .loop .inv in
-    let b = filling-below _ _ _ _ (c .before .before .before .before .before .loop .i) (s .pre .4) (c .before .before .before .before .loop-test .taken) in
+    let g = c5 .loop .inv in
+    let b = filling-below _ _ _ _ (c5 .loop .i) (s .pre .4) (c .before .before .before .before .loop-test .taken) in
     let l = g .long in
     let k = g .marks in
     (omega arith, omega arith, omega arith, omega arith, ap rising (g .numbers) ∙ s .pre .3)
@@ -46,8 +47,12 @@ loop-less c = search needs
 
 loop-again : tie.Need-loop-again Inv-loop μ-loop
 loop-again c =
+    let c4 = c .before .before .before .before in
+    let c9 = c4 .before .before .before .before .before in
+    let c10 = c9 .before in
     let s = c .before .before .before .before .before .before .before .before .before .before .before .before .before .before .before in
-    taking-more _ _ _ _ _ _ _ _ _ (s .pre .4) (c .before .before .before .before .before .before .before .before .before .before .loop .inv) _ _ (c .before .before .before .before .before .before .before .before .before .loop-test .taken) (c .before .before .before .before .take-fill .kept .0) (c .before .before .before .before .take-fill .kept .1 .1 .0) (c .before .before .before .before .take-fill .ensures)
+    taking-more _ _ _ _ _ _ _ _ _ (s .pre .4) (c10 .loop .inv) _ _ (c9 .loop-test .taken) (c4 .take-fill .kept .0) (c4 .take-fill .kept .1 .1 .0)
+    (c4 .take-fill .ensures)
 
 same-length : tie.Need-same-length Inv-loop μ-loop
 same-length c = search needs
@@ -56,7 +61,9 @@ same-length-2 : tie.Need-same-length-2 Inv-loop μ-loop
 same-length-2 c = search needs
 
 returns : tie.Need-returns Inv-loop μ-loop
-returns c = taking-end _ _ _ _ _ _ _ _ _ (c .before .before .before .before .before .before .pre .4) (c .before .loop .inv) (omega arith)
+returns c =
+    let c6 = c .before .before .before .before .before .before in
+    taking-end _ _ _ _ _ _ _ _ _ (c6 .pre .4) (c .before .loop .inv) (omega arith)
 
 pub take-fills-spec : {M : Type 1} → statement M
 take-fills-spec =

@@ -24,10 +24,14 @@ same-length : tie.Need-same-length
 same-length c = search needs
 
 returns : tie.Need-returns
-returns c = (
-  least-of _ _ _ _ (c .before .before .before .before .before .least .ensures) (c .before .before .before .before .before .before .read .ensures),
-  λ m rs e h. c .before .before .put-row .ensures m rs e h ∙ ap (λ (r : Row). written m (rs ++ (r ∷ []))) (row-of _ _ _ _ _ (c .before .before .before .match-row .ensures) (c .before .before .before .before .before .before .read .ensures)),
-)
+returns c =
+    let c3 = c .before .before .before in
+    let c5 = c3 .before .before in
+    let c6 = c5 .before in (
+      least-of _ _ _ _ (c5 .least .ensures) (c6 .read .ensures),
+      λ m rs e h. c .before .before .put-row .ensures m rs e h ∙ ap (λ (r : Row). written m (rs ++ (r ∷ [])))
+          (row-of _ _ _ _ _ (c3 .match-row .ensures) (c6 .read .ensures)),
+    )
 
 pub match-at-spec : {M : Type 1} → statement M
 match-at-spec =

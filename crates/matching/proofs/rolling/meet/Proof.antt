@@ -28,7 +28,10 @@ same-length-4 : tie.Need-same-length-4
 same-length-4 c = search needs
 
 returns-2 : tie.Need-returns-2
-returns-2 c = meets-none _ _ _ _ _ (sym (c .before .before .before .before .fits2 .ensures) ∙ not-false _ (c .before .before .before .if1 .left)) (c .before .if2 .taken) refl
+returns-2 c =
+    let c3 = c .before .before .before in
+    let c4 = c3 .before in
+    meets-none _ _ _ _ _ (sym (c4 .fits2 .ensures) ∙ not-false _ (c3 .if1 .left)) (c .before .if2 .taken) refl
 
 slice-aggregate-meet-in-turn : tie.Need-slice-aggregate-meet-in-turn
 slice-aggregate-meet-in-turn c = search needs
@@ -38,7 +41,9 @@ slice-aggregate-meet-in-turn-2 c = search needs
 
 meet-in-turn-requires : tie.Need-meet-in-turn-requires
 meet-in-turn-requires c κs =
-    let f = fit-gives _ _ _ (sym (c .before .before .before .before .before .before .before .fits2 .ensures) ∙ not-false _ (c .before .before .before .before .before .before .if1 .left)) in
+    let c6 = c .before .before .before .before .before .before in
+    let c7 = c6 .before in
+    let f = fit-gives _ _ _ (sym (c7 .fits2 .ensures) ∙ not-false _ (c6 .if1 .left)) in
     let few = f .few in
     (f .inside, few, f .rises, omega arith, omega arith, omega arith, f .lent)
 
@@ -50,10 +55,13 @@ slice-aggregate-leave-rest-2 c = search needs
 
 leave-rest-requires : tie.Need-leave-rest-requires
 leave-rest-requires c κs =
-    let e = sym (c .before .before .before .before .before .before .before .before .before .before .before .before .before .before .before .fits2 .ensures) ∙ not-false _ (c .before .before .before .before .before .before .before .before .before .before .before .before .before .before .if1 .left) in
+    let c7 = c .before .before .before .before .before .before .before in
+    let c14 = c7 .before .before .before .before .before .before .before in
+    let c15 = c14 .before in
+    let e = sym (c15 .fits2 .ensures) ∙ not-false _ (c14 .if1 .left) in
     let f = fit-gives _ _ _ e in
     let few = f .few in
-    (f .inside, few, f .rises, turn-fills _ _ _ _ _ _ _ _ _ (c .before .before .before .before .before .before .before .meet-in-turn .ensures) e (omega arith) (omega arith))
+    (f .inside, few, f .rises, turn-fills _ _ _ _ _ _ _ _ _ (c7 .meet-in-turn .ensures) e (omega arith) (omega arith))
 
 same-length-5 : tie.Need-same-length-5
 same-length-5 c = search needs
@@ -63,7 +71,12 @@ same-length-6 c = search needs
 
 returns-3 : tie.Need-returns-3
 returns-3 c =
-    meets-turn _ _ _ _ _ _ _ _ _ (c .before .before .before .before .before .before .before .before .before .before .before .meet-in-turn .ensures) (sym (c .before .before .before .before .before .before .before .before .before .before .before .before .before .before .before .before .before .before .before .fits2 .ensures) ∙ not-false _ (c .before .before .before .before .before .before .before .before .before .before .before .before .before .before .before .before .before .before .if1 .left)) _ _ _ refl (c .before .before .before .leave-rest .ensures .0) (c .before .before .before .leave-rest .ensures .1)
+    let c3 = c .before .before .before in
+    let c11 = c3 .before .before .before .before .before .before .before .before in
+    let c18 = c11 .before .before .before .before .before .before .before in
+    let c19 = c18 .before in
+    meets-turn _ _ _ _ _ _ _ _ _ (c11 .meet-in-turn .ensures) (sym (c19 .fits2 .ensures)
+    ∙ not-false _ (c18 .if1 .left)) _ _ _ refl (c3 .leave-rest .ensures .0) (c3 .leave-rest .ensures .1)
 
 pub meet-spec : {M : Type 1} → statement M
 meet-spec =

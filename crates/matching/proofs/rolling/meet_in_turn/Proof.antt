@@ -53,8 +53,16 @@ meeting-holds : tie.Need-meeting-holds Inv-loop μ-loop Inv-meeting μ-meeting
 meeting-holds c =
     let s = c .before .before .before .before .before .before .before .before .before .before .before .before .before .before .before in
     let side = c .before .before .before .before .before .before .before .before .before .before .side-met .ensures in
-    let r = c .before .before .before .before .before .lay-runs .ensures in
-    (refl, refl, refl, omega arith, omega arith, meeting-begins _ _ _ _ _ _ _ _ _ _ _ _ _ _ (λ i. let w = c .before .before .before .before .before .before .before .before .before .before .before .before .before .before .shared-slice-known .given i in omega arith) (omega arith) (s .pre .3) (side .0) (side .1) (side .2) (r .0) (r .1))
+    let r = c .before .before .before .before .before .lay-runs .ensures in (
+      refl,
+      refl,
+      refl,
+      omega arith,
+      omega arith,
+      meeting-begins _ _ _ _ _ _ _ _ _ _ _ _ _ _
+          (λ i. let w = c .before .before .before .before .before .before .before .before .before .before .before .before .before .before .shared-slice-known
+          .given i in omega arith) (omega arith) (s .pre .3) (side .0) (side .1) (side .2) (r .0) (r .1),
+    )
 
 is-zero-requires : tie.Need-is-zero-requires Inv-loop μ-loop Inv-meeting μ-meeting
 is-zero-requires c κs = search needs
@@ -73,7 +81,8 @@ slice-aggregate-nearer-3 c = search needs
 
 nearer-requires : tie.Need-nearer-requires Inv-loop μ-loop Inv-meeting μ-meeting
 nearer-requires c κs =
-    let g = c .before .before .before .before .before .before .before .before .meeting .inv .5 in
+    let c8 = c .before .before .before .before .before .before .before .before in
+    let g = c8 .meeting .inv .5 in
     let few = g .runs .few in
     let e = g .runs .ended (c .before .before .before .before .loop .j) (c .before .before .before .loop-test .taken) in
     (omega arith, omega arith, omega arith)
@@ -86,9 +95,16 @@ loop-less c = search needs
 
 loop-again : tie.Need-loop-again Inv-loop μ-loop Inv-meeting μ-meeting
 loop-again c =
-    let s = c .before .before .before .before .before .before .before .before .before .before .before .before .before .before .before .before .before .before .before .before .before .before .before .before .before in
-    let g = c .before .before .before .before .before .before .before .before .before .meeting .inv .5 in
-    (omega arith, found-next _ _ _ _ _ _ _ _ _ (g .runs) (s .pre .2) (omega arith) _ (c .before .before .before .before .loop-test .taken) _ _ (c .before .before .before .before .before .loop .inv .1) _ _ (c .nearer .ensures .0) (c .nearer .ensures .1))
+    let c4 = c .before .before .before .before in
+    let c5 = c4 .before in
+    let c9 = c5 .before .before .before .before in
+    let c15 = c9 .before .before .before .before .before .before in
+    let s = c15 .before .before .before .before .before .before .before .before .before .before in
+    let g = c9 .meeting .inv .5 in (
+      omega arith,
+      found-next _ _ _ _ _ _ _ _ _ (g .runs) (s .pre .2) (omega arith) _ (c4 .loop-test .taken) _ _ (c5 .loop .inv .1) _ _
+          (c .nearer .ensures .0) (c .nearer .ensures .1),
+    )
 
 slice-aggregate-take-first :
     tie.Need-slice-aggregate-take-first Inv-loop μ-loop Inv-meeting μ-meeting
@@ -102,7 +118,8 @@ take-first-requires : tie.Need-take-first-requires Inv-loop μ-loop Inv-meeting 
 take-first-requires c κs =
     let g = c .before .before .before .before .before .before .before .before .before .meeting .inv .5 in
     let few = g .runs .few in
-    let f = found-whole _ _ _ _ _ _ _ _ (c .before .before .before .before .before .loop .j) _ _ (g .runs) (omega arith) (omega arith) (omega arith) (omega arith) (c .before .before .before .before .before .loop .inv .1) in
+    let f = found-whole _ _ _ _ _ _ _ _ (c .before .before .before .before .before .loop .j) _ _ (g .runs) (omega arith) (omega arith) (omega arith)
+    (omega arith) (c .before .before .before .before .before .loop .inv .1) in
     let w = meeting-room _ _ _ _ _ _ _ _ _ _ _ _ _ _ _ g _ 0 0 f (c .before .before .if2 .left) (omega arith) (omega arith) (omega arith) (omega arith) in
     (omega arith, omega arith, omega arith)
 
@@ -110,48 +127,83 @@ match-at-requires : tie.Need-match-at-requires Inv-loop μ-loop Inv-meeting μ-m
 match-at-requires c κs =
     let g = c .before .before .before .before .before .before .before .before .before .before .before .before .meeting .inv .5 in
     let few = g .runs .few in
-    let f = found-whole _ _ _ _ _ _ _ _ (c .before .before .before .before .before .before .before .before .loop .j) _ _ (g .runs) (omega arith) (omega arith) (omega arith) (omega arith) (c .before .before .before .before .before .before .before .before .loop .inv .1) in
-    let w = meeting-room _ _ _ _ _ _ _ _ _ _ _ _ _ _ _ g _ 0 0 f (c .before .before .before .before .before .if2 .left) (omega arith) (omega arith) (omega arith) (omega arith) in
+    let f = found-whole _ _ _ _ _ _ _ _ (c .before .before .before .before .before .before .before .before .loop .j) _ _ (g .runs) (omega arith)
+    (omega arith) (omega arith) (omega arith) (c .before .before .before .before .before .before .before .before .loop .inv .1) in
+    let w = meeting-room _ _ _ _ _ _ _ _ _ _ _ _ _ _ _ g _ 0 0 f (c .before .before .before .before .before .if2 .left) (omega arith) (omega arith)
+    (omega arith) (omega arith) in
     (omega arith, omega arith, omega arith, omega arith)
 
 mul-met : tie.Need-mul-met Inv-loop μ-loop Inv-meeting μ-meeting
-mul-met c = record { fits = omega (arith, c .before .before .before .before .before .before .before .before .before .before .before .before .before .before .meeting-test .taken, c .before .before .before .before .before .before .before .before .before .before .before .before .before .before .before .before .before .before .before .before .before .before .before .before .before .before .before .before .before .before .before .pre .1) }
+mul-met c =
+    let c14 = c .before .before .before .before .before .before .before .before .before .before .before .before .before .before in
+    let c24 = c14 .before .before .before .before .before .before .before .before .before .before in
+    let c31 = c24 .before .before .before .before .before .before .before in
+    record { fits = omega (arith, c14 .meeting-test .taken, c31 .pre .1) }
 
 slice-write-met : tie.Need-slice-write-met Inv-loop μ-loop Inv-meeting μ-meeting
-slice-write-met c = omega (arith, c .before .before .before .before .before .before .before .before .before .before .before .before .before .before .meeting-test .taken, c .before .before .before .before .before .before .before .before .before .before .before .before .before .before .before .before .before .before .before .before .before .before .before .before .before .before .before .before .before .before .before .pre .4, c .before .before .before .before .before .before .before .before .before .before .before .before .before .before .before .meeting .inv .0)
+slice-write-met c =
+    let c14 = c .before .before .before .before .before .before .before .before .before .before .before .before .before .before in
+    let c15 = c14 .before in
+    let c25 = c15 .before .before .before .before .before .before .before .before .before .before in
+    let c31 = c25 .before .before .before .before .before .before in
+    omega (arith, c14 .meeting-test .taken, c31 .pre .4, c15 .meeting .inv .0)
 
 mul-taken : tie.Need-mul-taken Inv-loop μ-loop Inv-meeting μ-meeting
-mul-taken c = record { fits = omega (arith, c .before .before .before .before .before .before .before .before .before .before .before .before .before .before .meeting-test .taken, c .before .before .before .before .before .before .before .before .before .before .before .before .before .before .before .before .before .before .before .before .before .before .before .before .before .before .before .before .before .before .before .pre .1) }
+mul-taken c =
+    let c14 = c .before .before .before .before .before .before .before .before .before .before .before .before .before .before in
+    let c24 = c14 .before .before .before .before .before .before .before .before .before .before in
+    let c31 = c24 .before .before .before .before .before .before .before in
+    record { fits = omega (arith, c14 .meeting-test .taken, c31 .pre .1) }
 
 slice-write-taken : tie.Need-slice-write-taken Inv-loop μ-loop Inv-meeting μ-meeting
-slice-write-taken c = omega (arith, c .before .before .before .before .before .before .before .before .before .before .before .before .before .before .meeting-test .taken, c .before .before .before .before .before .before .before .before .before .before .before .before .before .before .before .before .before .before .before .before .before .before .before .before .before .before .before .before .before .before .before .pre .5, c .before .before .before .before .before .before .before .before .before .before .before .before .before .before .before .meeting .inv .1)
+slice-write-taken c =
+    let c14 = c .before .before .before .before .before .before .before .before .before .before .before .before .before .before in
+    let c15 = c14 .before in
+    let c25 = c15 .before .before .before .before .before .before .before .before .before .before in
+    let c31 = c25 .before .before .before .before .before .before in
+    omega (arith, c14 .meeting-test .taken, c31 .pre .5, c15 .meeting .inv .1)
 
 minus-requires : tie.Need-minus-requires Inv-loop μ-loop Inv-meeting μ-meeting
 minus-requires c κs = search needs
 
 add-count : tie.Need-add-count Inv-loop μ-loop Inv-meeting μ-meeting
-add-count c = record { fits = omega (arith, c .before .before .before .before .before .before .before .before .before .before .before .before .before .before .before .meeting-test .taken, c .before .before .before .before .before .before .before .before .before .before .before .before .before .before .before .before .before .before .before .before .before .before .before .before .before .before .before .before .before .before .before .before .pre .1) }
+add-count c =
+    let c15 = c .before .before .before .before .before .before .before .before .before .before .before .before .before .before .before in
+    let c25 = c15 .before .before .before .before .before .before .before .before .before .before in
+    let c32 = c25 .before .before .before .before .before .before .before in
+    record { fits = omega (arith, c15 .meeting-test .taken, c32 .pre .1) }
 
 meeting-less : tie.Need-meeting-less Inv-loop μ-loop Inv-meeting μ-meeting
 meeting-less c = search needs
 
 meeting-again : tie.Need-meeting-again Inv-loop μ-loop Inv-meeting μ-meeting
 meeting-again c =
-    let s = c .before .before .before .before .before .before .before .before .before .before .before .before .before .before .before .before .before .before .before .before .before .before .before .before .before .before .before .before .before .before .before .before in
-    let i = c .before .before .before .before .before .before .before .before .before .before .before .before .before .before .before .before .meeting .inv in
+    let c3 = c .before .before .before in
+    let c6 = c3 .before .before .before in
+    let c9 = c6 .before .before .before in
+    let c11 = c9 .before .before in
+    let c12 = c11 .before in
+    let c13 = c12 .before in
+    let c14 = c13 .before in
+    let c16 = c14 .before .before in
+    let c22 = c16 .before .before .before .before .before .before in
+    let s = c22 .before .before .before .before .before .before .before .before .before .before in
+    let i = c16 .meeting .inv in
     let g = i .5 in
     let few = g .runs .few in
-    let f = found-whole _ _ _ _ _ _ _ _ (c .before .before .before .before .before .before .before .before .before .before .before .before .loop .j) _ _ (g .runs) (i .4) (omega (arith, i .3, s .pre .1)) (c .before .before .before .before .before .before .before .before .before .before .before .before .loop .inv .0) (omega (arith, c .before .before .before .before .before .before .before .before .before .before .before .loop-test .left)) (c .before .before .before .before .before .before .before .before .before .before .before .before .loop .inv .1) in
-    let t = c .before .before .before .before .before .before .take-first .ensures in
-    let y = c .before .before .before .match-at .ensures in (
+    let f = found-whole _ _ _ _ _ _ _ _ (c12 .loop .j) _ _ (g .runs) (i .4) (omega (arith, i .3, s .pre .1)) (c12 .loop .inv .0)
+    (omega (arith, c11 .loop-test .left)) (c12 .loop .inv .1) in
+    let t = c6 .take-first .ensures in
+    let y = c3 .match-at .ensures in (
       simp length-set (i .0),
       simp length-set (i .1),
-      omega (arith, c .before .before .before .match-at .kept .1 .1 .1 .1 .0, i .2),
-      omega (arith, c .before .before .before .before .before .before .take-first .kept .1 .0, i .3),
+      omega (arith, c3 .match-at .kept .1 .1 .1 .1 .0, i .2),
+      omega (arith, c6 .take-first .kept .1 .0, i .3),
       i .4,
       rw (c .minus .ensures)
-          (meeting-more _ _ _ _ _ _ _ _ _ _ _ _ _ _ _ g (c .before .before .before .before .before .before .before .before .before .before .before .before .loop .best .run) _ _ f (c .before .before .before .before .before .before .before .before .before .if2 .left) (i .4) (omega (arith, i .3, s .pre .1)) (omega (arith, s .pre .4, i .0)) (omega (arith, s .pre .5, i .1)) _ _
-          (eqb-false _ _ (sym (c .before .before .before .before .before .before .before .before .before .before .before .before .before .before .is-zero .ensures) ∙ c .before .before .before .before .before .before .before .before .before .before .before .before .before .if1 .left)) (t .0) (t .1) (y .0)
+          (meeting-more _ _ _ _ _ _ _ _ _ _ _ _ _ _ _ g (c12 .loop .best .run) _ _ f (c9 .if2 .left) (i .4) (omega (arith, i .3, s .pre .1))
+          (omega (arith, s .pre .4, i .0)) (omega (arith, s .pre .5, i .1)) _ _
+          (eqb-false _ _ (sym (c14 .is-zero .ensures) ∙ c13 .if1 .left)) (t .0) (t .1) (y .0)
           (y .1 (s .args .rows .now) (map (matchRow (orderOf (s .args .incoming))) (g .done)) (g .counted) (g .handed))),
     )
 
@@ -177,7 +229,9 @@ same-length-6 : tie.Need-same-length-6 Inv-loop μ-loop Inv-meeting μ-meeting
 same-length-6 c = search needs
 
 returns-2 : tie.Need-returns-2 Inv-loop μ-loop Inv-meeting μ-meeting
-returns-2 c = ends-spent _ _ _ _ _ _ _ _ _ _ _ _ _ _ _ (c .before .before .before .meeting .inv .5) (eqb-true _ _ (sym (c .before .is-zero .ensures) ∙ c .if1 .taken))
+returns-2 c =
+    let c3 = c .before .before .before in
+    ends-spent _ _ _ _ _ _ _ _ _ _ _ _ _ _ _ (c3 .meeting .inv .5) (eqb-true _ _ (sym (c .before .is-zero .ensures) ∙ c .if1 .taken))
 
 same-length-7 : tie.Need-same-length-7 Inv-loop μ-loop Inv-meeting μ-meeting
 same-length-7 c = search needs
@@ -190,9 +244,11 @@ same-length-9 c = search needs
 
 returns-3 : tie.Need-returns-3 Inv-loop μ-loop Inv-meeting μ-meeting
 returns-3 c =
-    let g = c .before .before .before .before .before .before .before .meeting .inv .5 in
+    let c3 = c .before .before .before in
+    let c7 = c3 .before .before .before .before in
+    let g = c7 .meeting .inv .5 in
     let few = g .runs .few in
-    let f = found-whole _ _ _ _ _ _ _ _ (c .before .before .before .loop .j) _ _ (g .runs) (omega arith) (omega arith) (omega arith) (omega arith) (c .before .before .before .loop .inv .1) in
+    let f = found-whole _ _ _ _ _ _ _ _ (c3 .loop .j) _ _ (g .runs) (omega arith) (omega arith) (omega arith) (omega arith) (c3 .loop .inv .1) in
     ends-alone _ _ _ _ _ _ _ _ _ _ _ _ _ _ _ g (f .none (c .if2 .taken))
 
 pub meet-in-turn-spec : {M : Type 1} → statement M
