@@ -22,13 +22,13 @@ abbrev pub noFigures : Figures
 noFigures = record { held = 0; raised = 0; lowered = 0; volume = 0; way = 0 }
 
 -- a unit, and its figures by period
-pub record Unit : Type 0 where
+pub record EnrolledUnit : Type 0 where
   pub kind : ℕ
   pub capacity : ℕ
   pub asset : ℕ
   pub figures : List Figures
 
-abbrev pub noUnit : Unit
+abbrev pub noUnit : EnrolledUnit
 noUnit = record { kind = 0; capacity = 0; asset = 0; figures = [] }
 
 -- "Offer: a unit, a partner or 0, a price, an amount for each period", under its number; `taken` is 1 once some of it
@@ -62,7 +62,7 @@ pub record Book : Type 0 where
   pub ceiling : ℕ
   pub phase : ℕ
   pub given : ℕ
-  pub units : List Unit
+  pub units : List EnrolledUnit
   pub offers : List OpenOffer
   pub orders : List OpenOrder
 
@@ -83,7 +83,7 @@ mostNumbers = 65_535
 abbrev pub known : Book → ℕ → Bool
 known b u = between 1 (length (b .units)) u
 
-abbrev pub unitOf : Book → ℕ → Unit
+abbrev pub unitOf : Book → ℕ → EnrolledUnit
 unitOf b u = getD (b .units) (u - 1) noUnit
 
 abbrev pub figuresOf : Book → ℕ → ℕ → Figures
@@ -114,7 +114,7 @@ abbrev pub orderOpen : Book → ℕ → Bool
 orderOpen b n = ltb 0 (length (ordersOf b n))
 
 -- a book with other units, offers, orders, phase or numbers
-abbrev pub withUnits : Book → List Unit → Book
+abbrev pub withUnits : Book → List EnrolledUnit → Book
 withUnits b us =
     record {
       days = b .days;

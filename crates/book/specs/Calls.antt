@@ -15,25 +15,25 @@ use Rattle.book.specs.Close.{closing}
 
 -- a call with its arguments; `lent` counts the numbers lent for rows
 pub data Call : Type 0 where
-  enrol : (kind capacity asset : ℕ) → Call
-  offer : (unit partner price : ℕ) (amounts : List ℕ) → Call
-  take : (unit number quantity lent : ℕ) → Call
-  withdraw : (unit number : ℕ) → Call
-  order : (unit direction period price quantity lent : ℕ) → Call
-  cancel : (unit number : ℕ) → Call
-  clear : (lent : ℕ) → Call
-  close : Call
+  callEnrol : (kind capacity asset : ℕ) → Call
+  callOffer : (unit partner price : ℕ) (amounts : List ℕ) → Call
+  callTake : (unit number quantity lent : ℕ) → Call
+  callWithdraw : (unit number : ℕ) → Call
+  callOrder : (unit direction period price quantity lent : ℕ) → Call
+  callCancel : (unit number : ℕ) → Call
+  callClear : (lent : ℕ) → Call
+  callClose : Call
 
 -- what a call gives on a book
 abbrev pub outcome : Book → Call → Outcome
-outcome b (enrol kind capacity asset) = enrolment b kind capacity asset
-outcome b (offer unit partner price amounts) = offering b unit partner price amounts
-outcome b (take unit number quantity lent) = taking b unit number quantity lent
-outcome b (withdraw unit number) = withdrawal b unit number
-outcome b (order unit direction period price quantity lent) = ordering b unit direction period price quantity lent
-outcome b (cancel unit number) = cancellation b unit number
-outcome b (clear lent) = clearing b lent
-outcome b close = closing b
+outcome b (callEnrol kind capacity asset) = enrolment b kind capacity asset
+outcome b (callOffer unit partner price amounts) = offering b unit partner price amounts
+outcome b (callTake unit number quantity lent) = taking b unit number quantity lent
+outcome b (callWithdraw unit number) = withdrawal b unit number
+outcome b (callOrder unit direction period price quantity lent) = ordering b unit direction period price quantity lent
+outcome b (callCancel unit number) = cancellation b unit number
+outcome b (callClear lent) = clearing b lent
+outcome b callClose = closing b
 
 -- what a caller is told: the refusal (0: none), the number and the rows
 pub record Answer : Type 0 where

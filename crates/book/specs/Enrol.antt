@@ -2,7 +2,7 @@
 use Prim.Native.Nat.{ℕ}
 use mathlib.Core.List.{List, [], _∷_, _++_}
 use lib.ListN.{length}
-use Rattle.book.specs.Book.{Unit, Book, withUnits, noTrades}
+use Rattle.book.specs.Book.{EnrolledUnit, Book, withUnits, noTrades}
 use Rattle.book.specs.Refusals.{Outcome, Check, firstOf, decided, accepted, unsound, badKind, badSize, unitsFull}
 
 abbrev pub enrolChecks : Book → ℕ → ℕ → ℕ → List Check

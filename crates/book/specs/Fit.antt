@@ -8,7 +8,7 @@ use Rattle.measures.specs.Lists.{holds, sumOf, sum, all}
 use Rattle.limits.specs.Units.{periods}
 use Rattle.limits.specs.Limits.{hourOf, hourLimit, termLimit, volumeLimit}
 use Rattle.matching.specs.Orders.{Order as OpenOrder}
-use Rattle.book.specs.Book.{Figures, Unit, OpenOffer, Book, unitOf, figuresOf}
+use Rattle.book.specs.Book.{Figures, EnrolledUnit, OpenOffer, Book, unitOf, figuresOf}
 use Rattle.book.specs.Trades.{raises, lowers}
 
 -- what a unit's open orders of a period come to, of those in a direction that f picks

@@ -12,7 +12,7 @@ use lib.Dec.{leb}
 use Rattle.measures.specs.Lists.{table}
 use Rattle.limits.specs.Units.{periods}
 use Rattle.matching.specs.Memory.{ordersIn}
-use Rattle.book.specs.Book.{Figures, Unit, OpenOffer, Book, net}
+use Rattle.book.specs.Book.{Figures, EnrolledUnit, OpenOffer, Book, net}
 use Rattle.book.specs.Opening.{bookWords}
 
 abbrev pub word : List ℕ → ℕ → ℕ
@@ -29,7 +29,7 @@ figuresAt m k p =
       way = word m (1780 + 328 * p + 5 * k);
     }
 
-abbrev pub unitAt : List ℕ → ℕ → ℕ → Unit
+abbrev pub unitAt : List ℕ → ℕ → ℕ → EnrolledUnit
 unitAt m days k =
     record { kind = word m (8 + 3 * k); capacity = word m (9 + 3 * k); asset = word m (10 + 3 * k); figures = table (periods days) (figuresAt m k) }
 

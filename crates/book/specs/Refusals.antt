@@ -149,19 +149,19 @@ abbrev pub clearInRolling : Book → Check
 clearInRolling b = check 14 (eqb (b .phase) rollingPhase)
 
 -- a unit's open orders of a period
-abbrev pub ordersIn : Book → ℕ → ℕ → List OpenOrder
-ordersIn b u p = keep (λ o. eqb (o .unit) u && eqb (o .period) p) (b .orders)
+abbrev pub ordersOfUnit : Book → ℕ → ℕ → List OpenOrder
+ordersOfUnit b u p = keep (λ o. eqb (o .unit) u && eqb (o .period) p) (b .orders)
 
 -- 15, day: "order: unit has an open order or a trade of way 3 or 4 today, same period, other direction"
 abbrev pub otherDirection : Book → ℕ → ℕ → ℕ → Check
 otherDirection b u d p =
     check 15
-    (ltb 0 (length (keep (λ o. not (eqb (o .direction) d)) (ordersIn b u p)))
+    (ltb 0 (length (keep (λ o. not (eqb (o .direction) d)) (ordersOfUnit b u p)))
     || cond (sells d) (eqb (figuresOf b u p .way) 2) (eqb (figuresOf b u p .way) 1))
 
 -- 16, day: "order in the call phase: unit has two open in that period"
 abbrev pub twoOpen : Book → ℕ → ℕ → Check
-twoOpen b u p = check 16 (eqb (b .phase) callPhase && leb 2 (length (ordersIn b u p)))
+twoOpen b u p = check 16 (eqb (b .phase) callPhase && leb 2 (length (ordersOfUnit b u p)))
 
 -- 17, tables: "8 offers or 256 orders already open, even if it would match"
 abbrev pub offersFull : Book → Check

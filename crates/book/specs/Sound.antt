@@ -9,7 +9,7 @@ use Rattle.measures.specs.Lists.{holds, every, all}
 use Rattle.measures.specs.Sharing.{total}
 use Rattle.limits.specs.Units.{daysIn, periods, periodIn, kindIn, generator, capacityIn, assetIn}
 use Rattle.matching.specs.Orders.{Order as OpenOrder, buys, sells, rising, numbers}
-use Rattle.book.specs.Book.{Figures, Unit, OpenOffer, Book, rollingPhase, mostUnits, mostOffers, mostOrders, mostNumbers, known, unitOf}
+use Rattle.book.specs.Book.{Figures, EnrolledUnit, OpenOffer, Book, rollingPhase, mostUnits, mostOffers, mostOrders, mostNumbers, known, unitOf}
 use Rattle.book.specs.Fit.{unitFits}
 
 -- "0 ≤ floor ≤ ceiling ≤ 10,000,000"
@@ -33,7 +33,7 @@ headIn b =
     ∷ leb (length (b .orders)) mostOrders
     ∷ [])
 
-unfoldable pub unitIn : ℕ → Unit → Bool
+unfoldable pub unitIn : ℕ → EnrolledUnit → Bool
 unitIn days u =
     holds
     (kindIn (u .kind)

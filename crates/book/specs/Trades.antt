@@ -6,7 +6,7 @@ use lib.ListN.{getD, set}
 use lib.Dec.{eqb, leb}
 use Rattle.limits.specs.Units.{generator}
 use Rattle.matching.specs.Orders.{Row, sells, buys}
-use Rattle.book.specs.Book.{Figures, noFigures, Unit, Book, unitOf, withUnits}
+use Rattle.book.specs.Book.{Figures, noFigures, EnrolledUnit, Book, unitOf, withUnits}
 
 -- "Raising is a generator's sale or a load's purchase; lowering is the other."
 abbrev pub raises : ℕ → ℕ → Bool
@@ -27,7 +27,7 @@ traded kind way direction q f =
     (record { held = f .held; raised = f .raised; lowered = f .lowered + q; volume = f .volume + q; way = wayAfter way direction (f .way) })
 
 -- the unit after such a trade in period p
-abbrev pub unitTraded : ℕ → ℕ → ℕ → ℕ → Unit → Unit
+abbrev pub unitTraded : ℕ → ℕ → ℕ → ℕ → EnrolledUnit → EnrolledUnit
 unitTraded way direction p q u =
     record {
       kind = u .kind;

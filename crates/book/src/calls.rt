@@ -24,15 +24,15 @@ ghost use mathlib.Core.List.{List, []};
 ghost use lib.ListN.{length};
 ghost use Rattle.book.specs.Contract.{Made, Curved};
 ghost use Rattle.book.specs.Calls.{
-  enrol as callEnrol,
-  offer as callOffer,
-  take as callTake,
-  withdraw as callWithdraw,
-  cancel as callCancel,
+  callEnrol,
+  callOffer,
+  callTake,
+  callWithdraw,
+  callCancel,
   close as
       callClose,
-  clear as callClear,
-  order as callOrder,
+  callClear,
+  callOrder,
 };
 
 // The 48 points of a unit on a day.

@@ -16,7 +16,7 @@ ghost use lib.Dec.{eqb};
 ghost use Rattle.measures.specs.Ranges.{mostEnergy};
 ghost use Rattle.measures.specs.Lists.{sum};
 ghost use Rattle.matching.specs.Orders.{leaving};
-ghost use Rattle.matching.specs.Memory.{orderOf, ordersIn};
+ghost use Rattle.matching.specs.Memory.{asOrder, ordersIn};
 ghost use Rattle.book.specs.Book.{numbered};
 ghost use Rattle.book.specs.Opening.{bookWords};
 ghost use Rattle.book.specs.Layout.{word, decode, ordersPart};
@@ -24,7 +24,7 @@ ghost use Rattle.book.specs.Refusals.{firstOf};
 ghost use Rattle.book.specs.inner.Readable.{Readable};
 ghost use Rattle.book.specs.Contract.{soundIn};
 ghost use Rattle.book.specs.Order.{orderChecks, newOrder, orderedInCall, waiting};
-ghost use Rattle.book.specs.inner.Ordering.{dayChecks, fitChecks, NameChecked, Named, ofUnitAt, againstAt, OrdersPut, Rolled, RolledOn};
+ghost use Rattle.book.specs.inner.Ordering.{dayChecks, orderFitChecks, NameChecked, Named, ofUnitAt, againstAt, OrdersPut, Rolled, RolledOn};
 
 // The checks of names, rows, price, energy, period and direction.
 fn order_names(
@@ -164,7 +164,7 @@ fn order_days(book: &[u64], unit: u64, direction: u64, period: u64) -> u64
 // The checks of the limits: the quantity stands alone in its period, raising or lowering.
 fn order_fit(book: &[u64], unit: u64, direction: u64, period: u64, quantity: u64) -> u64
     requires { ⌜ (soundIn (now book) ≡ true) × (Named (now book) unit direction period quantity) ⌝ }
-    ensures { λ r. ⌜ r ≡ firstOf (fitChecks (decode (now (book .entry))) unit direction period quantity) ⌝ }
+    ensures { λ r. ⌜ r ≡ firstOf (orderFitChecks (decode (now (book .entry))) unit direction period quantity) ⌝ }
 {
     let mut amounts = [0u64; 744];
     let mut zeros = [0u64; 744];
@@ -203,7 +203,7 @@ pub(crate) fn order_checks(
 fn append(book: &mut [u64], o: Order)
     requires { ⌜ (1776 ≤ length (now book)) × (word (now book) 7 < 256) ⌝ }
     ensures { λ _. ⌜ OrdersPut (now (book .entry)) (now (book .exit)) (ordersIn (ordersPart (now (book .entry))) (word (now (book .entry)) 7)
-        ++ (orderOf o ∷ [])) ⌝ }
+        ++ (asOrder o ∷ [])) ⌝ }
 {
     let n = book[7];
     matching::orders::write(&mut book[240..1776], n as usize + 1, n as usize, o);
@@ -256,7 +256,7 @@ struct Rest {
 // An order meets those that stand open.
 fn meet_orders(book: &mut [u64], o: Order, rows: &mut [u64]) -> Rest
     requires { ⌜ (soundIn (now book) ≡ true) × (4464 ≤ length (now rows)) ⌝ }
-    ensures { λ r. ⌜ Rolled (now (book .entry)) (now (book .exit)) (now (rows .entry)) (now (rows .exit)) (orderOf o) (r .left) (r .count) ⌝ }
+    ensures { λ r. ⌜ Rolled (now (book .entry)) (now (book .exit)) (now (rows .entry)) (now (rows .exit)) (asOrder o) (r .left) (r .count) ⌝ }
 {
     let n = book[7];
     let met = matching::rolling::meet(&mut book[240..1776], n as usize, o, rows);
@@ -276,7 +276,7 @@ fn meet_orders(book: &mut [u64], o: Order, rows: &mut [u64]) -> Rest
 fn rest_waits(book: &mut [u64], o: Order, left: u64)
     requires { ⌜ (1776 ≤ length (now book)) × (word (now book) 7 < 256) ⌝ }
     ensures { λ _. ⌜ OrdersPut (now (book .entry)) (now (book .exit)) (ordersIn (ordersPart (now (book .entry))) (word (now (book .entry)) 7)
-        ++ waiting (leaving (orderOf o) left)) ⌝ }
+        ++ waiting (leaving (asOrder o) left)) ⌝ }
 {
     if left == 0 {
         return;

@@ -6,7 +6,7 @@ ghost use lib.ListN.{length};
 ghost use Rattle.measures.specs.Sharing.{sharing, Is};
 ghost use Rattle.limits.specs.Limits.{limitsAt};
 ghost use Rattle.book.specs.Opening.{wordsFor};
-ghost use Rattle.book.specs.Calls.{enrol, offer, take, withdraw, order, cancel, clear, close};
+ghost use Rattle.book.specs.Calls.{callEnrol, callOffer, callTake, callWithdraw, callOrder, callCancel, callClear, callClose};
 ghost use Rattle.book.specs.Contract.{toldBy};
 ghost use Rattle.cenduxari.specs.Exports.{Called, Settled, BookOpened, CurveDrawn};
 
@@ -79,7 +79,7 @@ pub extern "C" fn cenduxari_enrol(
     asset: u64,
     out: &mut [u64; 2],
 ) -> u64
-    ensures { λ r. ⌜ Called (now (book .entry)) [] (enrol kind capacity asset) r (now (out .exit)) (now (book .exit)) [] ⌝ }
+    ensures { λ r. ⌜ Called (now (book .entry)) [] (callEnrol kind capacity asset) r (now (out .exit)) (now (book .exit)) [] ⌝ }
 {
     let answer = book::calls::enrol(book, kind, capacity, asset);
     *out = numbers_of(answer);
@@ -96,7 +96,7 @@ pub extern "C" fn cenduxari_offer(
     amounts: &[u64],
     out: &mut [u64; 2],
 ) -> u64
-    ensures { λ r. ⌜ Called (now (book .entry)) [] (offer unit partner price (now (amounts .entry))) r (now (out .exit)) (now (book .exit)) [] ⌝ }
+    ensures { λ r. ⌜ Called (now (book .entry)) [] (callOffer unit partner price (now (amounts .entry))) r (now (out .exit)) (now (book .exit)) [] ⌝ }
 {
     let answer = book::calls::offer(book, unit, partner, price, amounts);
     *out = numbers_of(answer);
@@ -113,7 +113,7 @@ pub extern "C" fn cenduxari_take(
     rows: &mut [u64],
     out: &mut [u64; 2],
 ) -> u64
-    ensures { λ r. ⌜ Called (now (book .entry)) (now (rows .entry)) (take unit number quantity (length (now (rows .entry)))) r (now (out .exit))
+    ensures { λ r. ⌜ Called (now (book .entry)) (now (rows .entry)) (callTake unit number quantity (length (now (rows .entry)))) r (now (out .exit))
         (now (book .exit)) (now (rows .exit)) ⌝ }
 {
     let answer = book::calls::take(book, unit, number, quantity, rows);
@@ -124,7 +124,7 @@ pub extern "C" fn cenduxari_take(
 // Removes an own offer of which nothing is taken.
 #[no_mangle]
 pub extern "C" fn cenduxari_withdraw(book: &mut [u64], unit: u64, number: u64) -> u64
-    ensures { λ r. ⌜ Settled (now (book .entry)) (withdraw unit number) r (now (book .exit)) ⌝ }
+    ensures { λ r. ⌜ Settled (now (book .entry)) (callWithdraw unit number) r (now (book .exit)) ⌝ }
 {
     let answer = book::calls::withdraw(book, unit, number);
     refusal_of(answer)
@@ -142,7 +142,7 @@ pub extern "C" fn cenduxari_order(
     rows: &mut [u64],
     out: &mut [u64; 2],
 ) -> u64
-    ensures { λ r. ⌜ Called (now (book .entry)) (now (rows .entry)) (order unit direction period price quantity (length (now (rows .entry)))) r
+    ensures { λ r. ⌜ Called (now (book .entry)) (now (rows .entry)) (callOrder unit direction period price quantity (length (now (rows .entry)))) r
         (now (out .exit)) (now (book .exit)) (now (rows .exit)) ⌝ }
 {
     let answer = book::calls::order(book, unit, direction, period, price, quantity, rows);
@@ -153,7 +153,7 @@ pub extern "C" fn cenduxari_order(
 // Removes what is left of an own order.
 #[no_mangle]
 pub extern "C" fn cenduxari_cancel(book: &mut [u64], unit: u64, number: u64) -> u64
-    ensures { λ r. ⌜ Settled (now (book .entry)) (cancel unit number) r (now (book .exit)) ⌝ }
+    ensures { λ r. ⌜ Settled (now (book .entry)) (callCancel unit number) r (now (book .exit)) ⌝ }
 {
     let answer = book::calls::cancel(book, unit, number);
     refusal_of(answer)
@@ -162,7 +162,7 @@ pub extern "C" fn cenduxari_cancel(book: &mut [u64], unit: u64, number: u64) -> 
 // Clears each period of the call phase, and begins the rolling phase.
 #[no_mangle]
 pub extern "C" fn cenduxari_clear(book: &mut [u64], rows: &mut [u64], out: &mut [u64; 2]) -> u64
-    ensures { λ r. ⌜ Called (now (book .entry)) (now (rows .entry)) (clear (length (now (rows .entry)))) r (now (out .exit)) (now (book .exit))
+    ensures { λ r. ⌜ Called (now (book .entry)) (now (rows .entry)) (callClear (length (now (rows .entry)))) r (now (out .exit)) (now (book .exit))
         (now (rows .exit)) ⌝ }
 {
     let answer = book::calls::clear(book, rows);
@@ -173,7 +173,7 @@ pub extern "C" fn cenduxari_clear(book: &mut [u64], rows: &mut [u64], out: &mut 
 // Closes the day.
 #[no_mangle]
 pub extern "C" fn cenduxari_close(book: &mut [u64]) -> u64
-    ensures { λ r. ⌜ Settled (now (book .entry)) close r (now (book .exit)) ⌝ }
+    ensures { λ r. ⌜ Settled (now (book .entry)) callClose r (now (book .exit)) ⌝ }
 {
     let answer = book::calls::close(book);
     refusal_of(answer)

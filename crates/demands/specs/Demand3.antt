@@ -21,8 +21,8 @@ use Rattle.demands.specs.Tally.{Member, Amounts, Tally, opened, tallied}
 abbrev pub memberOf : Tally → ℕ → Member
 memberOf t u = getD (t .units) (u - 1) (record { kind = 0; capacity = 0; asset = 0 })
 
-abbrev pub enrolled : Tally → ℕ → Bool
-enrolled t u = between 1 (length (t .units)) u
+abbrev pub isMember : Tally → ℕ → Bool
+isMember t u = between 1 (length (t .units)) u
 
 -- what a unit sold and bought in a period, by the rows
 unfoldable pub sold : Tally → ℕ → ℕ → ℕ
@@ -84,14 +84,14 @@ pub record Bounded (t : Tally) (x : Part t) (u : ℕ) : Type 0 where
 
 pub record Demand3 (t : Tally) (b : Book) : Type 0 where
   -- "nets and volumes are what the rows sum to"
-  pub nets : (u : ℕ) → enrolled t u ≡ true → (p : ℕ) → p < periods (t .days) → net (figuresOf b u p) ≡ netOf t u p
-  pub volumes : (u : ℕ) → enrolled t u ≡ true → sum (periods (t .days)) (λ p. figuresOf b u p .volume) ≡ volumeOf t u
+  pub nets : (u : ℕ) → isMember t u ≡ true → (p : ℕ) → p < periods (t .days) → net (figuresOf b u p) ≡ netOf t u p
+  pub volumes : (u : ℕ) → isMember t u ≡ true → sum (periods (t .days)) (λ p. figuresOf b u p .volume) ≡ volumeOf t u
   -- "generators' nets total loads' nets in every hour"
   pub balance : (p : ℕ) → p < periods (t .days) → netsOf generator t p ≡ netsOf (λ kind. not (generator kind)) t p
   -- "whatever part of the open amounts still trades, nets stay within 0 and the hour limit, term and volume limits hold"
-  pub bounds : (x : Part t) (u : ℕ) → enrolled t u ≡ true → Bounded t x u
+  pub bounds : (x : Part t) (u : ℕ) → isMember t u ≡ true → Bounded t x u
   -- "each hour's two curve points sum to the net and differ by at most 1"
-  pub curves : (u day : ℕ) → enrolled t u ≡ true → day < t .days → (h : ℕ) → h < 24
+  pub curves : (u day : ℕ) → isMember t u ≡ true → day < t .days → (h : ℕ) → h < 24
       → (getD (points b u day) (2 * h) 0 + getD (points b u day) (2 * h + 1) 0 ≡ netOf t u (24 * day + h))
       × (getD (points b u day) (2 * h) 0 ≤ getD (points b u day) (2 * h + 1) 0)
       × (getD (points b u day) (2 * h + 1) 0 ≤ getD (points b u day) (2 * h) 0 + 1)

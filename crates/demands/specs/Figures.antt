@@ -9,7 +9,7 @@ use Rattle.matching.specs.Orders.{Row}
 use Rattle.matching.specs.Figures.{Figure2, Figure3, Figure4}
 use Rattle.book.specs.Opening.{fresh, openingRefusal, bookWords}
 use Rattle.book.specs.Curve.{firstHalf, secondHalf}
-use Rattle.book.specs.Calls.{Call, enrol, offer, take, withdraw, order, cancel, clear, close, Answer, answers}
+use Rattle.book.specs.Calls.{Call, callEnrol, callOffer, callTake, callWithdraw, callOrder, callCancel, callClear, callClose, Answer, answers}
 
 -- answers: accepted with a number and rows, or refused
 abbrev pub ok : ℕ → List Row → Answer
@@ -24,7 +24,7 @@ inHour h q = replicate h 0 ++ q ∷ replicate (Prim.Native.Nat._-_ 23 h) 0
 
 -- an order of unit 1 at price 5 with enough rows lent
 abbrev pub order1 : ℕ → ℕ → ℕ → Call
-order1 direction period quantity = order 1 direction period 5 quantity 4_464
+order1 direction period quantity = callOrder 1 direction period 5 quantity 4_464
 
 abbrev pub On1Day : List Call → List Answer → Type 0
 On1Day cs expected = answers (fresh 1 0 1_000_000) cs ≡ expected
@@ -33,7 +33,7 @@ On1Day cs expected = answers (fresh 1 0 1_000_000) cs ≡ expected
 abbrev pub Figure5 : Type 0
 Figure5 =
     AllLimited figure5
-    × On1Day (enrol 2 100 0 ∷ order1 0 8 101 ∷ order1 0 8 100 ∷ []) (ok 1 [] ∷ no 19 ∷ ok 1 [] ∷ [])
+    × On1Day (callEnrol 2 100 0 ∷ order1 0 8 101 ∷ order1 0 8 100 ∷ []) (ok 1 [] ∷ no 19 ∷ ok 1 [] ∷ [])
 
 -- "Kind 1, 100 kW, one day: hours 5 and 20 give 19 for 1 kWh; 6 and 19 take 100. After 1,000 open, 1 more that fits its
 -- hour gives 20."
@@ -41,7 +41,7 @@ abbrev pub Figure6 : Type 0
 Figure6 =
     AllLimited figure6
     × On1Day
-    (enrol 1 100 0 ∷ order1 0 5 1 ∷ order1 0 20 1 ∷ order1 0 6 100 ∷ order1 0 19 100
+    (callEnrol 1 100 0 ∷ order1 0 5 1 ∷ order1 0 20 1 ∷ order1 0 6 100 ∷ order1 0 19 100
     ∷ map (λ h. order1 0 h 100) (7 ∷ 8 ∷ 9 ∷ 10 ∷ 11 ∷ 12 ∷ 13 ∷ 14 ∷ []) ++ (order1 0 15 1 ∷ []))
     (ok 1 [] ∷ no 19 ∷ no 19 ∷ ok 1 [] ∷ ok 2 []
     ∷ map (λ n. ok n []) (3 ∷ 4 ∷ 5 ∷ 6 ∷ 7 ∷ 8 ∷ 9 ∷ 10 ∷ []) ++ (no 20 ∷ []))
@@ -51,7 +51,7 @@ Figure6 =
 abbrev pub Figure7 : Type 0
 Figure7 =
     On1Day
-    (enrol 2 100 0 ∷ enrol 3 100 0 ∷ offer 1 0 5 (inHour 8 100) ∷ take 2 1 100 4_464 ∷ order1 1 8 1 ∷ close ∷ order1 1 8 100 ∷ [])
+    (callEnrol 2 100 0 ∷ callEnrol 3 100 0 ∷ callOffer 1 0 5 (inHour 8 100) ∷ callTake 2 1 100 4_464 ∷ order1 1 8 1 ∷ callClose ∷ order1 1 8 100 ∷ [])
     (ok 1 [] ∷ ok 2 [] ∷ ok 1 []
     ∷ ok 0 (record { way = 2; period = 8; seller = 1; buyer = 2; quantity = 100; price = 5 } ∷ [])
     ∷ no 19 ∷ ok 0 [] ∷ ok 1 [] ∷ [])
@@ -68,7 +68,7 @@ abbrev pub Transcript : Type 0
 Transcript =
     (openingRefusal (bookWords 1) 1 0 1_000_000 ≡ 0)
     × On1Day
-    (enrol 2 100 0 ∷ enrol 3 100 0 ∷ clear 4_464 ∷ order 1 0 8 455_000 5 4_464 ∷ order 2 1 8 460_000 7 4_464 ∷ close ∷ [])
+    (callEnrol 2 100 0 ∷ callEnrol 3 100 0 ∷ callClear 4_464 ∷ callOrder 1 0 8 455_000 5 4_464 ∷ callOrder 2 1 8 460_000 7 4_464 ∷ callClose ∷ [])
     (ok 1 [] ∷ ok 2 [] ∷ ok 0 [] ∷ ok 1 []
     ∷ ok 2 (record { way = 4; period = 8; seller = 1; buyer = 2; quantity = 5; price = 455_000 } ∷ [])
     ∷ ok 0 [] ∷ [])

@@ -9,7 +9,7 @@ use Rattle.limits.specs.Units.{periods}
 use Rattle.matching.specs.Orders.{Order as OpenOrder, Row, buys, less, orderWith}
 use Rattle.matching.specs.Clearing.{Cleared}
 use Rattle.book.specs.Clear.{clearFrom}
-use Rattle.book.specs.Calls.{Call, enrol, offer, take, withdraw, order, cancel, clear, close, Answer}
+use Rattle.book.specs.Calls.{Call, callEnrol, callOffer, callTake, callWithdraw, callOrder, callCancel, callClear, callClose, Answer}
 
 -- a unit with the fields given at its enrol
 pub record Member : Type 0 where
@@ -76,7 +76,7 @@ orderLeft n u d p price q rs =
 -- one accepted call
 unfoldable pub accounted : Tally → Call → Answer → Tally
 -- "Enrol: the next unit, with the fields given."
-accounted t (enrol kind capacity asset) a =
+accounted t (callEnrol kind capacity asset) a =
     record {
       days = t .days;
       units = t .units ++ (record { kind = kind; capacity = capacity; asset = asset } ∷ []);
@@ -86,7 +86,7 @@ accounted t (enrol kind capacity asset) a =
       orders = t .orders;
     }
 -- "Offer: its amounts are open under its number."
-accounted t (offer unit partner price amounts) a =
+accounted t (callOffer unit partner price amounts) a =
     record {
       days = t .days;
       units = t .units;
@@ -95,10 +95,10 @@ accounted t (offer unit partner price amounts) a =
           ++ (record { number = a .number; unit = unit; amounts = amounts } ∷ []);
       orders = t .orders;
     }
-accounted t (take unit number quantity lent) a =
+accounted t (callTake unit number quantity lent) a =
     record { days = t .days; units = t .units; rows = t .rows ++ a .rows; offers = takeTallied number (a .rows) (t .offers); orders = t .orders }
 -- "Withdraw, cancel: the named number is gone."
-accounted t (withdraw unit number) a =
+accounted t (callWithdraw unit number) a =
     record {
       days = t .days;
       units = t .units;
@@ -107,7 +107,7 @@ accounted t (withdraw unit number) a =
       offers = keep (λ o. not (eqb (o .number) number)) (t .offers);
       orders = t .orders;
     }
-accounted t (order unit direction period price quantity lent) a =
+accounted t (callOrder unit direction period price quantity lent) a =
     record {
       days = t .days;
       units = t .units;
@@ -116,7 +116,7 @@ accounted t (order unit direction period price quantity lent) a =
       orders = orderTallied direction (a .rows) (t .orders)
           ++ orderLeft (a .number) unit direction period price quantity (a .rows);
     }
-accounted t (cancel unit number) a =
+accounted t (callCancel unit number) a =
     record {
       days = t .days;
       units = t .units;
@@ -126,10 +126,10 @@ accounted t (cancel unit number) a =
       orders = keep (λ o. not (eqb (o .number) number)) (t .orders);
     }
 -- "Clear: each open order loses the fill that the rule for clear gives it, worked out from the tally's open orders."
-accounted t (clear lent) a =
+accounted t (callClear lent) a =
     record { days = t .days; units = t .units; rows = t .rows ++ a .rows; offers = t .offers; orders = clearFrom 0 (periods (t .days)) (t .orders) .orders }
 -- "Close: nothing is open."
-accounted t close a =
+accounted t callClose a =
     record { days = t .days; units = t .units; rows = t .rows ++ a .rows; offers = []; orders = [] }
 
 -- "Refused: nothing changes."

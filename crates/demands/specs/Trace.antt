@@ -5,24 +5,24 @@ use mathlib.Core.Bool.{true}
 use mathlib.Core.List.{List, []}
 use lib.ListN.{length, getD}
 use Rattle.book.specs.declared.Answer.{Answer}
-use Rattle.book.specs.Calls.{Call, enrol, offer, take, withdraw, order, cancel, clear, close}
+use Rattle.book.specs.Calls.{Call, callEnrol, callOffer, callTake, callWithdraw, callOrder, callCancel, callClear, callClose}
 use Rattle.book.specs.Calls.{Answer as Heard}
 use Rattle.book.specs.Contract.{Told, toldBy, Made, Opened, Curved}
 use Rattle.book.specs.Layout.{decode}
 use Rattle.book.specs.inner.RowsIn.{rowsIn}
 use Rattle.demands.specs.Tally.{Tally, opened, tallied}
-use Rattle.demands.specs.Demand3.{Demand3, enrolled, netOf}
+use Rattle.demands.specs.Demand3.{Demand3, isMember, netOf}
 
 -- the rows that a call is lent: its own count of numbers, or none
 abbrev pub Lent : Call → List ℕ → List ℕ → Type 0
-Lent (enrol kind capacity asset) rows rows′ = (rows ≡ []) × (rows′ ≡ [])
-Lent (offer unit partner price amounts) rows rows′ = (rows ≡ []) × (rows′ ≡ [])
-Lent (take unit number quantity lent) rows rows′ = lent ≡ length rows
-Lent (withdraw unit number) rows rows′ = (rows ≡ []) × (rows′ ≡ [])
-Lent (order unit direction period price quantity lent) rows rows′ = lent ≡ length rows
-Lent (cancel unit number) rows rows′ = (rows ≡ []) × (rows′ ≡ [])
-Lent (clear lent) rows rows′ = lent ≡ length rows
-Lent close rows rows′ = (rows ≡ []) × (rows′ ≡ [])
+Lent (callEnrol kind capacity asset) rows rows′ = (rows ≡ []) × (rows′ ≡ [])
+Lent (callOffer unit partner price amounts) rows rows′ = (rows ≡ []) × (rows′ ≡ [])
+Lent (callTake unit number quantity lent) rows rows′ = lent ≡ length rows
+Lent (callWithdraw unit number) rows rows′ = (rows ≡ []) × (rows′ ≡ [])
+Lent (callOrder unit direction period price quantity lent) rows rows′ = lent ≡ length rows
+Lent (callCancel unit number) rows rows′ = (rows ≡ []) × (rows′ ≡ [])
+Lent (callClear lent) rows rows′ = lent ≡ length rows
+Lent callClose rows rows′ = (rows ≡ []) × (rows′ ≡ [])
 
 -- a list of calls from the memory m to the memory x, "whatever the arguments and lent rows": each on the memory that the
 -- last one left, with its answer and the rows as they stand at its return, and what its contract promises
@@ -45,7 +45,7 @@ pub record Claimed (t : Tally) (x : List ℕ) : Type 0 where
   pub book : Demand3 t (decode x)
   -- "Curves are called after the list, for any enrolled unit and any day of the term, 48 numbers lent": each hour's two
   -- points sum to the net from the rows and differ by at most 1
-  pub curves : (u day : ℕ) (pts : List ℕ) (a : Answer) (pts′ : List ℕ) → enrolled t u ≡ true → day < t .days → 48 ≤ length pts → Curved x pts u day a pts′
+  pub curves : (u day : ℕ) (pts : List ℕ) (a : Answer) (pts′ : List ℕ) → isMember t u ≡ true → day < t .days → 48 ≤ length pts → Curved x pts u day a pts′
       → (toldBy a .refusal ≡ 0)
       × ((h : ℕ) → h < 24 → (getD pts′ (2 * h) 0 + getD pts′ (2 * h + 1) 0 ≡ netOf t u (24 * day + h))
       × (getD pts′ (2 * h) 0 ≤ getD pts′ (2 * h + 1) 0)

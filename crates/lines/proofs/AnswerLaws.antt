@@ -17,7 +17,7 @@ use Rattle.book.specs.Refusals.{Outcome}
 use Rattle.book.specs.declared.Answer.{Answer}
 use Rattle.book.specs.Layout.{decode}
 use Rattle.book.specs.Opening.{fresh, openingRefusal}
-use Rattle.book.specs.Calls.{Call, enrol, offer, take as callTake, withdraw, order, cancel, clear, close}
+use Rattle.book.specs.Calls.{Call, callEnrol, callOffer, callTake, callWithdraw, callOrder, callCancel, callClear, callClose}
 use Rattle.book.specs.Contract.{Told, Made, Opened, toldBy, outcomeOn}
 use Rattle.lines.specs.Lines.{Line, unknown, opening, calling, countOf, isCall, callOf, lineOf, called}
 use Rattle.lines.specs.Printed.{spaced, printedRows, printedOk, printedNo}
@@ -94,12 +94,12 @@ module _ (l n : ℕ) (ns : List ℕ) (e : n ≡ countOf l) (long : length ns ≡
   call-kept : callOf l (take n ns) ≡ callOf l ns
   unfolding callOf countOf
   call-kept =
-      cond-same (eqb l 69) _ _ _ _ (λ h. three-kept enrol (counts 69 h))
-      (cond-same (eqb l 76) _ _ _ _ (λ h. ap (λ (x : List ℕ). offer (getD x 0 0) (getD x 1 0) (getD x 2 0) (drop 3 x)) (all-kept (counts 76 h)))
+      cond-same (eqb l 69) _ _ _ _ (λ h. three-kept callEnrol (counts 69 h))
+      (cond-same (eqb l 76) _ _ _ _ (λ h. ap (λ (x : List ℕ). callOffer (getD x 0 0) (getD x 1 0) (getD x 2 0) (drop 3 x)) (all-kept (counts 76 h)))
       (cond-same (eqb l 84) _ _ _ _ (λ h. three-kept (λ u k q. callTake u k q 4_464) (counts 84 h))
-      (cond-same (eqb l 87) _ _ _ _ (λ h. two-kept withdraw (counts 87 h))
-      (cond-same (eqb l 82) _ _ _ _ (λ h. five-kept (λ u d p price q. order u d p price q 4_464) (counts 82 h))
-      (cond-same (eqb l 88) _ _ _ _ (λ h. two-kept cancel (counts 88 h))
+      (cond-same (eqb l 87) _ _ _ _ (λ h. two-kept callWithdraw (counts 87 h))
+      (cond-same (eqb l 82) _ _ _ _ (λ h. five-kept (λ u d p price q. callOrder u d p price q 4_464) (counts 82 h))
+      (cond-same (eqb l 88) _ _ _ _ (λ h. two-kept callCancel (counts 88 h))
       refl)))))
 
   line-kept : lineOf l (take n ns) ≡ lineOf l ns
@@ -152,28 +152,28 @@ call-none l a b c d e f g h = rw (ne-eqb l 69 a, ne-eqb l 76 b, ne-eqb l 84 c, n
 
 -- which call a letter makes
 module _ (l : ℕ) (ns m rows : List ℕ) (a : Answer) (m′ : List ℕ) where
-  pub made-enrol : l ≡ 69 → Made m [] (enrol (getD ns 0 0) (getD ns 1 0) (getD ns 2 0)) a m′ [] → Made m rows (callOf l ns) a m′ rows
+  pub made-enrol : l ≡ 69 → Made m [] (callEnrol (getD ns 0 0) (getD ns 1 0) (getD ns 2 0)) a m′ [] → Made m rows (callOf l ns) a m′ rows
   unfolding callOf
   made-enrol e f = rw (eq-eqb l 69 e) (made-beside m rows _ a m′ f)
 
-  pub made-offer : (amounts : List ℕ) → l ≡ 76 → amounts ≡ drop 3 ns → Made m [] (offer (getD ns 0 0) (getD ns 1 0) (getD ns 2 0) amounts) a m′ []
+  pub made-offer : (amounts : List ℕ) → l ≡ 76 → amounts ≡ drop 3 ns → Made m [] (callOffer (getD ns 0 0) (getD ns 1 0) (getD ns 2 0) amounts) a m′ []
       → Made m rows (callOf l ns) a m′ rows
   unfolding callOf
   made-offer amounts e d f = rw e (made-beside m rows _ a m′ (rw d at f))
 
-  pub made-withdraw : l ≡ 87 → Made m [] (withdraw (getD ns 0 0) (getD ns 1 0)) a m′ [] → Made m rows (callOf l ns) a m′ rows
+  pub made-withdraw : l ≡ 87 → Made m [] (callWithdraw (getD ns 0 0) (getD ns 1 0)) a m′ [] → Made m rows (callOf l ns) a m′ rows
   unfolding callOf
   made-withdraw e f = rw e (made-beside m rows _ a m′ f)
 
-  pub made-cancel : l ≡ 88 → Made m [] (cancel (getD ns 0 0) (getD ns 1 0)) a m′ [] → Made m rows (callOf l ns) a m′ rows
+  pub made-cancel : l ≡ 88 → Made m [] (callCancel (getD ns 0 0) (getD ns 1 0)) a m′ [] → Made m rows (callOf l ns) a m′ rows
   unfolding callOf
   made-cancel e f = rw e (made-beside m rows _ a m′ f)
 
-  pub made-close : (l ≡ 69 → ⊥) → (l ≡ 76 → ⊥) → (l ≡ 84 → ⊥) → (l ≡ 87 → ⊥) → (l ≡ 82 → ⊥) → (l ≡ 88 → ⊥) → (l ≡ 67 → ⊥) → Made m [] close a m′ []
+  pub made-close : (l ≡ 69 → ⊥) → (l ≡ 76 → ⊥) → (l ≡ 84 → ⊥) → (l ≡ 87 → ⊥) → (l ≡ 82 → ⊥) → (l ≡ 88 → ⊥) → (l ≡ 67 → ⊥) → Made m [] callClose a m′ []
       → Made m rows (callOf l ns) a m′ rows
   unfolding callOf
   made-close e₁ e₂ e₃ e₄ e₅ e₆ e₇ f =
-      rw (ne-eqb l 69 e₁, ne-eqb l 76 e₂, ne-eqb l 84 e₃, ne-eqb l 87 e₄, ne-eqb l 82 e₅, ne-eqb l 88 e₆, ne-eqb l 67 e₇) (made-beside m rows close a m′ f)
+      rw (ne-eqb l 69 e₁, ne-eqb l 76 e₂, ne-eqb l 84 e₃, ne-eqb l 87 e₄, ne-eqb l 82 e₅, ne-eqb l 88 e₆, ne-eqb l 67 e₇) (made-beside m rows callClose a m′ f)
 
   module _ (rows′ : List ℕ) (lent : length rows ≡ 4_464) where
     pub made-take : l ≡ 84 → Made m rows (callTake (getD ns 0 0) (getD ns 1 0) (getD ns 2 0) (length rows)) a m′ rows′
@@ -181,12 +181,12 @@ module _ (l : ℕ) (ns m rows : List ℕ) (a : Answer) (m′ : List ℕ) where
     unfolding callOf
     made-take e f = rw e (rw lent at f)
 
-    pub made-order : l ≡ 82 → Made m rows (order (getD ns 0 0) (getD ns 1 0) (getD ns 2 0) (getD ns 3 0) (getD ns 4 0) (length rows)) a m′ rows′
+    pub made-order : l ≡ 82 → Made m rows (callOrder (getD ns 0 0) (getD ns 1 0) (getD ns 2 0) (getD ns 3 0) (getD ns 4 0) (length rows)) a m′ rows′
         → Made m rows (callOf l ns) a m′ rows′
     unfolding callOf
     made-order e f = rw e (rw lent at f)
 
-    pub made-clear : l ≡ 67 → Made m rows (clear (length rows)) a m′ rows′ → Made m rows (callOf l ns) a m′ rows′
+    pub made-clear : l ≡ 67 → Made m rows (callClear (length rows)) a m′ rows′ → Made m rows (callOf l ns) a m′ rows′
     unfolding callOf
     made-clear e f = rw e (rw lent at f)
 

@@ -9,7 +9,7 @@ use Rattle.book.specs.Book.{Book}
 use Rattle.book.specs.Refusals.{Outcome, decided, accepted}
 use Rattle.book.specs.Opening.{fresh, openingRefusal}
 use Rattle.book.specs.Layout.{decode}
-use Rattle.book.specs.Calls.{Call, enrol, offer, take, withdraw, order, cancel, clear, close}
+use Rattle.book.specs.Calls.{Call, callEnrol, callOffer, callTake, callWithdraw, callOrder, callCancel, callClear, callClose}
 use Rattle.book.specs.Contract.{outcomeOn}
 use Rattle.lines.specs.Lines.{Line, unknown, opening, calling}
 use Rattle.lines.specs.Printed.{printedOk, printedNo}
@@ -20,14 +20,14 @@ pub data Said : Type 0 where
   said : Outcome → Said
 
 abbrev pub isEnrol : Call → Bool
-isEnrol (enrol kind capacity asset) = true
-isEnrol (offer unit partner price amounts) = false
-isEnrol (take unit number quantity lent) = false
-isEnrol (withdraw unit number) = false
-isEnrol (order unit direction period price quantity lent) = false
-isEnrol (cancel unit number) = false
-isEnrol (clear lent) = false
-isEnrol close = false
+isEnrol (callEnrol kind capacity asset) = true
+isEnrol (callOffer unit partner price amounts) = false
+isEnrol (callTake unit number quantity lent) = false
+isEnrol (callWithdraw unit number) = false
+isEnrol (callOrder unit direction period price quantity lent) = false
+isEnrol (callCancel unit number) = false
+isEnrol (callClear lent) = false
+isEnrol callClose = false
 
 -- what opening gives on the memory m
 unfoldable pub openedOn : List ℕ → ℕ → ℕ → ℕ → Outcome

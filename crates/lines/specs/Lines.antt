@@ -7,7 +7,7 @@ use lib.ListN.{length, getD, drop}
 use lib.Dec.{eqb, ltb}
 use Rattle.measures.specs.Ranges.{between}
 use Rattle.measures.specs.Lists.{every}
-use Rattle.book.specs.Calls.{Call, enrol, offer, take, withdraw, order, cancel, clear, close}
+use Rattle.book.specs.Calls.{Call, callEnrol, callOffer, callTake, callWithdraw, callOrder, callCancel, callClear, callClose}
 
 -- what a line says: an opening, a call, or nothing that is understood
 pub data Line : Type 0 where
@@ -65,14 +65,14 @@ isCall l = eqb l 69 || (eqb l 76 || (eqb l 84 || (eqb l 87 || (eqb l 82 || (eqb 
 -- price quantity; X (cancel) unit number; C (clear); D (close)"; 744 rows of six numbers are lent
 unfoldable pub callOf : ℕ → List ℕ → Call
 callOf l ns =
-    cond (eqb l 69) (enrol (getD ns 0 0) (getD ns 1 0) (getD ns 2 0))
-    (cond (eqb l 76) (offer (getD ns 0 0) (getD ns 1 0) (getD ns 2 0) (drop 3 ns))
-    (cond (eqb l 84) (take (getD ns 0 0) (getD ns 1 0) (getD ns 2 0) 4_464)
-    (cond (eqb l 87) (withdraw (getD ns 0 0) (getD ns 1 0))
-    (cond (eqb l 82) (order (getD ns 0 0) (getD ns 1 0) (getD ns 2 0) (getD ns 3 0) (getD ns 4 0) 4_464)
-    (cond (eqb l 88) (cancel (getD ns 0 0) (getD ns 1 0))
-    (cond (eqb l 67) (clear 4_464)
-    close))))))
+    cond (eqb l 69) (callEnrol (getD ns 0 0) (getD ns 1 0) (getD ns 2 0))
+    (cond (eqb l 76) (callOffer (getD ns 0 0) (getD ns 1 0) (getD ns 2 0) (drop 3 ns))
+    (cond (eqb l 84) (callTake (getD ns 0 0) (getD ns 1 0) (getD ns 2 0) 4_464)
+    (cond (eqb l 87) (callWithdraw (getD ns 0 0) (getD ns 1 0))
+    (cond (eqb l 82) (callOrder (getD ns 0 0) (getD ns 1 0) (getD ns 2 0) (getD ns 3 0) (getD ns 4 0) 4_464)
+    (cond (eqb l 88) (callCancel (getD ns 0 0) (getD ns 1 0))
+    (cond (eqb l 67) (callClear 4_464)
+    callClose))))))
 
 -- "O days floor ceiling", or a call
 unfoldable pub lineOf : ℕ → List ℕ → Line

@@ -3,7 +3,7 @@ use Prim.Native.Nat.{ℕ}
 use mathlib.Core.Path.{_≡_}
 use mathlib.Core.List.{List, [], _∷_}
 use Rattle.matching.specs.Orders.{Row}
-use Rattle.book.specs.Calls.{enrol, order, clear, close}
+use Rattle.book.specs.Calls.{callEnrol, callOrder, callClear, callClose}
 use Rattle.lines.specs.Lines.{Line, opening, calling, parse}
 use Rattle.lines.specs.Printed.{printedOk, printedNo}
 
@@ -15,12 +15,12 @@ pub record Figure : Type 0 where
 abbrev pub transcript : List Figure
 transcript =
     record { line = 79 ∷ 32 ∷ 49 ∷ 32 ∷ 48 ∷ 32 ∷ 49 ∷ 48 ∷ 48 ∷ 48 ∷ 48 ∷ 48 ∷ 48 ∷ []; says = opening 1 0 1_000_000 }
-    ∷ record { line = 69 ∷ 32 ∷ 50 ∷ 32 ∷ 49 ∷ 48 ∷ 48 ∷ 32 ∷ 48 ∷ []; says = calling (enrol 2 100 0) }
-    ∷ record { line = 69 ∷ 32 ∷ 51 ∷ 32 ∷ 49 ∷ 48 ∷ 48 ∷ 32 ∷ 48 ∷ []; says = calling (enrol 3 100 0) }
-    ∷ record { line = 67 ∷ []; says = calling (clear 4_464) }
-    ∷ record { line = 82 ∷ 32 ∷ 49 ∷ 32 ∷ 48 ∷ 32 ∷ 56 ∷ 32 ∷ 52 ∷ 53 ∷ 53 ∷ 48 ∷ 48 ∷ 48 ∷ 32 ∷ 53 ∷ []; says = calling (order 1 0 8 455_000 5 4_464) }
-    ∷ record { line = 82 ∷ 32 ∷ 50 ∷ 32 ∷ 49 ∷ 32 ∷ 56 ∷ 32 ∷ 52 ∷ 54 ∷ 48 ∷ 48 ∷ 48 ∷ 48 ∷ 32 ∷ 55 ∷ []; says = calling (order 2 1 8 460_000 7 4_464) }
-    ∷ record { line = 68 ∷ []; says = calling close }
+    ∷ record { line = 69 ∷ 32 ∷ 50 ∷ 32 ∷ 49 ∷ 48 ∷ 48 ∷ 32 ∷ 48 ∷ []; says = calling (callEnrol 2 100 0) }
+    ∷ record { line = 69 ∷ 32 ∷ 51 ∷ 32 ∷ 49 ∷ 48 ∷ 48 ∷ 32 ∷ 48 ∷ []; says = calling (callEnrol 3 100 0) }
+    ∷ record { line = 67 ∷ []; says = calling (callClear 4_464) }
+    ∷ record { line = 82 ∷ 32 ∷ 49 ∷ 32 ∷ 48 ∷ 32 ∷ 56 ∷ 32 ∷ 52 ∷ 53 ∷ 53 ∷ 48 ∷ 48 ∷ 48 ∷ 32 ∷ 53 ∷ []; says = calling (callOrder 1 0 8 455_000 5 4_464) }
+    ∷ record { line = 82 ∷ 32 ∷ 50 ∷ 32 ∷ 49 ∷ 32 ∷ 56 ∷ 32 ∷ 52 ∷ 54 ∷ 48 ∷ 48 ∷ 48 ∷ 48 ∷ 32 ∷ 55 ∷ []; says = calling (callOrder 2 1 8 460_000 7 4_464) }
+    ∷ record { line = 68 ∷ []; says = calling callClose }
     ∷ []
 
 abbrev pub Hold : List Figure → Type 0

@@ -8,12 +8,12 @@ use Rattle.matching.specs.declared.orders.Row.{Row as RowValue}
 use Rattle.matching.specs.Orders.{Order, Row}
 
 -- a value of the code's struct, as an order and as a row of these definitions
-abbrev pub orderOf : OrderValue → Order
-orderOf v =
+abbrev pub asOrder : OrderValue → Order
+asOrder v =
     record { number = v .number; unit = v .unit; direction = v .direction; period = v .period; price = v .price .0; quantity = v .quantity .0 }
 
-abbrev pub rowOf : RowValue → Row
-rowOf v =
+abbrev pub asRow : RowValue → Row
+asRow v =
     record { way = v .way; period = v .period; seller = v .seller; buyer = v .buyer; quantity = v .quantity .0; price = v .price .0 }
 
 -- the order at place k

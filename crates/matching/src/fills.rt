@@ -7,13 +7,13 @@ ghost use lib.ListN.{length, take};
 ghost use Rattle.measures.specs.Lists.{keep};
 ghost use Rattle.measures.specs.Ranges.{mostEnergy};
 ghost use Rattle.measures.specs.Sharing.{total};
-ghost use Rattle.matching.specs.Memory.{orderOf, orderAt};
+ghost use Rattle.matching.specs.Memory.{asOrder, orderAt};
 ghost use Rattle.matching.specs.Clearing.{fillsOf};
 ghost use Rattle.matching.specs.inner.Places.{ordersAt, chosen, picked, Picked, AtMargin, Stand, fillsAt, Filling};
 
 // Whether an order's price is better than the margin's (for sales 0, for purchases 1), or at it (2).
 fn at_price(which: u64, margin: u64, o: Order) -> bool
-    ensures { λ r. ⌜ r ≡ chosen which margin (orderOf o) ⌝ }
+    ensures { λ r. ⌜ r ≡ chosen which margin (asOrder o) ⌝ }
 {
     if which == 2 {
         return o.price.0 == margin;

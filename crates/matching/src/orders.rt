@@ -6,7 +6,7 @@ ghost use mathlib.Core.List.{List, [], _∷_, _++_};
 ghost use Prim.Native.Nat.{ℕ, _+_, _*_, _-_, _<_, _≤_};
 ghost use lib.ListN.{length, getD, set, drop, take};
 ghost use Rattle.matching.specs.Orders.{Row as RowRecord, orderWith, leaving};
-ghost use Rattle.matching.specs.Memory.{orderOf, rowOf, orderAt, ordersIn, noOrder, written};
+ghost use Rattle.matching.specs.Memory.{asOrder, asRow, orderAt, ordersIn, noOrder, written};
 
 // An open order.
 pub struct Order {
@@ -31,7 +31,7 @@ impl Order {
         price: Price,
         quantity: Energy,
     ) -> Order
-        ensures { λ r. ⌜ orderOf r ≡ orderWith number unit direction period (price .0) (quantity .0) ⌝ }
+        ensures { λ r. ⌜ asOrder r ≡ orderWith number unit direction period (price .0) (quantity .0) ⌝ }
     {
         Order {
             number,
@@ -45,7 +45,7 @@ impl Order {
 
     // The order with q still open.
     pub fn leaving(self, q: Energy) -> Order
-        ensures { λ r. ⌜ orderOf r ≡ leaving (orderOf self) (q .0) ⌝ }
+        ensures { λ r. ⌜ asOrder r ≡ leaving (asOrder self) (q .0) ⌝ }
     {
         Order {
             number: self.number,
@@ -78,7 +78,7 @@ pub enum Matched {
 // The order at place k.
 pub(crate) fn read(orders: &[u64], k: usize) -> Order
     requires { ⌜ (6 * k + 6 ≤ length (now orders)) × (k < 256) ⌝ }
-    ensures { λ r. ⌜ orderOf r ≡ orderAt (now (orders .entry)) k ⌝ }
+    ensures { λ r. ⌜ asOrder r ≡ orderAt (now (orders .entry)) k ⌝ }
 {
     let at = 6 * k;
     Order {
@@ -103,7 +103,7 @@ pub(crate) fn leave(orders: &mut [u64], n: usize, k: usize, q: Energy)
 // An order takes place k.
 pub fn write(orders: &mut [u64], n: usize, k: usize, o: Order)
     requires { ⌜ (6 * n ≤ length (now orders)) × (k < n) × (n ≤ 256) ⌝ }
-    ensures { λ _. ⌜ (ordersIn (now (orders .exit)) n ≡ set (ordersIn (now (orders .entry)) n) k (orderOf o))
+    ensures { λ _. ⌜ (ordersIn (now (orders .exit)) n ≡ set (ordersIn (now (orders .entry)) n) k (asOrder o))
         × (drop (6 * n) (now (orders .exit)) ≡ drop (6 * n) (now (orders .entry))) ⌝ }
 {
     let at = 6 * k;
@@ -133,7 +133,7 @@ pub fn remove(orders: &mut [u64], n: usize, k: usize)
 pub fn put_row(rows: &mut [u64], n: usize, r: Row)
     requires { ⌜ (6 * n + 6 ≤ length (now rows)) × (n < 1000000) ⌝ }
     ensures { λ _. ⌜ ((m : List ℕ) (rs : List RowRecord) → length rs ≡ n → now (rows .entry) ≡ written m rs → now (rows .exit)
-        ≡ written m (rs ++ (rowOf r ∷ []))) ⌝ }
+        ≡ written m (rs ++ (asRow r ∷ []))) ⌝ }
 {
     let at = 6 * n;
     rows[at] = r.way;

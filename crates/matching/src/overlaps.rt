@@ -9,7 +9,7 @@ ghost use Prim.Native.Nat.{ℕ, _+_, _*_, _-_, _<_, _≤_, min, max};
 ghost use lib.Dec.{eqb};
 ghost use lib.ListN.{length};
 ghost use Rattle.matching.specs.Orders.{Row as RowRecord};
-ghost use Rattle.matching.specs.Memory.{rowOf, written};
+ghost use Rattle.matching.specs.Memory.{asRow, written};
 ghost use Rattle.matching.specs.Clearing.{endToEnd, overlapRows};
 ghost use Rattle.matching.specs.inner.Places.{fillsAt, Filling};
 
@@ -43,8 +43,8 @@ fn shared(a: u64, x: u64, e: u64, y: u64) -> u64
 fn put_some(rows: &mut [u64], count: usize, r: Row) -> usize
     requires { ⌜ (6 * count + 6 ≤ length (now rows)) × (count < 1000000) ⌝ }
     ensures { λ x. ⌜ ((m : List ℕ) (rs : List RowRecord) → length rs ≡ count → now (rows .entry) ≡ written m rs
-        → (now (rows .exit) ≡ written m (rs ++ cond (eqb (r .quantity .0) 0) [] (rowOf r ∷ [])))
-        × (length (rs ++ cond (eqb (r .quantity .0) 0) [] (rowOf r ∷ [])) ≡ x) × (x ≤ count + 1)) ⌝ }
+        → (now (rows .exit) ≡ written m (rs ++ cond (eqb (r .quantity .0) 0) [] (asRow r ∷ [])))
+        × (length (rs ++ cond (eqb (r .quantity .0) 0) [] (asRow r ∷ [])) ≡ x) × (x ≤ count + 1)) ⌝ }
 {
     if r.quantity.0 == 0 {
         return count;

@@ -14,7 +14,7 @@ ghost use mathlib.Core.List.{List, [], _∷_, _++_};
 ghost use Prim.Native.Nat.{ℕ, _+_, _-_, _*_, _<_, _≤_, min};
 ghost use lib.ListN.{length};
 ghost use Rattle.matching.specs.Orders.{Row as RowRecord, rising, numbers};
-ghost use Rattle.matching.specs.Memory.{orderOf, rowOf, orderAt, ordersIn, written};
+ghost use Rattle.matching.specs.Memory.{asOrder, asRow, orderAt, ordersIn, written};
 ghost use Rattle.matching.specs.Rolling.{matchRow};
 ghost use Rattle.matching.specs.inner.Runs.{keyOf, MetInTurn};
 ghost use Rattle.matching.specs.Answers.{Meets};
@@ -42,7 +42,7 @@ fn side_met(incoming: Order) -> Side
 
 // The row of a match with a waiting order, at the waiting order's price.
 fn match_row(incoming: Order, o: Order, x: Energy) -> Row
-    ensures { λ r. ⌜ rowOf r ≡ matchRow (orderOf incoming) (record { order = orderOf o; quantity = x .0 }) ⌝ }
+    ensures { λ r. ⌜ asRow r ≡ matchRow (asOrder incoming) (record { order = asOrder o; quantity = x .0 }) ⌝ }
 {
     let price = o.price;
     if incoming.direction == 1 {
@@ -78,7 +78,7 @@ fn match_at(
     requires { ⌜ (6 * p + 6 ≤ length (now orders)) × (p < 256) × (6 * count + 6 ≤ length (now rows)) × (count < 1000000) ⌝ }
     ensures { λ x. ⌜ (x .0 ≡ min (left .0) (orderAt (now (orders .entry)) p .quantity))
         × ((m : List ℕ) (rs : List RowRecord) → length rs ≡ count → now (rows .entry) ≡ written m rs → now (rows .exit)
-        ≡ written m (rs ++ (matchRow (orderOf incoming) (record { order = orderAt (now (orders .entry)) p; quantity = x .0 }) ∷ []))) ⌝ }
+        ≡ written m (rs ++ (matchRow (asOrder incoming) (record { order = orderAt (now (orders .entry)) p; quantity = x .0 }) ∷ []))) ⌝ }
 {
     let o = orders::read(orders, p);
     let x = left.least(o.quantity);
@@ -98,7 +98,7 @@ fn meet_in_turn(
 ) -> Traded
     requires { ⌜ (6 * n ≤ length (now orders)) × (n ≤ 256) × (rising (numbers (ordersIn (now orders) n)) ≡ true) × (incoming .direction < 2)
         × (n ≤ length (now met)) × (n ≤ length (now taken)) × (6 * n ≤ length (now rows)) ⌝ }
-    ensures { λ r. ⌜ MetInTurn (now (orders .entry)) n (orderOf incoming) (now (rows .entry)) (r .left .0) (r .count) (now (met .exit)) (now (taken .exit))
+    ensures { λ r. ⌜ MetInTurn (now (orders .entry)) n (asOrder incoming) (now (rows .entry)) (r .left .0) (r .count) (now (met .exit)) (now (taken .exit))
         (now (rows .exit)) ⌝ }
 {
     let mut keys = [0u64; 256];
@@ -149,7 +149,7 @@ fn meet_in_turn(
 // The incoming order meets the first n orders, and what was taken off them goes; an emptied order goes with it. Orders
 // that do not fit stay as they are.
 pub fn meet(orders: &mut [u64], n: usize, incoming: Order, rows: &mut [u64]) -> Matched
-    ensures { λ r. ⌜ Meets (now (orders .entry)) (now (rows .entry)) n (orderOf incoming) r (now (orders .exit)) (now (rows .exit)) ⌝ }
+    ensures { λ r. ⌜ Meets (now (orders .entry)) (now (rows .entry)) n (asOrder incoming) r (now (orders .exit)) (now (rows .exit)) ⌝ }
 {
     if !fits(orders, n, rows) {
         return Matched::Unfit;

@@ -39,8 +39,8 @@ nameChecks b u d p price q lent =
 unfoldable pub dayChecks : Book → ℕ → ℕ → ℕ → List Check
 dayChecks b u d p = otherDirection b u d p ∷ twoOpen b u p ∷ ordersFull b ∷ numbersUsed b ∷ []
 
-unfoldable pub fitChecks : Book → ℕ → ℕ → ℕ → ℕ → List Check
-fitChecks b u d p q =
+unfoldable pub orderFitChecks : Book → ℕ → ℕ → ℕ → ℕ → List Check
+orderFitChecks b u d p q =
     hourMisfit b u (orderDeclares b u d p q) ∷ termMisfit b u (orderDeclares b u d p q) ∷ volumeMisfit b u (orderDeclares b u d p q) ∷ []
 
 -- an enrolled unit, a direction, a period of the term and a quantity in range

@@ -8,7 +8,7 @@ use borrow.Author.Tests.{not-true, not-false}
 use lib.ListN.{length, getD}
 use Rattle.book.specs.Layout.{word, decode}
 use Rattle.book.specs.Contract.{soundIn}
-use Rattle.book.specs.Calls.{clear as callClear}
+use Rattle.book.specs.Calls.{callClear}
 use Rattle.book.proofs.laws.answer.MadeLaws.{made-unsound, made-checked, made-done, sound-readable, clear-passed}
 use borrow.Author.Needs.{needs}
 use Rattle.book.proofs.calls.clear.Statement.{statement}

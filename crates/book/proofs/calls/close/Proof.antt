@@ -9,7 +9,7 @@ use lib.ListN.{length, getD}
 use Rattle.matching.proofs.laws.orders.RowLaws.{written-none}
 use Rattle.book.specs.Layout.{word, decode}
 use Rattle.book.specs.Contract.{soundIn}
-use Rattle.book.specs.Calls.{close as callClose}
+use Rattle.book.specs.Calls.{callClose}
 use Rattle.book.proofs.laws.answer.MadeLaws.{made-unsound, made-done, no-checks, sound-readable}
 use Rattle.book.proofs.laws.close.ClosedLaws.{sound-netting}
 use borrow.Author.Needs.{needs}

@@ -9,7 +9,7 @@ use lib.ListN.{length, getD}
 use Rattle.matching.proofs.laws.orders.RowLaws.{written-none}
 use Rattle.book.specs.Layout.{word, decode}
 use Rattle.book.specs.Contract.{soundIn}
-use Rattle.book.specs.Calls.{enrol as callEnrol}
+use Rattle.book.specs.Calls.{callEnrol}
 use Rattle.book.proofs.laws.answer.MadeLaws.{made-unsound, made-checked, made-done, enrol-number, sound-readable, sound-head}
 use Rattle.book.proofs.laws.enrol.EnrolLaws.{enrol-room}
 use borrow.Author.Needs.{needs}

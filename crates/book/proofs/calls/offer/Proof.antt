@@ -9,7 +9,7 @@ use lib.ListN.{length, getD}
 use Rattle.matching.proofs.laws.orders.RowLaws.{written-none}
 use Rattle.book.specs.Layout.{word, decode}
 use Rattle.book.specs.Contract.{soundIn}
-use Rattle.book.specs.Calls.{offer as callOffer}
+use Rattle.book.specs.Calls.{callOffer}
 use Rattle.book.proofs.laws.answer.MadeLaws.{made-unsound, made-checked, made-done, offer-number, sound-readable, sound-head}
 use Rattle.book.proofs.laws.offer.OfferChainLaws.{offer-passed}
 use borrow.Author.Needs.{needs}

@@ -9,7 +9,7 @@ use lib.ListN.{length, getD}
 use Rattle.matching.proofs.laws.orders.RowLaws.{written-none}
 use Rattle.book.specs.Layout.{word, decode}
 use Rattle.book.specs.Contract.{soundIn}
-use Rattle.book.specs.Calls.{order as callOrder}
+use Rattle.book.specs.Calls.{callOrder}
 use Rattle.book.proofs.laws.answer.MadeLaws.{made-unsound, made-checked, made-done, order-called, order-rolled, sound-readable, sound-head}
 use Rattle.book.proofs.laws.order.RollCallLaws.{orders-left, number-left}
 use borrow.Author.Needs.{needs}

@@ -3,7 +3,7 @@ use mathlib.Core.Path.{refl, sym, _∙_}
 use native.Mathlib.Omega.{arith}
 use borrow.Author.Tests.{not-true, not-false}
 use lib.ListN.{length}
-use Rattle.book.specs.Calls.{take as callTake}
+use Rattle.book.specs.Calls.{callTake}
 use Rattle.book.proofs.laws.answer.MadeLaws.{made-unsound, made-checked, made-done}
 use borrow.Author.Needs.{needs}
 use Rattle.book.proofs.calls.take.Statement.{statement}

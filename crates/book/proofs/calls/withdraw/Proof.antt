@@ -9,7 +9,7 @@ use lib.ListN.{length, getD}
 use Rattle.matching.proofs.laws.orders.RowLaws.{written-none}
 use Rattle.book.specs.Layout.{word, decode}
 use Rattle.book.specs.Contract.{soundIn}
-use Rattle.book.specs.Calls.{withdraw as callWithdraw}
+use Rattle.book.specs.Calls.{callWithdraw}
 use Rattle.book.proofs.laws.answer.MadeLaws.{made-unsound, made-checked, made-done}
 use Rattle.book.proofs.laws.withdraw.OfferPlaceLaws.{withdraw-open}
 use borrow.Author.Needs.{needs}

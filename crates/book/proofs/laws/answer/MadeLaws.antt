@@ -31,7 +31,7 @@ use Rattle.book.specs.Order.{ordering, orderRefusal, orderChecks, newOrd
 use Rattle.book.specs.Cancel.{cancellation, cancelRefusal, cancelChecks}
 use Rattle.book.specs.Clear.{clearing, clearRefusal, clearChecks, clearFrom}
 use Rattle.book.specs.Close.{closing, dayClosed}
-use Rattle.book.specs.Calls.{Call, enrol, offer, take, withdraw, order, cancel, clear, close, outcome}
+use Rattle.book.specs.Calls.{Call, callEnrol, callOffer, callTake, callWithdraw, callOrder, callCancel, callClear, callClose, outcome}
 use Rattle.book.specs.Contract.{Told, toldBy, soundIn, outcomeOn, Made}
 use Rattle.book.specs.inner.Readable.{Readable, Ranged, unitsFieldsIn}
 use Rattle.book.proofs.laws.memory.RangeFacts.{Head, head-facts, readable, units-held}
@@ -101,45 +101,45 @@ made-accepted m rows c n rs b k m′ rows′ e ek d w p l = record {
 
 -- each call is its checks behind that of soundness, and its effect
 abbrev pub checksOf : Book → Call → List Check
-checksOf b (enrol kind capacity asset) = enrolChecks b kind capacity asset
-checksOf b (offer unit partner price amounts) = offerChecks b unit partner price amounts
-checksOf b (take unit number quantity lent) = takeChecks b unit number quantity lent
-checksOf b (withdraw unit number) = withdrawChecks b unit number
-checksOf b (order unit direction period price quantity lent) = orderChecks b unit direction period price quantity lent
-checksOf b (cancel unit number) = cancelChecks b unit number
-checksOf b (clear lent) = clearChecks b lent
-checksOf b close = []
+checksOf b (callEnrol kind capacity asset) = enrolChecks b kind capacity asset
+checksOf b (callOffer unit partner price amounts) = offerChecks b unit partner price amounts
+checksOf b (callTake unit number quantity lent) = takeChecks b unit number quantity lent
+checksOf b (callWithdraw unit number) = withdrawChecks b unit number
+checksOf b (callOrder unit direction period price quantity lent) = orderChecks b unit direction period price quantity lent
+checksOf b (callCancel unit number) = cancelChecks b unit number
+checksOf b (callClear lent) = clearChecks b lent
+checksOf b callClose = []
 
 abbrev pub effectOf : Book → Call → Outcome
-effectOf b (enrol kind capacity asset) = accepted (length (enrolled b kind capacity asset .units)) [] (enrolled b kind capacity asset)
-effectOf b (offer unit partner price amounts) = accepted (nextNumber b) [] (offered b unit partner price amounts)
-effectOf b (take unit number quantity lent) =
+effectOf b (callEnrol kind capacity asset) = accepted (length (enrolled b kind capacity asset .units)) [] (enrolled b kind capacity asset)
+effectOf b (callOffer unit partner price amounts) = accepted (nextNumber b) [] (offered b unit partner price amounts)
+effectOf b (callTake unit number quantity lent) =
     accepted 0 (takeRows b (offerOf b number) unit (takenParts b number quantity))
     (rowsBooked (takeRows b (offerOf b number) unit (takenParts b number quantity))
     (withOffers b (offersLess number (takenParts b number quantity) (b .offers))))
-effectOf b (withdraw unit number) = accepted 0 [] (withOffers b (keep (λ o. not (eqb (o .number) number)) (b .offers)))
-effectOf b (order unit direction period price quantity lent) =
+effectOf b (callWithdraw unit number) = accepted 0 [] (withOffers b (keep (λ o. not (eqb (o .number) number)) (b .offers)))
+effectOf b (callOrder unit direction period price quantity lent) =
     cond (eqb (b .phase) callPhase)
     (orderedInCall b (newOrder b unit direction period price quantity))
     (orderedInRolling b (newOrder b unit direction period price quantity))
-effectOf b (cancel unit number) = accepted 0 [] (withOrders b (keep (λ o. not (eqb (o .number) number)) (b .orders)))
-effectOf b (clear lent) =
+effectOf b (callCancel unit number) = accepted 0 [] (withOrders b (keep (λ o. not (eqb (o .number) number)) (b .orders)))
+effectOf b (callClear lent) =
     accepted 0 (clearFrom 0 (periods (b .days)) (b .orders) .rows)
     (inPhase (rowsBooked (clearFrom 0 (periods (b .days)) (b .orders) .rows) (withOrders b (clearFrom 0 (periods (b .days)) (b .orders) .orders)))
     rollingPhase)
-effectOf b close = accepted 0 [] (dayClosed b)
+effectOf b callClose = accepted 0 [] (dayClosed b)
 
 pub outcome-is : (b : Book) (c : Call) → outcome b c ≡ decided (firstOf (unsound b ∷ checksOf b c)) b (effectOf b c)
 unfolding enrolment enrolRefusal offering offerRefusal taking takeRefusal withdrawal withdrawRefusal ordering orderRefusal cancellation cancelRefusal
     clearing clearRefusal closing
-outcome-is b (enrol kind capacity asset) = refl
-outcome-is b (offer unit partner price amounts) = refl
-outcome-is b (take unit number quantity lent) = refl
-outcome-is b (withdraw unit number) = refl
-outcome-is b (order unit direction period price quantity lent) = refl
-outcome-is b (cancel unit number) = refl
-outcome-is b (clear lent) = refl
-outcome-is b close = refl
+outcome-is b (callEnrol kind capacity asset) = refl
+outcome-is b (callOffer unit partner price amounts) = refl
+outcome-is b (callTake unit number quantity lent) = refl
+outcome-is b (callWithdraw unit number) = refl
+outcome-is b (callOrder unit direction period price quantity lent) = refl
+outcome-is b (callCancel unit number) = refl
+outcome-is b (callClear lent) = refl
+outcome-is b callClose = refl
 
 -- the three ways of a call: not a sound book, a check that applies, or none
 pub made-unsound : (m rows : List ℕ) (c : Call) → soundIn m ≡ false → Made m rows c (Refused 1) m rows
@@ -176,13 +176,13 @@ made-done m rows c n rs b k m′ rows′ e f g =
     ∙ decided-accepted 0 (decode m) (effectOf (decode m) c) refl ∙ g)
 
 -- the numbers that enrol and offer return, in memory
-pub enrol-number : (m : List ℕ) (kind capacity asset : ℕ) → effectOf (decode m) (enrol kind capacity asset)
+pub enrol-number : (m : List ℕ) (kind capacity asset : ℕ) → effectOf (decode m) (callEnrol kind capacity asset)
     ≡ accepted (word m 5 + 1) [] (enrolled (decode m) kind capacity asset)
 enrol-number m kind capacity asset =
     ap (λ (n : ℕ). accepted n [] (enrolled (decode m) kind capacity asset))
     (length-append (decode m .units) _ ∙ ap (λ (n : ℕ). n + 1) (units-held m))
 
-pub offer-number : (m : List ℕ) (unit partner price : ℕ) (amounts : List ℕ) → effectOf (decode m) (offer unit partner price amounts)
+pub offer-number : (m : List ℕ) (unit partner price : ℕ) (amounts : List ℕ) → effectOf (decode m) (callOffer unit partner price amounts)
     ≡ accepted (word m 4 + 1) [] (offered (decode m) unit partner price amounts)
 unfolding decode
 offer-number m unit partner price amounts = refl
@@ -200,12 +200,12 @@ clear-passed m lent e =
 
 -- the effect of an order in either phase
 module _ (m : List ℕ) (u d p price q lent : ℕ) where
-  pub order-called : word m 3 ≡ 0 → effectOf (decode m) (order u d p price q lent)
+  pub order-called : word m 3 ≡ 0 → effectOf (decode m) (callOrder u d p price q lent)
       ≡ accepted (word m 4 + 1) [] (orderedInCall (decode m) (newOrder (decode m) u d p price q) .book)
   unfolding decode
   order-called e = cond-true (eqb (word m 3) 0) _ _ (eq-eqb (word m 3) 0 e) refl
 
-  pub order-rolled : (word m 3 ≡ 0 → ⊥) → effectOf (decode m) (order u d p price q lent)
+  pub order-rolled : (word m 3 ≡ 0 → ⊥) → effectOf (decode m) (callOrder u d p price q lent)
       ≡ accepted (word m 4 + 1) (meet (newOrder (decode m) u d p price q) (decode m .orders) .rows)
       (orderedInRolling (decode m) (newOrder (decode m) u d p price q) .book)
   unfolding decode

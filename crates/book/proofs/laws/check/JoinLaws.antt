@@ -13,7 +13,7 @@ use Rattle.limits.specs.Units.{periods, generator}
 use Rattle.limits.specs.Limits.{hourOf, hourLimit, termLimit, volumeLimit}
 use Rattle.matching.specs.Orders.{Order as OpenOrder}
 use Rattle.matching.specs.Memory.{orderAt, ordersIn}
-use Rattle.book.specs.Book.{Figures, noFigures, Unit, OpenOffer, unitOf, figuresOf}
+use Rattle.book.specs.Book.{Figures, noFigures, EnrolledUnit, OpenOffer, unitOf, figuresOf}
 use Rattle.book.specs.Trades.{raises, lowers}
 use Rattle.book.specs.Fit.{
   Declaration,
@@ -78,12 +78,12 @@ module _ (m : List ℕ) (u p : ℕ) where
 -- the unit's figures, in memory
 module _ (m : List ℕ) (u : ℕ) (h : In 1 (word m 5) u) where
   pub figures-at : (p : ℕ) → p < periods (word m 0) → figuresOf (decode m) u p ≡ figuresAt m (u - 1) p
-  figures-at p l = ap (λ (x : Unit). getD (x .figures) p noFigures) (unit-at m u h) ∙ table-at (periods (word m 0)) (figuresAt m (u - 1)) p noFigures l
+  figures-at p l = ap (λ (x : EnrolledUnit). getD (x .figures) p noFigures) (unit-at m u h) ∙ table-at (periods (word m 0)) (figuresAt m (u - 1)) p noFigures l
 
   pub ways-at : waysIn (decode m) u ≡ all (periods (word m 0)) (wayHolds m (u - 1))
   unfolding waysIn wayHolds
   ways-at =
-      ap (λ (x : Unit). every (λ (f : Figures). leb (f .way) 2) (x .figures)) (unit-at m u h)
+      ap (λ (x : EnrolledUnit). every (λ (f : Figures). leb (f .way) 2) (x .figures)) (unit-at m u h)
       ∙ every-table (λ (f : Figures). leb (f .way) 2) (periods (word m 0)) (figuresAt m (u - 1))
 
 -- two tests of the same numbers
@@ -112,7 +112,7 @@ module _ (m : List ℕ) (u : ℕ) (h : In 1 (word m 5) u) (d : Declaration) (up 
       let lowered = ap (λ (x : Figures). x .lowered) f in
       let b = downs p l in
       let e : word m (1778 + 328 * p + 5 * (u - 1)) + getD down p 0 ≡ loweringToday (decode m) u p + d .lowering p = omega arith in
-      tests-same _ _ _ _ _ _ _ _ (term-same p l) (sym (ap (λ (x : Unit). hourLimit (x .kind) (x .capacity) (hourOf p)) (unit-at m u h))) e (sym held)
+      tests-same _ _ _ _ _ _ _ _ (term-same p l) (sym (ap (λ (x : EnrolledUnit). hourLimit (x .kind) (x .capacity) (hourOf p)) (unit-at m u h))) e (sym held)
 
   volume-same : (p : ℕ) → p < periods (word m 0)
       → volumePart m (u - 1) p (getD up p 0) (getD down p 0)
@@ -127,11 +127,11 @@ module _ (m : List ℕ) (u : ℕ) (h : In 1 (word m 5) u) (d : Declaration) (up 
 
   term-at : termAt m (u - 1) ≡ termOf (decode m) u d
   unfolding termAt decode
-  term-at = sym (ap (λ (x : Unit). termLimit (x .kind) (x .capacity) (x .asset) (word m 0)) (unit-at m u h))
+  term-at = sym (ap (λ (x : EnrolledUnit). termLimit (x .kind) (x .capacity) (x .asset) (word m 0)) (unit-at m u h))
 
   volume-at : volumeAt m (u - 1) ≡ volumeLimit (unitOf (decode m) u .kind) (termOf (decode m) u d)
   unfolding volumeAt
-  volume-at = ap (volumeLimit (word m (8 + 3 * (u - 1)))) term-at ∙ sym (ap (λ (x : Unit). volumeLimit (x .kind) (termOf (decode m) u d)) (unit-at m u h))
+  volume-at = ap (volumeLimit (word m (8 + 3 * (u - 1)))) term-at ∙ sym (ap (λ (x : EnrolledUnit). volumeLimit (x .kind) (termOf (decode m) u d)) (unit-at m u h))
 
   hours-all : all (periods (word m 0)) (λ p. hourHolds m (u - 1) p (getD up p 0) (getD down p 0)) ≡ all (periods (decode m .days)) (hourFits (decode m) u d)
   unfolding decode

@@ -12,7 +12,7 @@ use Rattle.measures.specs.Lists.{holds, every, all}
 use Rattle.measures.proofs.ListLaws.{and-true, and-left, and-right, all-true, holds-all, false-by, not-both, all-at, all-by, every-table, table-length}
 use Rattle.measures.proofs.RangeLaws.{In}
 use Rattle.limits.specs.Units.{periods, kindIn, capacityIn, assetIn}
-use Rattle.book.specs.Book.{Figures, Unit, Book, rollingPhase, unitOf}
+use Rattle.book.specs.Book.{Figures, EnrolledUnit, Book, rollingPhase, unitOf}
 use Rattle.book.specs.Fit.{unitFits}
 use Rattle.book.specs.Sound.{headIn, unitIn, offerIn, orderIn, numbersDiffer, oneWay, apart, eachTwo, sound}
 use Rattle.book.specs.Opening.{bookWords}
@@ -31,7 +31,7 @@ module _ (m : List ℕ) (k : ℕ) (h : k < word m 5) where
   unfolding unitIn unitFieldsIn waysIn
   unit-parts e =
       let t = all-true _ e in
-      (holds-all _ (t .0, (t .1 .0, (t .1 .1 .0, tt))), ap (λ (u : Unit). every (λ (f : Figures). leb (f .way) 2) (u .figures)) at ∙ t .1 .1 .1 .1 .0)
+      (holds-all _ (t .0, (t .1 .0, (t .1 .1 .0, tt))), ap (λ (u : EnrolledUnit). every (λ (f : Figures). leb (f .way) 2) (u .figures)) at ∙ t .1 .1 .1 .1 .0)
 
   pub unit-joined : unitFieldsIn m k ≡ true → waysIn (decode m) (k + 1) ≡ true → unitIn (word m 0) (unitAt m (word m 0) k) ≡ true
   unfolding unitIn unitFieldsIn waysIn
@@ -45,7 +45,7 @@ module _ (m : List ℕ) (k : ℕ) (h : k < word m 5) where
             t .1 .1 .0,
             (
               eq-eqb _ _ (table-length _ _),
-              (sym (ap (λ (u : Unit). every (λ (f : Figures). leb (f .way) 2) (u .figures)) at) ∙ w, tt),
+              (sym (ap (λ (u : EnrolledUnit). every (λ (f : Figures). leb (f .way) 2) (u .figures)) at) ∙ w, tt),
             ),
           ),
         ),

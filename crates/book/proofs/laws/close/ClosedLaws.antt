@@ -12,7 +12,7 @@ use Rattle.measures.proofs.ListLaws.{table-ext, map-table, table-none}
 use Rattle.limits.specs.Units.{periods, mostCapacity}
 use Rattle.matching.specs.Orders.{Order as OpenOrder}
 use Rattle.matching.specs.Memory.{ordersIn, orderAt}
-use Rattle.book.specs.Book.{Figures, Unit, OpenOffer, Book, noFigures, noUnit, callPhase}
+use Rattle.book.specs.Book.{Figures, EnrolledUnit, OpenOffer, Book, noFigures, noUnit, callPhase}
 use Rattle.book.specs.Close.{dayOver, unitDayOver, dayClosed}
 use Rattle.book.specs.Opening.{bookWords}
 use Rattle.book.specs.Layout.{word, figuresAt, unitAt, offerAt, ordersPart, decode}
@@ -85,7 +85,7 @@ pub sound-netting : (m : List ℕ) → soundIn m ≡ true → Netting m
 sound-netting m e = record { each = λ p l. record { held = λ k h. sound-netted m k e h .held p l; lowered = λ k h. sound-netted m k e h .lowered p l } }
 
 -- two books are the same by their fields
-book-same : {d d′ f f′ c c′ p p′ g g′ : ℕ} {us us′ : List Unit} {os os′ : List OpenOffer} {rs rs′ : List OpenOrder}
+book-same : {d d′ f f′ c c′ p p′ g g′ : ℕ} {us us′ : List EnrolledUnit} {os os′ : List OpenOffer} {rs rs′ : List OpenOrder}
     → d ≡ d′ → f ≡ f′ → c ≡ c′ → p ≡ p′ → g ≡ g′ → us ≡ us′ → os ≡ os′ → rs ≡ rs′
     → _≡_ {A = Book} (record { days = d; floor = f; ceiling = c; phase = p; given = g; units = us; offers = os; orders = rs })
     (record { days = d′; floor = f′; ceiling = c′; phase = p′; given = g′; units = us′; offers = os′; orders = rs′ })
@@ -158,7 +158,7 @@ module _ (m x : List ℕ) (r : Readable m) (d : DaysOver m x (24 * word m 0)) wh
       unit-same a b c f
     where
       unit-same : {a a′ b b′ c c′ : ℕ} {fs fs′ : List Figures} → a ≡ a′ → b ≡ b′ → c ≡ c′ → fs ≡ fs′
-          → _≡_ {A = Unit} (record { kind = a; capacity = b; asset = c; figures = fs }) (record { kind = a′; capacity = b′; asset = c′; figures = fs′ })
+          → _≡_ {A = EnrolledUnit} (record { kind = a; capacity = b; asset = c; figures = fs }) (record { kind = a′; capacity = b′; asset = c′; figures = fs′ })
       unit-same a b c f = rw (a, b, c, f)
 
   pub closed-book : decode y ≡ dayClosed (decode m)

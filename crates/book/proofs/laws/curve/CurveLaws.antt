@@ -16,7 +16,7 @@ use Rattle.limits.specs.Units.{periods, mostCapacity}
 use Rattle.limits.specs.Limits.{hourOf, hourLimit}
 use Rattle.limits.proofs.LimitLaws.{hour-most}
 use Rattle.matching.proofs.laws.lists.EachLaws.{each-at}
-use Rattle.book.specs.Book.{Figures, Unit, Book, noUnit, noFigures, unitOf, figuresOf, net}
+use Rattle.book.specs.Book.{Figures, EnrolledUnit, Book, noUnit, noFigures, unitOf, figuresOf, net}
 use Rattle.book.specs.Fit.{nothing}
 use Rattle.book.specs.Sound.{sound}
 use Rattle.book.specs.Refusals.{firstOf}
@@ -57,7 +57,7 @@ module _ (m : List ℕ) (u day lent : ℕ) where
 -- the figures of a unit, in memory
 pub figures-at : (m : List ℕ) (u p : ℕ) → In 1 (word m 5) u → p < periods (word m 0) → figuresOf (decode m) u p ≡ figuresAt m (u - 1) p
 figures-at m u p h l =
-    ap (λ (x : Unit). getD (x .figures) p noFigures) (unit-at m u h)
+    ap (λ (x : EnrolledUnit). getD (x .figures) p noFigures) (unit-at m u h)
     ∙ table-at (periods (word m 0)) (figuresAt m (u - 1)) p noFigures l
 
 -- a sound book's figures come to a net

@@ -14,7 +14,7 @@ use Rattle.measures.proofs.ListLaws.{table-more, table-is}
 use Rattle.measures.proofs.RangeLaws.{In, inside, outside}
 use Rattle.limits.specs.Units.{mostCapacity, kindIn, capacityIn, assetIn}
 use Rattle.matching.specs.Memory.{ordersIn}
-use Rattle.book.specs.Book.{Unit, noFigures, noTrades}
+use Rattle.book.specs.Book.{EnrolledUnit, noFigures, noTrades}
 use Rattle.book.specs.Opening.{bookWords}
 use Rattle.book.specs.Layout.{word, decode, figuresAt, unitAt, offerAt, ordersPart}
 use Rattle.book.specs.inner.Readable.{Readable}
@@ -147,10 +147,10 @@ module _ (m x : List ℕ) (kind capacity asset : ℕ) (r : Readable m) (room : w
       ap (λ (n : ℕ). table n (unitAt more (word more 0))) count-set
       ∙ ap (λ (d : ℕ). table (word m 5 + 1) (unitAt more d)) d0
       ∙ table-more (word m 5) (unitAt more (word m 0))
-      ∙ ap (λ (l : List Unit). l ++ (unitAt more (word m 0) (word m 5) ∷ []))
+      ∙ ap (λ (l : List EnrolledUnit). l ++ (unitAt more (word m 0) (word m 5) ∷ []))
       (units-same more m (word m 5) (word m 0) (λ i a b. low i (omega (arith, room)) (omega arith) (omega arith) (omega arith) (omega arith))
       (λ p c hp hc. high p c hp (omega (arith, room)) (λ e le q. omega arith)))
-      ∙ ap (λ (u : Unit). table (word m 5) (unitAt m (word m 0)) ++ (u ∷ [])) new
+      ∙ ap (λ (u : EnrolledUnit). table (word m 5) (unitAt m (word m 0)) ++ (u ∷ [])) new
 
   pub enrolled-in : decode more ≡ enrolled (decode m) kind capacity asset
   unfolding decode

@@ -29,7 +29,7 @@ use Rattle.measures.proofs.ListLaws.{
 use Rattle.limits.specs.Units.{mostDays, mostCapacity, daysIn, periods, kindIn, generator, capacityIn, assetIn}
 use Rattle.matching.specs.Memory.{orderAt, ordersIn}
 use Rattle.matching.proofs.laws.orders.OrderLaws.{orders-length}
-use Rattle.book.specs.Book.{Unit, Book, noUnit, unitOf}
+use Rattle.book.specs.Book.{EnrolledUnit, Book, noUnit, unitOf}
 use Rattle.book.specs.Sound.{headIn, pricesIn, bilateralSides, offerSides, offerIn, orderIn}
 use Rattle.book.specs.Opening.{bookWords}
 use Rattle.book.specs.Layout.{word, unitAt, offerAt, amountAt, decode, enough, ordersPart}
@@ -134,7 +134,7 @@ unfolding decode
 unit-at m u h = table-at (word m 5) (unitAt m (word m 0)) (u - 1) noUnit (omega arith)
 
 pub kind-at : (m : List ℕ) (u : ℕ) → In 1 (word m 5) u → unitOf (decode m) u .kind ≡ word m (8 + 3 * (u - 1))
-kind-at m u h = ap (λ (x : Unit). x .kind) (unit-at m u h)
+kind-at m u h = ap (λ (x : EnrolledUnit). x .kind) (unit-at m u h)
 
 pub generator-is : (m : List ℕ) (u : ℕ) → In 1 (word m 5) u → In 1 2 (word m (8 + 3 * (u - 1))) → true ≡ generator (unitOf (decode m) u .kind)
 generator-is m u h k = rw (kind-at m u h) (sym (inside 1 2 _ k))

@@ -11,7 +11,7 @@ use Rattle.measures.proofs.ListLaws.{table-ext}
 use Rattle.matching.specs.Orders.{Order as OpenOrder}
 use Rattle.matching.specs.Memory.{orderAt, ordersIn}
 use Rattle.matching.proofs.laws.orders.OrderLaws.{order-same}
-use Rattle.book.specs.Book.{Unit, OpenOffer, Book, withOrders}
+use Rattle.book.specs.Book.{EnrolledUnit, OpenOffer, Book, withOrders}
 use Rattle.book.specs.Layout.{word, figuresAt, unitAt, amountAt, offerAt, ordersPart, decode}
 use Rattle.book.proofs.laws.memory.RangeFacts.{order-word}
 
@@ -21,10 +21,10 @@ pub book-same : (a b : Book) → a .days ≡ b .days → a .floor ≡ b .floor �
 book-same a b e0 e1 e2 e3 e4 e5 e6 e7 = made (a .days) (b .days) (a .floor) (b .floor) (a .ceiling) (b .ceiling) (a .phase) (b .phase) (a .given) (b .given)
     (a .units) (b .units) (a .offers) (b .offers) (a .orders) (b .orders) e0 e1 e2 e3 e4 e5 e6 e7
   where
-    make : ℕ → ℕ → ℕ → ℕ → ℕ → List Unit → List OpenOffer → List OpenOrder → Book
+    make : ℕ → ℕ → ℕ → ℕ → ℕ → List EnrolledUnit → List OpenOffer → List OpenOrder → Book
     make d f c p g us os ps = record { days = d; floor = f; ceiling = c; phase = p; given = g; units = us; offers = os; orders = ps }
 
-    made : (d d′ f f′ c c′ p p′ g g′ : ℕ) (us us′ : List Unit) (os os′ : List OpenOffer) (ps ps′ : List OpenOrder)
+    made : (d d′ f f′ c c′ p p′ g g′ : ℕ) (us us′ : List EnrolledUnit) (os os′ : List OpenOffer) (ps ps′ : List OpenOrder)
         → d ≡ d′ → f ≡ f′ → c ≡ c′ → p ≡ p′ → g ≡ g′ → us ≡ us′ → os ≡ os′ → ps ≡ ps′ → make d f c p g us os ps ≡ make d′ f′ c′ p′ g′ us′ os′ ps′
     made d d′ f f′ c c′ p p′ g g′ us us′ os os′ ps ps′ e0 e1 e2 e3 e4 e5 e6 e7 = rw (e0, e1, e2, e3, e4, e5, e6, e7)
 

@@ -13,12 +13,12 @@ use Rattle.measures.proofs.RangeLaws.{In, inside, outside}
 use Rattle.measures.proofs.ListLaws.{cond-true, cond-false, or-left, or-right, sumOf-table, sum-ext, sum-more}
 use Rattle.matching.specs.Orders.{Order as OpenOrder, sells}
 use Rattle.matching.proofs.laws.lists.EachLaws.{keep-keep}
-use Rattle.matching.specs.Memory.{orderAt, ordersIn as ordersAt}
+use Rattle.matching.specs.Memory.{orderAt, ordersIn}
 use Rattle.book.specs.Book.{Figures, Book, figuresOf}
 use Rattle.book.specs.Refusals.{
   Check,
   firstOf,
-  ordersIn,
+  ordersOfUnit,
   unknownUnit,
   fewRows,
   badPrice,
@@ -32,7 +32,7 @@ use Rattle.book.specs.Refusals.{
 }
 use Rattle.book.specs.Layout.{word, decode, ordersPart}
 use Rattle.book.specs.Order.{orderChecks}
-use Rattle.book.specs.inner.Ordering.{nameChecks, dayChecks, fitChecks, NameChecked, ofUnitAt, againstAt}
+use Rattle.book.specs.inner.Ordering.{nameChecks, dayChecks, orderFitChecks, NameChecked, ofUnitAt, againstAt}
 use Rattle.book.proofs.laws.memory.RangeFacts.{units-held, orders-held, order-word}
 use Rattle.book.proofs.laws.check.NumberLaws.{orders-from}
 use Rattle.book.proofs.laws.answer.RefusalLaws.{Numbered}
@@ -174,8 +174,8 @@ module _ (m : List ℕ) (u d p : ℕ) (few : word m 7 ≤ 256) where
   abbrev otherWay : OpenOrder → Bool
   otherWay o = not (eqb (o .direction) d)
 
-  pub stand-count : length (ordersIn (decode m) u p) ≡ sum (word m 7) (ofUnitAt m u p)
-  unfolding ofUnitAt ordersAt
+  pub stand-count : length (ordersOfUnit (decode m) u p) ≡ sum (word m 7) (ofUnitAt m u p)
+  unfolding ofUnitAt ordersIn
   stand-count =
       kept-length ofUnit (decode m .orders)
       ∙ ap (sumOf (λ (o : OpenOrder). cond (ofUnit o) 1 0)) (orders-from m)
@@ -183,8 +183,8 @@ module _ (m : List ℕ) (u d p : ℕ) (few : word m 7 ≤ 256) where
       ∙ sum-ext (word m 7) (λ k. cond (ofUnit (orderAt (ordersPart m) k)) 1 0) (ofUnitAt m u p)
       (λ k h. rw (here k 1 h (omega arith), here k 3 h (omega arith)) refl)
 
-  pub against-count : length (keep otherWay (ordersIn (decode m) u p)) ≡ sum (word m 7) (againstAt m u d p)
-  unfolding againstAt ordersAt
+  pub against-count : length (keep otherWay (ordersOfUnit (decode m) u p)) ≡ sum (word m 7) (againstAt m u d p)
+  unfolding againstAt ordersIn
   against-count =
       ap (λ (l : List OpenOrder). length l) (keep-keep otherWay ofUnit (decode m .orders))
       ∙ kept-length (λ (o : OpenOrder). ofUnit o && otherWay o) (decode m .orders)
@@ -253,23 +253,23 @@ module _ (m : List ℕ) (u d p : ℕ) (few : word m 7 ≤ 256) (hu : In 1 (word 
   unfolding dayChecks
   days-against a e h =
       applies-first (otherDirection (decode m) u d p) _
-      (or-left (ltb 0 (length (keep (λ (o : OpenOrder). not (eqb (o .direction) d)) (ordersIn (decode m) u p))))
+      (or-left (ltb 0 (length (keep (λ (o : OpenOrder). not (eqb (o .direction) d)) (ordersOfUnit (decode m) u p))))
       (wayAgainst d (figuresOf (decode m) u p .way))
-      (lt-ltb 0 (length (keep (λ (o : OpenOrder). not (eqb (o .direction) d)) (ordersIn (decode m) u p))) (rw (against-count m u d p few, ← e) h)))
+      (lt-ltb 0 (length (keep (λ (o : OpenOrder). not (eqb (o .direction) d)) (ordersOfUnit (decode m) u p))) (rw (against-count m u d p few, ← e) h)))
 
   pub days-way : word m (1780 + 328 * p + 5 * (u - 1)) ≡ 2 - d → 15 ≡ firstOf (dayChecks (decode m) u d p)
   unfolding dayChecks
   days-way e =
       applies-first (otherDirection (decode m) u d p) _
-      (or-right (ltb 0 (length (keep (λ (o : OpenOrder). not (eqb (o .direction) d)) (ordersIn (decode m) u p))))
+      (or-right (ltb 0 (length (keep (λ (o : OpenOrder). not (eqb (o .direction) d)) (ordersOfUnit (decode m) u p))))
       (wayAgainst d (figuresOf (decode m) u p .way))
       (way-yes d (figuresOf (decode m) u p .way) hd (way-held ∙ e)))
 
   module _ (a : ℕ) (ea : a ≡ sum (word m 7) (againstAt m u d p)) (na : a ≤ 0) (nw : word m (1780 + 328 * p + 5 * (u - 1)) ≡ 2 - d → ⊥) where
     other-no : otherDirection (decode m) u d p .applies ≡ false
     other-no =
-        let t : length (keep (λ (o : OpenOrder). not (eqb (o .direction) d)) (ordersIn (decode m) u p)) ≤ 0 = rw (against-count m u d p few, ← ea) na in
-        rw (le-ltb 0 (length (keep (λ (o : OpenOrder). not (eqb (o .direction) d)) (ordersIn (decode m) u p))) t)
+        let t : length (keep (λ (o : OpenOrder). not (eqb (o .direction) d)) (ordersOfUnit (decode m) u p)) ≤ 0 = rw (against-count m u d p few, ← ea) na in
+        rw (le-ltb 0 (length (keep (λ (o : OpenOrder). not (eqb (o .direction) d)) (ordersOfUnit (decode m) u p))) t)
         (way-no d (figuresOf (decode m) u p .way) hd (λ z. nw (sym way-held ∙ z)))
 
     module _ (s r : ℕ) (es : s ≡ sum (word m 7) (ofUnitAt m u p)) (er : r ≡ cond (eqb (word m 3) 0) s 0) where
@@ -277,7 +277,7 @@ module _ (m : List ℕ) (u d p : ℕ) (few : word m 7 ≤ 256) (hu : In 1 (word 
       two-is true e = (λ h. le-leb 2 s (omega arith), λ h. lt-leb 2 s (omega arith))
       two-is false e = (λ h. absurd (omega arith), λ h. refl)
 
-      stand-is : length (ordersIn (decode m) u p) ≡ s
+      stand-is : length (ordersOfUnit (decode m) u p) ≡ s
       stand-is = stand-count m u d p few ∙ sym es
 
       two-applies : twoOpen (decode m) u p .applies ≡ (eqb (word m 3) 0 && leb 2 s)
@@ -335,21 +335,21 @@ counted-rolling x s n = rw (ne-eqb x 0 n) refl
 -- the parts are the whole
 module _ (b : Book) (u d p price q lent r : ℕ) where
   pub order-names-first : (r ≡ 0 → ⊥) → r ≡ firstOf (nameChecks b u d p price q lent) → r ≡ firstOf (orderChecks b u d p price q lent)
-  unfolding nameChecks dayChecks fitChecks
-  order-names-first n e = first-part (nameChecks b u d p price q lent) (dayChecks b u d p ++ fitChecks b u d p q) r n e
+  unfolding nameChecks dayChecks orderFitChecks
+  order-names-first n e = first-part (nameChecks b u d p price q lent) (dayChecks b u d p ++ orderFitChecks b u d p q) r n e
 
   pub order-days-first : 0 ≡ firstOf (nameChecks b u d p price q lent) → (r ≡ 0 → ⊥) → r ≡ firstOf (dayChecks b u d p) → r
       ≡ firstOf (orderChecks b u d p price q lent)
-  unfolding nameChecks dayChecks fitChecks
+  unfolding nameChecks dayChecks orderFitChecks
   order-days-first z n e =
-      next-part (nameChecks b u d p price q lent) (dayChecks b u d p ++ fitChecks b u d p q) r
+      next-part (nameChecks b u d p price q lent) (dayChecks b u d p ++ orderFitChecks b u d p q) r
       (omega arith, (omega arith, (omega arith, (omega arith, (omega arith, (omega arith, tt)))))) z
-      (first-part (dayChecks b u d p) (fitChecks b u d p q) r n e)
+      (first-part (dayChecks b u d p) (orderFitChecks b u d p q) r n e)
 
-  pub order-fit-first : 0 ≡ firstOf (nameChecks b u d p price q lent) → 0 ≡ firstOf (dayChecks b u d p) → r ≡ firstOf (fitChecks b u d p q) → r
+  pub order-fit-first : 0 ≡ firstOf (nameChecks b u d p price q lent) → 0 ≡ firstOf (dayChecks b u d p) → r ≡ firstOf (orderFitChecks b u d p q) → r
       ≡ firstOf (orderChecks b u d p price q lent)
-  unfolding nameChecks dayChecks fitChecks
+  unfolding nameChecks dayChecks orderFitChecks
   order-fit-first z y e =
-      next-part (nameChecks b u d p price q lent) (dayChecks b u d p ++ fitChecks b u d p q) r
+      next-part (nameChecks b u d p price q lent) (dayChecks b u d p ++ orderFitChecks b u d p q) r
       (omega arith, (omega arith, (omega arith, (omega arith, (omega arith, (omega arith, tt)))))) z
-      (next-part (dayChecks b u d p) (fitChecks b u d p q) r (omega arith, (omega arith, (omega arith, (omega arith, tt)))) y e)
+      (next-part (dayChecks b u d p) (orderFitChecks b u d p q) r (omega arith, (omega arith, (omega arith, (omega arith, tt)))) y e)

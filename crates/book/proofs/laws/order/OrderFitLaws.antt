@@ -14,7 +14,7 @@ use Rattle.measures.proofs.RangeLaws.{In}
 use Rattle.measures.proofs.ListLaws.{both-ways, all-true, all-at, all-by, every-at}
 use Rattle.limits.specs.Units.{generator}
 use Rattle.matching.proofs.laws.lists.EachLaws.{each-at}
-use Rattle.book.specs.Book.{Unit, noUnit, unitOf}
+use Rattle.book.specs.Book.{EnrolledUnit, noUnit, unitOf}
 use Rattle.book.specs.Trades.{raises, lowers}
 use Rattle.book.specs.Fit.{unitFits}
 use Rattle.book.specs.Sound.{sound, unitIn}
@@ -23,7 +23,7 @@ use Rattle.book.specs.Layout.{word, decode, unitAt}
 use Rattle.book.specs.inner.Readable.{Ranged, waysIn, declared, Fitted, unitFieldsIn, small}
 use Rattle.book.specs.Contract.{soundIn}
 use Rattle.book.specs.Order.{orderDeclares}
-use Rattle.book.specs.inner.Ordering.{fitChecks}
+use Rattle.book.specs.inner.Ordering.{orderFitChecks}
 use Rattle.book.proofs.laws.memory.RangeFacts.{units-held, unit-at, UnitFields, unit-holds}
 use Rattle.book.proofs.laws.answer.MadeLaws.{sound-book, sound-readable}
 use Rattle.book.proofs.laws.sound.SoundLaws.{UnitRanges, sound-facts}
@@ -38,9 +38,9 @@ module _ (m : List ℕ) (e : soundIn m ≡ true) where
       let r = each-at (UnitRanges (decode m .days)) (decode m .units) (k + 1 - 1) noUnit (s .formed .units) (rw (units-held m) (omega arith)) in
       let q : k + 1 - 1 ≡ k = omega arith in
       let g : unitOf (decode m) (k + 1) ≡ unitAt m (word m 0) k = unit-at m (k + 1) i ∙ ap (unitAt m (word m 0)) q in
-      let x = ap (λ (y : Unit). y .kind) g in
-      let y = ap (λ (z : Unit). z .capacity) g in
-      let z = ap (λ (w : Unit). w .asset) g in
+      let x = ap (λ (y : EnrolledUnit). y .kind) g in
+      let y = ap (λ (z : EnrolledUnit). z .capacity) g in
+      let z = ap (λ (w : EnrolledUnit). w .asset) g in
       let a = r .kind in
       let b = r .capacity in
       let c = r .asset in
@@ -116,22 +116,22 @@ none false = refl
 module _ (m : List ℕ) (e : soundIn m ≡ true) (n u d p q r : ℕ) (from : 1 ≤ u) (upto : u ≤ word m 5) (h : p < n) where
   checked : (raising lowering : List ℕ) → ((i : ℕ) → getD raising i 0 ≡ orderDeclares (decode m) u d p q .raising i)
       → ((i : ℕ) → getD lowering i 0 ≡ orderDeclares (decode m) u d p q .lowering i)
-      → Fitted (decode m) u (declared raising lowering) r → r ≡ firstOf (fitChecks (decode m) u d p q)
-  unfolding fitChecks
+      → Fitted (decode m) u (declared raising lowering) r → r ≡ firstOf (orderFitChecks (decode m) u d p q)
+  unfolding orderFitChecks
   checked raising lowering a b f =
       f .clean (ways-are m e u (from, upto))
       ∙ misfit-ext (decode m) u (declared raising lowering) (orderDeclares (decode m) u d p q) a b
       ∙ misfit-declared (decode m) u (orderDeclares (decode m) u d p q) (fits-are m e u (from, upto))
 
   pub fit-raising : raises (unitOf (decode m) u .kind) d ≡ true
-      → Fitted (decode m) u (declared (set (replicate {A = ℕ} n 0) p q) (replicate {A = ℕ} n 0)) r → r ≡ firstOf (fitChecks (decode m) u d p q)
+      → Fitted (decode m) u (declared (set (replicate {A = ℕ} n 0) p q) (replicate {A = ℕ} n 0)) r → r ≡ firstOf (orderFitChecks (decode m) u d p q)
   fit-raising t =
       checked (set (replicate {A = ℕ} n 0) p q) (replicate {A = ℕ} n 0)
       (λ i. alone-at n p q h i ∙ rw t refl)
       (λ i. zeros-at n i ∙ rw (not-lower (generator (unitOf (decode m) u .kind)) d t) (none (eqb i p)))
 
   pub fit-lowering : d ≤ 1 → raises (unitOf (decode m) u .kind) d ≡ false
-      → Fitted (decode m) u (declared (replicate {A = ℕ} n 0) (set (replicate {A = ℕ} n 0) p q)) r → r ≡ firstOf (fitChecks (decode m) u d p q)
+      → Fitted (decode m) u (declared (replicate {A = ℕ} n 0) (set (replicate {A = ℕ} n 0) p q)) r → r ≡ firstOf (orderFitChecks (decode m) u d p q)
   fit-lowering l t =
       checked (replicate {A = ℕ} n 0) (set (replicate {A = ℕ} n 0) p q)
       (λ i. zeros-at n i ∙ rw t (none (eqb i p)))

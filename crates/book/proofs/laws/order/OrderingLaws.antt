@@ -19,7 +19,7 @@ use Rattle.book.specs.Fit.{Declaration, nothing}
 use Rattle.book.specs.Sound.{oneWay, sound}
 use Rattle.book.specs.Refusals.{
   accepted,
-  ordersIn,
+  ordersOfUnit,
   unsound,
   unknownUnit,
   fewRows,
@@ -102,7 +102,7 @@ module _ (b : Book) (u d p price q : ℕ) where
           energy = within 1 mostEnergy q (not-false _ (t .1 .1 .1 .1 .0));
         };
         follows =
-            let n = length (keep (otherWay d) (ordersIn b u p)) in
+            let n = length (keep (otherWay d) (ordersOfUnit b u p)) in
             let h : n ≤ 0 = ltb-false 0 n (day .0) in
             one-direction u d p (b .orders) (omega arith);
         way = day .1;
@@ -125,7 +125,7 @@ module _ (b : Book) (u d p price q : ℕ) where
       named : In 1 (length (b .units)) u
       named = within 1 (length (b .units)) u (not-false _ (t .1 .0))
 
-      day : (ltb 0 (length (keep (otherWay d) (ordersIn b u p))) ≡ false)
+      day : (ltb 0 (length (keep (otherWay d) (ordersOfUnit b u p))) ≡ false)
           × (cond (sells d) (eqb (figuresOf b u p .way) 2) (eqb (figuresOf b u p .way) 1) ≡ false)
       day = or-neither _ _ (t .1 .1 .1 .1 .1 .1 .1 .0)
 

@@ -17,7 +17,7 @@ use Rattle.matching.proofs.laws.lists.EachLaws.{each-map, has-each}
 use Rattle.matching.proofs.laws.rolling.RollingLaws.{Sides, row-sides, traded-and-left, nothing-crosses-after}
 use Rattle.matching.proofs.laws.orders.ExchangeLaws.{isOf, openOf, Exchanged}
 use Rattle.matching.proofs.laws.rolling.MetLaws.{met-exchanged}
-use Rattle.book.specs.Book.{Unit, noUnit, Book, callPhase, rollingPhase, withUnits, withOrders, inPhase, numbered}
+use Rattle.book.specs.Book.{EnrolledUnit, noUnit, Book, callPhase, rollingPhase, withUnits, withOrders, inPhase, numbered}
 use Rattle.book.specs.Trades.{unitTraded, booked, rowBooked, rowsBooked}
 use Rattle.book.specs.Fit.{Declaration, openRaising, openLowering, nothing}
 use Rattle.book.specs.Sound.{apart, eachTwo, sound}
@@ -39,10 +39,10 @@ unfolding rowsBooked booked
 rows-units [] b c e = e
 rows-units (r ∷ rs) b c e = rows-units rs (rowBooked r b) (rowBooked r c) (one 1 (r .buyer) (one 0 (r .seller) e))
   where
-    one : (d v : ℕ) {xs ys : List Unit} → xs ≡ ys
+    one : (d v : ℕ) {xs ys : List EnrolledUnit} → xs ≡ ys
         → set xs (v - 1) (unitTraded (r .way) d (r .period) (r .quantity) (getD xs (v - 1) noUnit))
         ≡ set ys (v - 1) (unitTraded (r .way) d (r .period) (r .quantity) (getD ys (v - 1) noUnit))
-    one d v e = ap (λ (us : List Unit). set us (v - 1) (unitTraded (r .way) d (r .period) (r .quantity) (getD us (v - 1) noUnit))) e
+    one d v e = ap (λ (us : List EnrolledUnit). set us (v - 1) (unitTraded (r .way) d (r .period) (r .quantity) (getD us (v - 1) noUnit))) e
 
 -- limits do not look at the phase
 fits-in-phase : (b : Book) (phase u : ℕ) (d : Declaration) → Fits b u d → Fits (inPhase b phase) u d
@@ -221,7 +221,7 @@ module _ (b : Book) (u d p price q : ℕ) (s : Sound b) (a : OrderPassed b u d p
   rolled-book : numbered (rowsBooked (met .rows) (withOrders b left)) ≡ inPhase (rowsBooked (met .rows) (withOrders waited left)) (b .phase)
   rolled-book =
       ap numbered (kept-rows (met .rows) (withOrders b left) .rest)
-      ∙ ap (λ (us : List Unit). numbered (withUnits (withOrders b left) us)) (rows-units (met .rows) (withOrders b left) (withOrders waited left) refl)
+      ∙ ap (λ (us : List EnrolledUnit). numbered (withUnits (withOrders b left) us)) (rows-units (met .rows) (withOrders b left) (withOrders waited left) refl)
       ∙ ap (λ (c : Book). inPhase c (b .phase)) (sym (kept-rows (met .rows) (withOrders waited left) .rest))
 
   pub rolled-sound : sound (orderedInRolling b incoming .book) ≡ true

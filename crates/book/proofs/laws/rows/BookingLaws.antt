@@ -13,7 +13,7 @@ use Rattle.measures.specs.Lists.{table}
 use Rattle.measures.proofs.ListLaws.{cond-true, cond-false, table-at, table-is, table-more}
 use Rattle.limits.specs.Units.{periods, generator}
 use Rattle.matching.specs.Orders.{Row}
-use Rattle.book.specs.Book.{Figures, noFigures, Unit, Book, unitOf, withUnits}
+use Rattle.book.specs.Book.{Figures, noFigures, EnrolledUnit, Book, unitOf, withUnits}
 use Rattle.book.specs.Trades.{raises, wayAfter, traded, unitTraded, booked, rowBooked, rowsBooked}
 use Rattle.book.specs.Opening.{bookWords}
 use Rattle.book.specs.Layout.{word, figuresAt, decode}
@@ -95,7 +95,7 @@ module _ (m x : List ℕ) (way direction p q u w : ℕ) (g : Readable m) (hp : p
             (table (periods (word m 0)) (figuresAt m (u - 1))) p (traded (word m (8 + 3 * (u - 1))) way direction q (figuresAt m (u - 1) p));
       }
   traded-unit =
-      ap (λ (t : Unit). unitTraded way direction p q t) (unit-at m u (one, most))
+      ap (λ (t : EnrolledUnit). unitTraded way direction p q t) (unit-at m u (one, most))
       ∙ unit-same refl refl refl (ap (λ (f : Figures). set (table (periods (word m 0)) (figuresAt m (u - 1))) p
       (traded (word m (8 + 3 * (u - 1))) way direction q f)) (figures-of (u - 1)))
 
@@ -106,7 +106,7 @@ module _ (m x : List ℕ) (way direction p q u w : ℕ) (g : Readable m) (hp : p
   unfolding booked
   booked-by r l v f e =
       put-book m x (u - 1) p r l v w f (omega arith) g (omega arith) hp
-      ∙ ap (λ (t : Unit). withUnits (decode m) (set (decode m .units) (u - 1) t))
+      ∙ ap (λ (t : EnrolledUnit). withUnits (decode m) (set (decode m .units) (u - 1) t))
       (sym (traded-unit ∙ unit-same refl refl refl (ap (λ (t : Figures). set (table (periods (word m 0)) (figuresAt m (u - 1))) p t) e)))
 
   pub trade-raised : raises (unitOf (decode m) u .kind) direction ≡ true

@@ -10,7 +10,7 @@ use Rattle.measures.specs.Lists.{table}
 use Rattle.measures.proofs.ListLaws.{table-set, table-ext}
 use Rattle.limits.specs.Units.{periods}
 use Rattle.matching.specs.Orders.{Order as OpenOrder}
-use Rattle.book.specs.Book.{Figures, noFigures, Unit, noUnit, OpenOffer, Book, withUnits}
+use Rattle.book.specs.Book.{Figures, noFigures, EnrolledUnit, noUnit, OpenOffer, Book, withUnits}
 use Rattle.book.specs.Layout.{word, figuresAt, unitAt, amountAt, offerAt, ordersPart, decode}
 use Rattle.book.specs.inner.Readable.{Readable}
 use Rattle.book.specs.inner.RowsIn.{SmallAt, Small, FiguresPut, Kept}
@@ -66,7 +66,7 @@ pub figures-same : {a b c d e a′ b′ c′ d′ e′ : ℕ} → a ≡ a′ →
 figures-same ha hb hc hd he = rw (ha, hb, hc, hd, he)
 
 pub unit-same : {a b c a′ b′ c′ : ℕ} {f f′ : List Figures} → a ≡ a′ → b ≡ b′ → c ≡ c′ → f ≡ f′
-    → _≡_ {A = Unit} (record { kind = a; capacity = b; asset = c; figures = f }) (record { kind = a′; capacity = b′; asset = c′; figures = f′ })
+    → _≡_ {A = EnrolledUnit} (record { kind = a; capacity = b; asset = c; figures = f }) (record { kind = a′; capacity = b′; asset = c′; figures = f′ })
 unit-same ha hb hc hf = rw (ha, hb, hc, hf)
 
 pub offer-same : {a b c d e a′ b′ c′ d′ e′ : ℕ} {f f′ : List ℕ} → a ≡ a′ → b ≡ b′ → c ≡ c′ → d ≡ d′ → e ≡ e′ → f ≡ f′
@@ -74,7 +74,7 @@ pub offer-same : {a b c d e a′ b′ c′ d′ e′ : ℕ} {f f′ : List ℕ} 
     (record { number = a′; unit = b′; partner = c′; price = d′; taken = e′; amounts = f′ })
 offer-same ha hb hc hd he hf = rw (ha, hb, hc, hd, he, hf)
 
-pub book-same : {a b c d e a′ b′ c′ d′ e′ : ℕ} {us us′ : List Unit} {fs fs′ : List OpenOffer} {os os′ : List OpenOrder} → a ≡ a′ → b ≡ b′ → c ≡ c′ → d ≡ d′
+pub book-same : {a b c d e a′ b′ c′ d′ e′ : ℕ} {us us′ : List EnrolledUnit} {fs fs′ : List OpenOffer} {os os′ : List OpenOrder} → a ≡ a′ → b ≡ b′ → c ≡ c′ → d ≡ d′
     → e ≡ e′ → us ≡ us′ → fs ≡ fs′ → os ≡ os′
     → _≡_ {A = Book} (record { days = a; floor = b; ceiling = c; phase = d; given = e; units = us; offers = fs; orders = os })
     (record { days = a′; floor = b′; ceiling = c′; phase = d′; given = e′; units = us′; offers = fs′; orders = os′ })

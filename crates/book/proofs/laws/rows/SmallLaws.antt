@@ -16,7 +16,7 @@ use Rattle.limits.specs.Limits.{hourOf, hourLimit, volumeLimit}
 use Rattle.limits.proofs.LimitLaws.{term-most, hour-most, volume-most}
 use Rattle.matching.specs.Orders.{Row}
 use Rattle.matching.specs.Memory.{flatRow, flat, written}
-use Rattle.book.specs.Book.{Figures, noFigures, Unit, noUnit, Book, unitOf, figuresOf}
+use Rattle.book.specs.Book.{Figures, noFigures, EnrolledUnit, noUnit, Book, unitOf, figuresOf}
 use Rattle.book.specs.Fit.{nothing, raisingToday, loweringToday, openRaising, openLowering, hourFits, termOf, volumeFits, unitFits}
 use Rattle.book.specs.Sound.{sound, unitIn}
 use Rattle.book.specs.Layout.{word, figuresAt, decode}
@@ -28,7 +28,7 @@ use Rattle.book.proofs.laws.answer.MadeLaws.{sound-book, sound-head}
 -- the figures of a unit in memory
 pub figures-at : (m : List ℕ) (u p : ℕ) → In 1 (word m 5) u → p < 24 * word m 0 → figuresOf (decode m) u p ≡ figuresAt m (u - 1) p
 figures-at m u p h hp =
-    ap (λ (t : Unit). getD (t .figures) p noFigures) (unit-at m u h) ∙ table-at (periods (word m 0)) (figuresAt m (u - 1)) p noFigures hp
+    ap (λ (t : EnrolledUnit). getD (t .figures) p noFigures) (unit-at m u h) ∙ table-at (periods (word m 0)) (figuresAt m (u - 1)) p noFigures hp
 
 -- what one unit's fit says of its figures
 module _ (b : Book) (u : ℕ) (fit : unitFits b u ≡ true) where

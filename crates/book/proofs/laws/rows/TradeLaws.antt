@@ -13,7 +13,7 @@ use Rattle.measures.specs.Lists.{sumOf, Each}
 use Rattle.measures.proofs.RangeLaws.{In}
 use Rattle.limits.specs.Units.{generator}
 use Rattle.matching.specs.Orders.{Row}
-use Rattle.book.specs.Book.{Figures, noFigures, Unit, noUnit, Book, unitOf, figuresOf, withUnits}
+use Rattle.book.specs.Book.{Figures, noFigures, EnrolledUnit, noUnit, Book, unitOf, figuresOf, withUnits}
 use Rattle.book.specs.Trades.{raises, traded, unitTraded, booked, rowBooked, rowsBooked}
 use Rattle.book.proofs.laws.sound.RemainLaws.{each-at}
 use Rattle.book.proofs.laws.sound.SoundLaws.{UnitRanges}
@@ -73,7 +73,7 @@ module _ (w d p q : ℕ) where
       go false true = omega arith
       go false false = k
 
-  trade-ranges : (days : ℕ) (u : Unit) → d ≤ 1 → UnitRanges days u → UnitRanges days (unitTraded w d p q u)
+  trade-ranges : (days : ℕ) (u : EnrolledUnit) → d ≤ 1 → UnitRanges days u → UnitRanges days (unitTraded w d p q u)
   trade-ranges days u h r =
       record {
         kind = r .kind;
@@ -91,17 +91,17 @@ module _ (w d p q : ℕ) where
       record {
         rest = refl;
         count = length-set (b .units) (v - 1) x;
-        kind = λ u. set-keeps (λ (y : Unit). y .kind) (b .units) (v - 1) (u - 1) x noUnit refl;
-        capacity = λ u. set-keeps (λ (y : Unit). y .capacity) (b .units) (v - 1) (u - 1) x noUnit refl;
-        asset = λ u. set-keeps (λ (y : Unit). y .asset) (b .units) (v - 1) (u - 1) x noUnit refl;
+        kind = λ u. set-keeps (λ (y : EnrolledUnit). y .kind) (b .units) (v - 1) (u - 1) x noUnit refl;
+        capacity = λ u. set-keeps (λ (y : EnrolledUnit). y .capacity) (b .units) (v - 1) (u - 1) x noUnit refl;
+        asset = λ u. set-keeps (λ (y : EnrolledUnit). y .asset) (b .units) (v - 1) (u - 1) x noUnit refl;
         figures = λ u.
-            set-keeps (λ (y : Unit). length (y .figures)) (b .units) (v - 1) (u - 1) x noUnit
+            set-keeps (λ (y : EnrolledUnit). length (y .figures)) (b .units) (v - 1) (u - 1) x noUnit
             (length-set (unitOf b v .figures) p (traded (unitOf b v .kind) w d q (getD (unitOf b v .figures) p noFigures)));
         ranges = λ days e. each-set (UnitRanges days) (b .units) (v - 1) x e
             (λ l. trade-ranges days (unitOf b v) h (each-at (UnitRanges days) (b .units) (v - 1) noUnit e l));
       }
     where
-      x : Unit
+      x : EnrolledUnit
       x = unitTraded w d p q (unitOf b v)
 
   -- the figures of a unit and a period after a trade
@@ -120,14 +120,14 @@ module _ (w d p q : ℕ) where
           ≡ cond (eqb v u && eqb p at) (traded (unitOf b u .kind) w d q (figuresOf b u at)) (figuresOf b u at)
       go (yes e) (yes i) =
           let l : p < length (unitOf b u .figures) = omega arith in
-          ap (λ (x : Unit). getD (x .figures) at noFigures) (mine e)
+          ap (λ (x : EnrolledUnit). getD (x .figures) at noFigures) (mine e)
           ∙ rw (eq-eqb v u e, eq-eqb p at i, ← i) (getD-set-same (unitOf b u .figures) p (traded (unitOf b u .kind) w d q (figuresOf b u p)) noFigures l)
       go (yes e) (no i) =
-          ap (λ (x : Unit). getD (x .figures) at noFigures) (mine e)
+          ap (λ (x : EnrolledUnit). getD (x .figures) at noFigures) (mine e)
           ∙ rw (eq-eqb v u e, ne-eqb p at i) (getD-set-other (unitOf b u .figures) p at (traded (unitOf b u .kind) w d q (figuresOf b u p)) noFigures
           (λ j. i (sym j)))
       go (no e) i =
-          ap (λ (x : Unit). getD (x .figures) at noFigures) (getD-set-other (b .units) (v - 1) (u - 1) (unitTraded w d p q (unitOf b v)) noUnit
+          ap (λ (x : EnrolledUnit). getD (x .figures) at noFigures) (getD-set-other (b .units) (v - 1) (u - 1) (unitTraded w d p q (unitOf b v)) noUnit
           (omega arith))
           ∙ rw (ne-eqb v u e)
 

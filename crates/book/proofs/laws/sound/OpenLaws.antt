@@ -11,7 +11,7 @@ use Rattle.measures.specs.Lists.{Each, sum}
 use Rattle.measures.proofs.ListLaws.{sumOf-append}
 use Rattle.limits.specs.Units.{periods}
 use Rattle.matching.specs.Orders.{Order as OpenOrder}
-use Rattle.book.specs.Book.{Figures, noFigures, Unit, OpenOffer, Book, unitOf, figuresOf}
+use Rattle.book.specs.Book.{Figures, noFigures, EnrolledUnit, OpenOffer, Book, unitOf, figuresOf}
 use Rattle.book.specs.Trades.{raises, lowers}
 use Rattle.book.specs.Fit.{openOrders, openOffers, openRaising, openLowering, nothing}
 use Rattle.book.proofs.laws.sound.RemainLaws.{Remains, remains-sum}
@@ -77,18 +77,18 @@ moved-remaining b b′ u days e s t =
     record {
       days = days;
       kind = kind;
-      capacity = ap (λ (x : Unit). x .capacity) e;
-      asset = ap (λ (x : Unit). x .asset) e;
+      capacity = ap (λ (x : EnrolledUnit). x .capacity) e;
+      asset = ap (λ (x : EnrolledUnit). x .asset) e;
       raising = λ p h. omega (arith, ap (λ (f : Figures). f .held) (same p), ap (λ (f : Figures). f .raised) (same p), raising-less b b′ u p kind s t);
       lowering = λ p h k. omega (arith, ap (λ (f : Figures). f .held) (same p), ap (λ (f : Figures). f .lowered) (same p), lowering-less b b′ u p kind t);
       volume = λ p h. omega (arith, ap (λ (f : Figures). f .volume) (same p), raising-less b b′ u p kind s t, lowering-less b b′ u p kind t);
     }
   where
     kind : unitOf b′ u .kind ≡ unitOf b u .kind
-    kind = ap (λ (x : Unit). x .kind) e
+    kind = ap (λ (x : EnrolledUnit). x .kind) e
 
     same : (p : ℕ) → figuresOf b′ u p ≡ figuresOf b u p
-    same p = ap (λ (x : Unit). getD (x .figures) p noFigures) e
+    same p = ap (λ (x : EnrolledUnit). getD (x .figures) p noFigures) e
 
 sum-zero : (n : ℕ) (f : ℕ → ℕ) → ((i : ℕ) → i < n → f i ≡ 0) → sum n f ≡ 0
 unfolding sum

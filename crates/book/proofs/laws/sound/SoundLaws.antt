@@ -15,7 +15,7 @@ use Rattle.measures.proofs.RangeLaws.{In, inside, within}
 use Rattle.measures.proofs.ListLaws.{and-true, and-left, and-right, or-left, or-right, or-other, not-fails, all-true, holds-all, all-at, all-by}
 use Rattle.limits.specs.Units.{mostDays, mostCapacity, periods, generator}
 use Rattle.matching.specs.Orders.{Order as OpenOrder, rising, numbers}
-use Rattle.book.specs.Book.{Figures, Unit, OpenOffer, Book, rollingPhase, mostUnits, mostOffers, mostOrders, mostNumbers, known, unitOf}
+use Rattle.book.specs.Book.{Figures, EnrolledUnit, OpenOffer, Book, rollingPhase, mostUnits, mostOffers, mostOrders, mostNumbers, known, unitOf}
 use Rattle.book.specs.Fit.{nothing, unitFits}
 use Rattle.book.specs.Sound.{headIn, unitIn, bilateralSides, offerSides, offerIn, orderIn, numbersDiffer, oneWay, apart, eachTwo, sound}
 use Rattle.book.proofs.laws.sound.RemainLaws.{each-of, each-holds}
@@ -61,14 +61,14 @@ head-in b h =
     )
 
 -- the ranges of a unit's figures
-pub record UnitRanges (days : ℕ) (u : Unit) : Type 0 where
+pub record UnitRanges (days : ℕ) (u : EnrolledUnit) : Type 0 where
   pub kind : In 1 4 (u .kind)
   pub capacity : In 1 mostCapacity (u .capacity)
   pub asset : u .asset ≤ mostEnergy
   pub figures : length (u .figures) ≡ periods days
   pub ways : Each (λ (f : Figures). f .way ≤ 2) (u .figures)
 
-pub unit-ranges : (days : ℕ) (u : Unit) → unitIn days u ≡ true → UnitRanges days u
+pub unit-ranges : (days : ℕ) (u : EnrolledUnit) → unitIn days u ≡ true → UnitRanges days u
 unfolding unitIn
 unit-ranges days u e =
     let t = all-true _ e in
@@ -80,7 +80,7 @@ unit-ranges days u e =
       ways = each-of (λ (f : Figures). leb (f .way) 2) (λ (f : Figures). f .way ≤ 2) (λ f h. leb-true _ _ h) (u .figures) (t .1 .1 .1 .1 .0);
     }
 
-pub unit-in : (days : ℕ) (u : Unit) → UnitRanges days u → unitIn days u ≡ true
+pub unit-in : (days : ℕ) (u : EnrolledUnit) → UnitRanges days u → unitIn days u ≡ true
 unfolding unitIn
 unit-in days u r =
     holds-all _ (

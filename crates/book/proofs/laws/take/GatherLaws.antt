@@ -15,7 +15,7 @@ use Rattle.measures.proofs.SharingLaws.{is-shared, parts-sum}
 use Rattle.measures.proofs.ListLaws.{table-length, table-more, table-at, all-by, all-true, holds-all, every-at}
 use Rattle.measures.proofs.RangeLaws.{In}
 use Rattle.limits.specs.Units.{periods}
-use Rattle.book.specs.Book.{Figures, Unit, noUnit}
+use Rattle.book.specs.Book.{Figures, EnrolledUnit, noUnit}
 use Rattle.book.specs.Sound.{sound, unitIn}
 use Rattle.book.specs.Offer.{raisingAmounts}
 use Rattle.book.specs.Layout.{word, amountAt, unitAt, decode}
@@ -80,7 +80,7 @@ module _ (m : List ℕ) (s : soundIn m ≡ true) where
   unfolding waysIn unitIn
   sound-ways u h =
       let t = all-true _ (unit-in-at (u - 1) (omega arith)) in
-      ap (λ (x : Unit). every (λ (g : Figures). leb (g .way) 2) (x .figures)) (unit-at m u h) ∙ t .1 .1 .1 .1 .0
+      ap (λ (x : EnrolledUnit). every (λ (g : Figures). leb (g .way) 2) (x .figures)) (unit-at m u h) ∙ t .1 .1 .1 .1 .0
 
 -- the parts of a take, as they are shared and as they fit
 module _ (m : List ℕ) (u j q : ℕ) (s : soundIn m ≡ true) (hj : j < word m 6) (hu : In 1 (word m 5) u) (some : 1 ≤ q) (most : q

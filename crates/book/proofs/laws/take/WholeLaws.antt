@@ -12,7 +12,7 @@ use Rattle.measures.proofs.ListLaws.{cond-case}
 use Rattle.matching.specs.Orders.{Row}
 use Rattle.matching.specs.Memory.{written}
 use Rattle.matching.proofs.laws.orders.RowLaws.{written-length}
-use Rattle.book.specs.Book.{Figures, Unit, OpenOffer, Book, unitOf, figuresOf, withOffers}
+use Rattle.book.specs.Book.{Figures, EnrolledUnit, OpenOffer, Book, unitOf, figuresOf, withOffers}
 use Rattle.book.specs.Trades.{rowsBooked}
 use Rattle.book.specs.Take.{takeRows}
 use Rattle.book.specs.Opening.{bookWords}

@@ -3,7 +3,7 @@ use native.Mathlib.Omega.{arith}
 use mathlib.Core.Path.{ap, _∙_}
 use borrow.Rule.Slice.PartMut.{mid-len}
 use Rattle.matching.specs.declared.orders.Matched.{Matched}
-use Rattle.matching.specs.Memory.{orderOf}
+use Rattle.matching.specs.Memory.{asOrder}
 use Rattle.matching.specs.Answers.{answerOf}
 use Rattle.book.specs.inner.Readable.{Readable}
 use Rattle.book.proofs.laws.answer.MadeLaws.{sound-readable}
@@ -51,7 +51,7 @@ returns : tie.Need-returns
 returns c =
     let c6 = c .before .before .before .before .before .before in
     let s = c .before .before .before .before .before .before .before .before .before .before .before .before in
-    absurd (met-unfit (s .args .book .now) (c6 .meet .last .0) (s .args .rows .now) (c6 .meet .last .1 .1 .1 .0) (orderOf (s .args .o)) (c6 .meet .result)
+    absurd (met-unfit (s .args .book .now) (c6 .meet .last .0) (s .args .rows .now) (c6 .meet .last .1 .1 .1 .0) (asOrder (s .args .o)) (c6 .meet .result)
     (s .pre .0) (s .pre .1) (c6 .meet .ensures) (ap (λ (x : Matched). answerOf x .fits) (c .enum-told .given .1)))
 
 same-length-3 : tie.Need-same-length-3
@@ -65,7 +65,7 @@ returns-2 c =
     let c7 = c .before .before .before .before .before .before .before in
     let s = c .before .before .before .before .before .before .before .before .before .before .before .before .before in
     let r = ok s in
-    met-rolled (s .args .book .now) (c7 .meet .last .0) (s .args .rows .now) (c7 .meet .last .1 .1 .1 .0) (orderOf (s .args .o)) (c7 .meet .result)
+    met-rolled (s .args .book .now) (c7 .meet .last .0) (s .args .rows .now) (c7 .meet .last .1 .1 .1 .0) (asOrder (s .args .o)) (c7 .meet .result)
     (s .pre .0) (s .pre .1) (c7 .meet .ensures) _ _ _
     (ap answerOf (c .before .met .given .1)) (c7 .meet .kept .0 ∙ mid-len 240 1776 (s .args .book .now) (omega arith))
 

@@ -17,7 +17,7 @@ use Rattle.book.specs.Order.{orderRefusal, ordering}
 use Rattle.book.specs.Cancel.{cancelRefusal, cancellation}
 use Rattle.book.specs.Clear.{clearRefusal, clearing}
 use Rattle.book.specs.Close.{closing}
-use Rattle.book.specs.Calls.{Call, enrol, offer, take, withdraw, order, cancel, clear, close, outcome, bookAfter}
+use Rattle.book.specs.Calls.{Call, callEnrol, callOffer, callTake, callWithdraw, callOrder, callCancel, callClear, callClose, outcome, bookAfter}
 use Rattle.book.proofs.laws.answer.RefusalLaws.{not-refused, first-passed}
 use Rattle.book.proofs.laws.sound.SoundLaws.{sound-facts}
 use Rattle.demands.proofs.laws.sound.KeepLaws.{fresh-sound, enrolment-sound, withdrawal-sound, cancellation-sound, closing-sound}
@@ -29,15 +29,15 @@ use Rattle.book.proofs.laws.take.TakingLaws.{taking-sound}
 pub was-sound : (b : Book) (c : Call) → outcome b c .refusal ≡ 0 → sound b ≡ true
 unfolding enrolment offering taking withdrawal ordering cancellation clearing closing enrolRefusal offerRefusal takeRefusal withdrawRefusal orderRefusal
     cancelRefusal clearRefusal
-was-sound b (enrol kind capacity asset) z = first-passed b _ (not-refused (enrolRefusal b kind capacity asset) b _ z)
-was-sound b (offer unit partner price amounts) z = first-passed b _ (not-refused (offerRefusal b unit partner price amounts) b _ z)
-was-sound b (take unit number quantity lent) z = first-passed b _ (not-refused (takeRefusal b unit number quantity lent) b _ z)
-was-sound b (withdraw unit number) z = first-passed b _ (not-refused (withdrawRefusal b unit number) b _ z)
-was-sound b (order unit direction period price quantity lent) z = first-passed b _
+was-sound b (callEnrol kind capacity asset) z = first-passed b _ (not-refused (enrolRefusal b kind capacity asset) b _ z)
+was-sound b (callOffer unit partner price amounts) z = first-passed b _ (not-refused (offerRefusal b unit partner price amounts) b _ z)
+was-sound b (callTake unit number quantity lent) z = first-passed b _ (not-refused (takeRefusal b unit number quantity lent) b _ z)
+was-sound b (callWithdraw unit number) z = first-passed b _ (not-refused (withdrawRefusal b unit number) b _ z)
+was-sound b (callOrder unit direction period price quantity lent) z = first-passed b _
     (not-refused (orderRefusal b unit direction period price quantity lent) b _ z)
-was-sound b (cancel unit number) z = first-passed b _ (not-refused (cancelRefusal b unit number) b _ z)
-was-sound b (clear lent) z = first-passed b _ (not-refused (clearRefusal b lent) b _ z)
-was-sound b close z = first-passed b [] (not-refused (firstOf (unsound b ∷ [])) b _ z)
+was-sound b (callCancel unit number) z = first-passed b _ (not-refused (cancelRefusal b unit number) b _ z)
+was-sound b (callClear lent) z = first-passed b _ (not-refused (clearRefusal b lent) b _ z)
+was-sound b callClose z = first-passed b [] (not-refused (firstOf (unsound b ∷ [])) b _ z)
 
 -- two laws are still to come: order in the rolling phase, and clear
 module _
@@ -45,20 +45,20 @@ module _
     (cleared : (b : Book) (lent : ℕ) → sound b ≡ true → sound (clearing b lent .book) ≡ true)
   where
     pub outcome-sound : (b : Book) (c : Call) → sound b ≡ true → sound (outcome b c .book) ≡ true
-    outcome-sound b (enrol kind capacity asset) e = enrolment-sound b kind capacity asset e
-    outcome-sound b (offer unit partner price amounts) e = offering-sound b unit partner price amounts e
-    outcome-sound b (take unit number quantity lent) e = taking-sound b unit number quantity lent e
-    outcome-sound b (withdraw unit number) e = withdrawal-sound b unit number e
-    outcome-sound b (order unit direction period price quantity lent) e = go (ℕ-discrete (b .phase) callPhase)
+    outcome-sound b (callEnrol kind capacity asset) e = enrolment-sound b kind capacity asset e
+    outcome-sound b (callOffer unit partner price amounts) e = offering-sound b unit partner price amounts e
+    outcome-sound b (callTake unit number quantity lent) e = taking-sound b unit number quantity lent e
+    outcome-sound b (callWithdraw unit number) e = withdrawal-sound b unit number e
+    outcome-sound b (callOrder unit direction period price quantity lent) e = go (ℕ-discrete (b .phase) callPhase)
       where
         go : Dec (b .phase ≡ callPhase) → sound (ordering b unit direction period price quantity lent .book) ≡ true
         go (yes c) = ordering-in-call-sound b unit direction period price quantity lent c e
         go (no n) =
             let h = sound-facts b e .formed .head .phase in
             rolling b unit direction period price quantity lent (omega arith) e
-    outcome-sound b (cancel unit number) e = cancellation-sound b unit number e
-    outcome-sound b (clear lent) e = cleared b lent e
-    outcome-sound b close e = closing-sound b e
+    outcome-sound b (callCancel unit number) e = cancellation-sound b unit number e
+    outcome-sound b (callClear lent) e = cleared b lent e
+    outcome-sound b callClose e = closing-sound b e
 
     pub calls-sound : (b : Book) (cs : List Call) → sound b ≡ true → sound (bookAfter b cs) ≡ true
     unfolding bookAfter

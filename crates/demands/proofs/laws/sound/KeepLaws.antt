@@ -15,7 +15,7 @@ use Rattle.measures.proofs.RangeLaws.{In, within}
 use Rattle.measures.proofs.ListLaws.{and-left, and-right}
 use Rattle.limits.specs.Units.{mostDays, mostCapacity, daysIn, periods, capacityIn, assetIn}
 use Rattle.matching.specs.Orders.{Order as OpenOrder, rising}
-use Rattle.book.specs.Book.{Figures, noFigures, Unit, noUnit, OpenOffer, Book, mostUnits, unitOf, figuresOf, withOffers, withOrders, noTrades}
+use Rattle.book.specs.Book.{Figures, noFigures, EnrolledUnit, noUnit, OpenOffer, Book, mostUnits, unitOf, figuresOf, withOffers, withOrders, noTrades}
 use Rattle.book.specs.Fit.{openOrders, openOffers, openRaising, openLowering, nothing}
 use Rattle.book.specs.Sound.{pricesIn, apart, eachTwo, sound}
 use Rattle.book.specs.Refusals.{firstOf, accepted, unsound, badOpening, badKind, badSize, unitsFull}
@@ -109,7 +109,7 @@ module _ (b : Book) (u n : ℕ) (e : sound b ≡ true) where
 
 -- enrol: the other units stay, and the new one has nothing declared
 module _ (b : Book) (kind capacity asset : ℕ) where
-  abbrev newcomer : Unit
+  abbrev newcomer : EnrolledUnit
   newcomer = record { kind = kind; capacity = capacity; asset = asset; figures = noTrades (b .days) }
 
   one-more : length (enrolled b kind capacity asset .units) ≡ length (b .units) + 1
@@ -140,7 +140,7 @@ module _ (b : Book) (kind capacity asset : ℕ) where
       last = getD-at (b .units) newcomer [] noUnit (u - 1) (omega arith)
 
       figures : (p : ℕ) → p < periods (b .days) → figuresOf (enrolled b kind capacity asset) u p ≡ noFigures
-      figures p h = ap (λ (x : Unit). getD (x .figures) p noFigures) last ∙ getD-replicate (periods (b .days)) p noFigures noFigures h
+      figures p h = ap (λ (x : EnrolledUnit). getD (x .figures) p noFigures) last ∙ getD-replicate (periods (b .days)) p noFigures noFigures h
 
   pub enrolment-sound : sound b ≡ true → sound (enrolment b kind capacity asset .book) ≡ true
   unfolding enrolment enrolRefusal
@@ -160,7 +160,7 @@ module _ (b : Book) (kind capacity asset : ℕ) where
             ceiling = refl;
             given = omega arith;
             count = omega (arith, one-more);
-            kinds = λ u i. ap (λ (x : Unit). x .kind) (others-stay u i);
+            kinds = λ u i. ap (λ (x : EnrolledUnit). x .kind) (others-stay u i);
           }
 
       enrolled-sound : enrolRefusal b kind capacity asset ≡ 0 → Sound after
@@ -210,16 +210,16 @@ module _ (b : Book) where
   unit-over u = List·getD-map unitDayOver (b .units) (u - 1) noUnit
 
   figures-over : (u p : ℕ) → figuresOf (dayClosed b) u p ≡ dayOver (figuresOf b u p)
-  figures-over u p = ap (λ (x : Unit). getD (x .figures) p noFigures) (unit-over u) ∙ List·getD-map dayOver (unitOf b u .figures) p noFigures
+  figures-over u p = ap (λ (x : EnrolledUnit). getD (x .figures) p noFigures) (unit-over u) ∙ List·getD-map dayOver (unitOf b u .figures) p noFigures
 
   over-moved : (u : ℕ) → Moved b (dayClosed b) u nothing
   unfolding openRaising openLowering openOffers openOrders
   over-moved u =
       record {
         days = refl;
-        kind = ap (λ (x : Unit). x .kind) (unit-over u);
-        capacity = ap (λ (x : Unit). x .capacity) (unit-over u);
-        asset = ap (λ (x : Unit). x .asset) (unit-over u);
+        kind = ap (λ (x : EnrolledUnit). x .kind) (unit-over u);
+        capacity = ap (λ (x : EnrolledUnit). x .capacity) (unit-over u);
+        asset = ap (λ (x : EnrolledUnit). x .asset) (unit-over u);
         raising = λ p h. omega (arith, ap (λ (f : Figures). f .held) (figures-over u p), ap (λ (f : Figures). f .raised) (figures-over u p));
         lowering = λ p h k. omega (arith, ap (λ (f : Figures). f .lowered) (figures-over u p));
         volume = λ p h. omega (arith, ap (λ (f : Figures). f .volume) (figures-over u p));
@@ -233,7 +233,7 @@ module _ (b : Book) where
       s : Sound b
       s = sound-facts b e
 
-      over : (u : Unit) → UnitRanges (b .days) u → UnitRanges (b .days) (unitDayOver u)
+      over : (u : EnrolledUnit) → UnitRanges (b .days) u → UnitRanges (b .days) (unitDayOver u)
       over u r =
           record {
             kind = r .kind;

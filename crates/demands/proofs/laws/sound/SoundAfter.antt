@@ -18,7 +18,7 @@ use Rattle.book.specs.Order.{orderRefusal, ordering, newOrder, orderedInCall, o
 use Rattle.book.specs.Cancel.{cancelRefusal, cancellation}
 use Rattle.book.specs.Clear.{clearRefusal, clearing}
 use Rattle.book.specs.Close.{closing}
-use Rattle.book.specs.Calls.{Call, enrol, offer, take, withdraw, order, cancel, clear, close, outcome, bookAfter}
+use Rattle.book.specs.Calls.{Call, callEnrol, callOffer, callTake, callWithdraw, callOrder, callCancel, callClear, callClose, outcome, bookAfter}
 use Rattle.demands.proofs.laws.sound.CallLaws.{outcome-sound, every-book-sound}
 use Rattle.book.proofs.laws.clear.ClearedLaws.{clearing-sound}
 use Rattle.book.proofs.laws.order.RolledLaws.{ordering-in-rolling-sound}
@@ -46,14 +46,14 @@ decided-refused r b o e n = go (eqb r 0) n
 
 pub refused-unchanged : (b : Book) (c : Call) → (outcome b c .refusal ≡ 0 → ⊥) → outcome b c ≡ asBefore (outcome b c .refusal) b
 unfolding enrolment offering taking withdrawal ordering cancellation clearing closing
-refused-unchanged b (enrol kind capacity asset) n = decided-refused (enrolRefusal b kind capacity asset) b _ refl n
-refused-unchanged b (offer unit partner price amounts) n = decided-refused (offerRefusal b unit partner price amounts) b _ refl n
-refused-unchanged b (take unit number quantity lent) n = decided-refused (takeRefusal b unit number quantity lent) b _ refl n
-refused-unchanged b (withdraw unit number) n = decided-refused (withdrawRefusal b unit number) b _ refl n
-refused-unchanged b (order u d p price q lent) n =
+refused-unchanged b (callEnrol kind capacity asset) n = decided-refused (enrolRefusal b kind capacity asset) b _ refl n
+refused-unchanged b (callOffer unit partner price amounts) n = decided-refused (offerRefusal b unit partner price amounts) b _ refl n
+refused-unchanged b (callTake unit number quantity lent) n = decided-refused (takeRefusal b unit number quantity lent) b _ refl n
+refused-unchanged b (callWithdraw unit number) n = decided-refused (withdrawRefusal b unit number) b _ refl n
+refused-unchanged b (callOrder u d p price q lent) n =
     let o = newOrder b u d p price q in
     decided-refused (orderRefusal b u d p price q lent) b (cond (eqb (b .phase) callPhase) (orderedInCall b o) (orderedInRolling b o))
     (cond-case (λ (x : Outcome). x .refusal ≡ 0) (eqb (b .phase) callPhase) (orderedInCall b o) (orderedInRolling b o) (λ _. refl) (λ _. refl)) n
-refused-unchanged b (cancel unit number) n = decided-refused (cancelRefusal b unit number) b _ refl n
-refused-unchanged b (clear lent) n = decided-refused (clearRefusal b lent) b _ refl n
-refused-unchanged b close n = decided-refused (firstOf (unsound b ∷ [])) b _ refl n
+refused-unchanged b (callCancel unit number) n = decided-refused (cancelRefusal b unit number) b _ refl n
+refused-unchanged b (callClear lent) n = decided-refused (clearRefusal b lent) b _ refl n
+refused-unchanged b callClose n = decided-refused (firstOf (unsound b ∷ [])) b _ refl n

@@ -12,13 +12,13 @@ use Rattle.measures.proofs.RangeLaws.{In, within}
 use Rattle.limits.specs.Units.{periods, generator}
 use Rattle.matching.specs.Orders.{Row}
 use Rattle.matching.proofs.laws.lists.EachLaws.{Each}
-use Rattle.book.specs.Book.{Figures, Unit, noUnit, OpenOffer, Book, unitOf, figuresOf}
+use Rattle.book.specs.Book.{Figures, EnrolledUnit, noUnit, OpenOffer, Book, unitOf, figuresOf}
 use Rattle.book.specs.Opening.{fresh}
 use Rattle.demands.specs.Tally.{Member, Amounts, Tally, opened}
-use Rattle.demands.specs.Demand3.{memberOf, enrolled}
+use Rattle.demands.specs.Demand3.{memberOf, isMember}
 
 -- what a tally keeps of a unit, and of an offer
-abbrev pub member : Unit → Member
+abbrev pub member : EnrolledUnit → Member
 member u = record { kind = u .kind; capacity = u .capacity; asset = u .asset }
 
 abbrev pub amountsOf : OpenOffer → Amounts
@@ -68,5 +68,5 @@ module _ (t : Tally) (b : Book) (a : Agree t b) where
   pub units-count : length (t .units) ≡ length (b .units)
   units-count = ap length (a .units) ∙ length-map (b .units) member
 
-  pub enrolled-in : (u : ℕ) → enrolled t u ≡ true → In 1 (length (b .units)) u
+  pub enrolled-in : (u : ℕ) → isMember t u ≡ true → In 1 (length (b .units)) u
   enrolled-in u e = rw units-count at (within 1 (length (t .units)) u e)

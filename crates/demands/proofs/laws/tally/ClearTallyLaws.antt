@@ -13,7 +13,7 @@ use Rattle.book.specs.Book.{Book, rollingPhase, withOrders, inPhase}
 use Rattle.book.specs.Trades.{rowsBooked}
 use Rattle.book.specs.Refusals.{accepted}
 use Rattle.book.specs.Clear.{clearRefusal, clearFrom, clearing}
-use Rattle.book.specs.Calls.{clear, outcome}
+use Rattle.book.specs.Calls.{callClear, outcome}
 use Rattle.demands.specs.Tally.{Tally, accounted}
 use Rattle.demands.proofs.laws.tally.AgreeLaws.{Parties, Agree}
 use Rattle.demands.proofs.laws.tally.StandingLaws.{Standing}
@@ -50,7 +50,7 @@ module _ (n : ℕ) where
       (clear-parties k (suc p) (clearPeriod p os .orders) (period-owned p os e))
 
 module _ (t : Tally) (b : Book) (a : Agree t b) (w : Standing b) where
-  pub agree-clear : (lent : ℕ) → outcome b (clear lent) .refusal ≡ 0 → AgreeAfter t b (clear lent)
+  pub agree-clear : (lent : ℕ) → outcome b (callClear lent) .refusal ≡ 0 → AgreeAfter t b (callClear lent)
   unfolding clearing accounted
   agree-clear lent e =
       let c = clearFrom 0 (periods (b .days)) (b .orders) in
@@ -59,6 +59,6 @@ module _ (t : Tally) (b : Book) (a : Agree t b) (w : Standing b) where
       let d = decided-is (clearRefusal b lent) b o e in
       let f : c′ .orders ≡ c .orders = ap₂ (λ (k : ℕ) (l : List OpenOrder). clearFrom 0 (periods k) l .orders) (a .days) (a .orders) in
       let owned = each-map (OrderRanges b) (Owned (length (b .units))) (b .orders) (λ o s. s .unit) (w .orders) in
-      accepted-agree t b (clear lent) o (d .1) refl
+      accepted-agree t b (callClear lent) o (d .1) refl
       (agree-head _ _ (agree-changed t b a w (c .rows) (t .offers) (b .offers) (c′ .orders) (c .orders)
       (clear-parties (length (b .units)) (periods (b .days)) 0 (b .orders) owned) (a .offers) f) rollingPhase _)

@@ -18,7 +18,7 @@ use Rattle.matching.proofs.laws.lists.SumLaws.{sumOf-ext}
 use Rattle.book.specs.Book.{Book, callPhase, nextNumber}
 use Rattle.book.specs.Trades.{rowsBooked}
 use Rattle.book.specs.Order.{orderRefusal, newOrder, waiting, orderedInCall, orderedInRolling, ordering}
-use Rattle.book.specs.Calls.{Call, order, outcome}
+use Rattle.book.specs.Calls.{Call, callOrder, outcome}
 use Rattle.demands.specs.Tally.{Tally, orderTallied, orderLeft, accounted}
 use Rattle.demands.proofs.laws.tally.AgreeLaws.{Parties, Agree}
 use Rattle.demands.proofs.laws.tally.StandingLaws.{Standing}
@@ -57,7 +57,7 @@ left-waits i ms =
 
 module _ (t : Tally) (b : Book) (a : Agree t b) (w : Standing b) (unit direction period price quantity lent : ℕ) where
   abbrev this : Call
-  this = order unit direction period price quantity lent
+  this = callOrder unit direction period price quantity lent
 
   abbrev incoming : OpenOrder
   incoming = newOrder b unit direction period price quantity

@@ -20,7 +20,7 @@ use Rattle.book.specs.Book.{OpenOffer, noOffer, Book, unitOf, offersOf, offerOf
 use Rattle.book.specs.Trades.{rowsBooked}
 use Rattle.book.specs.Refusals.{accepted}
 use Rattle.book.specs.Take.{takenParts, takeRefusal, takeRowsFrom, wayOf, takeRows, lessEach, offerLess, offersLess, taking}
-use Rattle.book.specs.Calls.{take, outcome}
+use Rattle.book.specs.Calls.{callTake, outcome}
 use Rattle.demands.specs.Tally.{Amounts, Tally, lessAt, offerLessened, takeTallied, accounted}
 use Rattle.demands.proofs.laws.tally.AgreeLaws.{amountsOf, remains, Parties, Agree}
 use Rattle.demands.proofs.laws.tally.StandingLaws.{Standing}
@@ -196,8 +196,8 @@ module _ (t : Tally) (b : Book) (a : Agree t b) (w : Standing b) where
   something-left : Each (λ (o : OpenOffer). remains (amountsOf o) ≡ true) (b .offers)
   something-left = each-unmap (λ x. remains x ≡ true) amountsOf (b .offers) (rw (a .offers) at (kept remains (t .offers)))
 
-  pub agree-take : (unit number quantity lent : ℕ) → outcome b (take unit number quantity lent) .refusal ≡ 0
-      → AgreeAfter t b (take unit number quantity lent)
+  pub agree-take : (unit number quantity lent : ℕ) → outcome b (callTake unit number quantity lent) .refusal ≡ 0
+      → AgreeAfter t b (callTake unit number quantity lent)
   unfolding taking takeRefusal accounted
   agree-take unit number quantity lent e =
       let ps = takenParts b number quantity in
@@ -217,6 +217,6 @@ module _ (t : Tally) (b : Book) (a : Agree t b) (w : Standing b) where
       ∙ ap (λ (l : List Amounts). keep remains (map (taken number rs) l)) (a .offers)
       ∙ offers-less number rs ps (take-less b of unit ps) (b .offers) (w .offersRise) something-left
       (each-map (OfferRanges b) (λ o. length (o .amounts) ≡ length ps) (b .offers) (λ o s. s .amounts ∙ sym lp) (w .offers)) in
-      accepted-agree t b (take unit number quantity lent) o (d .1) refl
+      accepted-agree t b (callTake unit number quantity lent) o (d .1) refl
       (agree-changed t b a w rs (takeTallied number rs (t .offers)) (offersLess number ps (b .offers)) (t .orders) (b .orders)
       (take-parties (length (b .units)) b of unit ps (st .unit) hu) f (a .orders))

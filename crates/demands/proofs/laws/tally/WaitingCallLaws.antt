@@ -21,7 +21,7 @@ use Rattle.matching.proofs.laws.lists.SumLaws.{sumOf-zero}
 use Rattle.book.specs.Book.{
   Figures,
   noFigures,
-  Unit,
+  EnrolledUnit,
   noUnit,
   OpenOffer,
   Book,
@@ -43,7 +43,7 @@ use Rattle.book.specs.Offer.{offerRefusal, offered, offering}
 use Rattle.book.specs.Withdraw.{withdrawRefusal, withdrawal}
 use Rattle.book.specs.Cancel.{cancelRefusal, cancellation}
 use Rattle.book.specs.Close.{dayOver, unitDayOver, dayClosed, closing}
-use Rattle.book.specs.Calls.{enrol, offer, withdraw, cancel, close, outcome}
+use Rattle.book.specs.Calls.{callEnrol, callOffer, callWithdraw, callCancel, callClose, outcome}
 use Rattle.demands.specs.Tally.{Member, Amounts, Tally, accounted}
 use Rattle.demands.proofs.laws.tally.AgreeLaws.{member, amountsOf, remains, soldIn, boughtIn, Figured, AllFigured, Parties, Agree}
 use Rattle.demands.proofs.laws.tally.StandingLaws.{Standing}
@@ -59,7 +59,7 @@ figured-none kind s d e f = record { net = go (generator kind); volume = omega a
     go true = omega arith
     go false = omega arith
 
-module _ (b : Book) (x : Unit) where
+module _ (b : Book) (x : EnrolledUnit) where
   abbrev joined : Book
   joined = withUnits b (b .units ++ (x ∷ []))
 
@@ -104,18 +104,18 @@ right-amounts b amounts e = within 1 mostEnergy (total amounts) (and-right (eqb 
 over : (kind s d : ℕ) (f : Figures) → f .lowered ≤ f .held → Figured kind s d f → Figured kind s d (dayOver f)
 over kind s d f l x = let n = x .net in record { net = omega arith; volume = x .volume }
 
-map-over : (us : List Unit) → map member (map unitDayOver us) ≡ map member us
+map-over : (us : List EnrolledUnit) → map member (map unitDayOver us) ≡ map member us
 map-over [] = refl
 map-over (u ∷ us) = ap (λ (l : List Member). member u ∷ l) (map-over us)
 
 module _ (t : Tally) (b : Book) (a : Agree t b) (w : Standing b) where
-  pub agree-enrol : (kind capacity asset : ℕ) → outcome b (enrol kind capacity asset) .refusal ≡ 0 → AgreeAfter t b (enrol kind capacity asset)
+  pub agree-enrol : (kind capacity asset : ℕ) → outcome b (callEnrol kind capacity asset) .refusal ≡ 0 → AgreeAfter t b (callEnrol kind capacity asset)
   unfolding enrolment accounted
   agree-enrol kind capacity asset e =
       let after = withUnit b kind capacity asset in
-      let x : Unit = record { kind = kind; capacity = capacity; asset = asset; figures = noTrades (b .days) } in
+      let x : EnrolledUnit = record { kind = kind; capacity = capacity; asset = asset; figures = noTrades (b .days) } in
       let d = decided-is (enrolRefusal b kind capacity asset) b (accepted (length (after .units)) [] after) e in
-      accepted-agree t b (enrol kind capacity asset) (accepted (length (after .units)) [] after) (d .1) refl
+      accepted-agree t b (callEnrol kind capacity asset) (accepted (length (after .units)) [] after) (d .1) refl
       (record {
         days = a .days;
         units = rw (a .units) (sym (map-join member (b .units) (x ∷ [])));
@@ -125,8 +125,8 @@ module _ (t : Tally) (b : Book) (a : Agree t b) (w : Standing b) where
         figures = rw (append-nil (t .rows)) (joined-figured b x (t .rows) refl (a .parties) (a .figures));
       })
 
-  pub agree-offer : (unit partner price : ℕ) (amounts : List ℕ) → outcome b (offer unit partner price amounts) .refusal ≡ 0
-      → AgreeAfter t b (offer unit partner price amounts)
+  pub agree-offer : (unit partner price : ℕ) (amounts : List ℕ) → outcome b (callOffer unit partner price amounts) .refusal ≡ 0
+      → AgreeAfter t b (callOffer unit partner price amounts)
   unfolding offering offerRefusal accounted rowsBooked
   agree-offer unit partner price amounts e =
       let o = accepted (nextNumber b) [] (offered b unit partner price amounts) in
@@ -138,11 +138,11 @@ module _ (t : Tally) (b : Book) (a : Agree t b) (w : Standing b) where
       keep-append remains (t .offers) (amountsOf x ∷ [])
       ∙ ap₂ (λ (l m : List Amounts). l ++ m) (a .offers) (kept-one (amountsOf x) (not-zero (total amounts) q))
       ∙ sym (map-join amountsOf (b .offers) (x ∷ [])) in
-      accepted-agree t b (offer unit partner price amounts) o (d .1) refl
+      accepted-agree t b (callOffer unit partner price amounts) o (d .1) refl
       (agree-head _ _ (agree-changed t b a w [] (t .offers ++ (amountsOf x ∷ [])) (b .offers ++ (x ∷ [])) (t .orders) (b .orders) tt f (a .orders))
       (b .phase) (nextNumber b))
 
-  pub agree-withdraw : (unit number : ℕ) → outcome b (withdraw unit number) .refusal ≡ 0 → AgreeAfter t b (withdraw unit number)
+  pub agree-withdraw : (unit number : ℕ) → outcome b (callWithdraw unit number) .refusal ≡ 0 → AgreeAfter t b (callWithdraw unit number)
   unfolding withdrawal accounted rowsBooked
   agree-withdraw unit number e =
       let os = keep (λ (o : OpenOffer). not (eqb (o .number) number)) (b .offers) in
@@ -152,16 +152,16 @@ module _ (t : Tally) (b : Book) (a : Agree t b) (w : Standing b) where
       keep-keep remains (λ (o : Amounts). not (eqb (o .number) number)) (t .offers)
       ∙ ap (keep (λ (o : Amounts). not (eqb (o .number) number))) (a .offers)
       ∙ keep-map (λ (o : Amounts). not (eqb (o .number) number)) amountsOf (b .offers) in
-      accepted-agree t b (withdraw unit number) o (d .1) refl
+      accepted-agree t b (callWithdraw unit number) o (d .1) refl
       (agree-changed t b a w [] (keep (λ (o : Amounts). not (eqb (o .number) number)) (t .offers)) os (t .orders) (b .orders) tt f (a .orders))
 
-  pub agree-cancel : (unit number : ℕ) → outcome b (cancel unit number) .refusal ≡ 0 → AgreeAfter t b (cancel unit number)
+  pub agree-cancel : (unit number : ℕ) → outcome b (callCancel unit number) .refusal ≡ 0 → AgreeAfter t b (callCancel unit number)
   unfolding cancellation accounted rowsBooked
   agree-cancel unit number e =
       let f : OpenOrder → Bool = λ o. not (eqb (o .number) number) in
       let o = accepted 0 [] (withOrders b (keep f (b .orders))) in
       let d = decided-is (cancelRefusal b unit number) b o e in
-      accepted-agree t b (cancel unit number) o (d .1) refl
+      accepted-agree t b (callCancel unit number) o (d .1) refl
       (agree-changed t b a w [] (t .offers) (b .offers) (keep f (t .orders)) (keep f (b .orders)) tt (a .offers) (ap (keep f) (a .orders)))
 
   closed-figured : AllFigured (t .rows) (dayClosed b)
@@ -172,11 +172,11 @@ module _ (t : Tally) (b : Book) (a : Agree t b) (w : Standing b) where
       (rw (List·getD-map dayOver (unitOf b u .figures) p noFigures)
       (over (unitOf b u .kind) (soldIn (t .rows) u p) (boughtIn (t .rows) u p) (figuresOf b u p) (omega arith) (a .figures u p h l)))
 
-  pub agree-close : outcome b close .refusal ≡ 0 → AgreeAfter t b close
+  pub agree-close : outcome b callClose .refusal ≡ 0 → AgreeAfter t b callClose
   unfolding closing accounted
   agree-close e =
       let d = decided-is (firstOf (unsound b ∷ [])) b (accepted 0 [] (dayClosed b)) e in
-      accepted-agree t b close (accepted 0 [] (dayClosed b)) (d .1) refl
+      accepted-agree t b callClose (accepted 0 [] (dayClosed b)) (d .1) refl
       (record {
         days = a .days;
         units = a .units ∙ sym (map-over (b .units));

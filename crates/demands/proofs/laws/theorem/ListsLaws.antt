@@ -7,7 +7,7 @@ use Rattle.book.specs.Book.{Book}
 use Rattle.book.specs.Sound.{sound}
 use Rattle.book.specs.Refusals.{Outcome}
 use Rattle.book.specs.Opening.{fresh}
-use Rattle.book.specs.Calls.{Call, enrol, offer, take, withdraw, order, cancel, clear, close, outcome, answered, bookAfter}
+use Rattle.book.specs.Calls.{Call, callEnrol, callOffer, callTake, callWithdraw, callOrder, callCancel, callClear, callClose, outcome, answered, bookAfter}
 use Rattle.demands.specs.Tally.{Tally, opened, tallied}
 use Rattle.demands.specs.Demand3.{Demand3, tallyAfter, OverEveryList}
 use Rattle.demands.proofs.laws.tally.AgreeLaws.{Agree, agree-start}
@@ -23,14 +23,14 @@ use Rattle.demands.proofs.laws.sound.SoundAfter.{sound-after, refused-u
 
 -- tally and book agree after each accepted call
 pub agree-after : (t : Tally) (b : Book) (c : Call) → Agree t b → sound b ≡ true → outcome b c .refusal ≡ 0 → AgreeAfter t b c
-agree-after t b (enrol kind capacity asset) a s e = agree-enrol t b a (standing b s) kind capacity asset e
-agree-after t b (offer unit partner price amounts) a s e = agree-offer t b a (standing b s) unit partner price amounts e
-agree-after t b (take unit number quantity lent) a s e = agree-take t b a (standing b s) unit number quantity lent e
-agree-after t b (withdraw unit number) a s e = agree-withdraw t b a (standing b s) unit number e
-agree-after t b (order unit direction period price quantity lent) a s e = agree-order t b a (standing b s) unit direction period price quantity lent e
-agree-after t b (cancel unit number) a s e = agree-cancel t b a (standing b s) unit number e
-agree-after t b (clear lent) a s e = agree-clear t b a (standing b s) lent e
-agree-after t b close a s e = agree-close t b a (standing b s) e
+agree-after t b (callEnrol kind capacity asset) a s e = agree-enrol t b a (standing b s) kind capacity asset e
+agree-after t b (callOffer unit partner price amounts) a s e = agree-offer t b a (standing b s) unit partner price amounts e
+agree-after t b (callTake unit number quantity lent) a s e = agree-take t b a (standing b s) unit number quantity lent e
+agree-after t b (callWithdraw unit number) a s e = agree-withdraw t b a (standing b s) unit number e
+agree-after t b (callOrder unit direction period price quantity lent) a s e = agree-order t b a (standing b s) unit direction period price quantity lent e
+agree-after t b (callCancel unit number) a s e = agree-cancel t b a (standing b s) unit number e
+agree-after t b (callClear lent) a s e = agree-clear t b a (standing b s) lent e
+agree-after t b callClose a s e = agree-close t b a (standing b s) e
 
 -- a tally, and a sound book that agrees with it
 pub record InStep (t : Tally) (b : Book) : Type 0 where

@@ -21,11 +21,11 @@ use Rattle.book.specs.Opening.{bookWords, fresh, openingRefusal}
 use Rattle.book.specs.Curve.{Drawn, curve, curveRefusal, curveChecks, points, pointsFrom}
 use Rattle.book.specs.Layout.{word, decode, enough}
 use Rattle.book.specs.inner.RowsIn.{rowsIn}
-use Rattle.book.specs.Calls.{Call, enrol, offer, take, withdraw, order, cancel, clear, close, outcome, answered}
+use Rattle.book.specs.Calls.{Call, callEnrol, callOffer, callTake, callWithdraw, callOrder, callCancel, callClear, callClose, outcome, answered}
 use Rattle.book.specs.Calls.{Answer as Heard}
 use Rattle.book.specs.Contract.{Told, toldBy, soundIn, outcomeOn, Made, Opened, curveOn, Curved}
 use Rattle.demands.specs.Tally.{Tally, opened, tallied, accounted}
-use Rattle.demands.specs.Demand3.{Demand3, enrolled, netOf}
+use Rattle.demands.specs.Demand3.{Demand3, isMember, netOf}
 use Rattle.demands.specs.Trace.{Trace, none, next, heard, tallyOf, Claimed, OverEveryTrace}
 use Rattle.book.proofs.laws.rows.SmallLaws.{rows-written}
 use Rattle.book.proofs.laws.memory.RangeFacts.{units-held}
@@ -44,14 +44,14 @@ tallied-days t c a = go (eqb (a .refusal) 0) c
   where
     go : (b : Bool) (c : Call) → cond b (accounted t c a) t .days ≡ t .days
     go false c = refl
-    go true (enrol kind capacity asset) = refl
-    go true (offer unit partner price amounts) = refl
-    go true (take unit number quantity lent) = refl
-    go true (withdraw unit number) = refl
-    go true (order unit direction period price quantity lent) = refl
-    go true (cancel unit number) = refl
-    go true (clear lent) = refl
-    go true close = refl
+    go true (callEnrol kind capacity asset) = refl
+    go true (callOffer unit partner price amounts) = refl
+    go true (callTake unit number quantity lent) = refl
+    go true (callWithdraw unit number) = refl
+    go true (callOrder unit direction period price quantity lent) = refl
+    go true (callCancel unit number) = refl
+    go true (callClear lent) = refl
+    go true callClose = refl
 
 -- memory that is long enough, and holds a book in step with the tally
 pub record Holding (t : Tally) (m : List ℕ) : Type 0 where
@@ -164,7 +164,7 @@ module _ (t : Tally) (x : List ℕ) (h : Holding t x) where
       d : Demand3 t (decode x)
       d = demand-from t (decode x) (h .step .agree) (h .step .sound)
 
-      at : (u day : ℕ) (pts : List ℕ) (a : Answer) (pts′ : List ℕ) → enrolled t u ≡ true → day < t .days → 48 ≤ length pts → Curved x pts u day a pts′
+      at : (u day : ℕ) (pts : List ℕ) (a : Answer) (pts′ : List ℕ) → isMember t u ≡ true → day < t .days → 48 ≤ length pts → Curved x pts u day a pts′
           → (toldBy a .refusal ≡ 0)
           × ((i : ℕ) → i < 24 → (getD pts′ (2 * i) 0 + getD pts′ (2 * i + 1) 0 ≡ netOf t u (24 * day + i))
           × (getD pts′ (2 * i) 0 ≤ getD pts′ (2 * i + 1) 0)

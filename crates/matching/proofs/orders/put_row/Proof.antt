@@ -4,7 +4,7 @@ use mathlib.Core.Path.{_≡_}
 use native.Mathlib.Omega.{arith}
 use native.Mathlib.Numerals.{add-one, add-two, add-three, add-four, add-five}
 use lib.ListN.{length, length-set}
-use Rattle.matching.specs.Memory.{written, rowOf}
+use Rattle.matching.specs.Memory.{written, asRow}
 use Rattle.matching.proofs.laws.orders.RowLaws.{written-more}
 use borrow.Author.Needs.{needs}
 use Rattle.matching.proofs.orders.put_row.Statement.{statement}
@@ -93,7 +93,7 @@ returns : tie.Need-returns
 returns c d rs e h =
     let n = c .args .n in
     let l : 6 * n + 6 ≤ length (written d rs) = rw h at (c .pre .0) in
-    rw (h, add-one (6 * n), add-two (6 * n), add-three (6 * n), add-four (6 * n), add-five (6 * n)) (written-more d rs (rowOf (c .args .r)) n e l)
+    rw (h, add-one (6 * n), add-two (6 * n), add-three (6 * n), add-four (6 * n), add-five (6 * n)) (written-more d rs (asRow (c .args .r)) n e l)
 
 pub put-row-spec : {M : Type 1} → statement M
 put-row-spec =

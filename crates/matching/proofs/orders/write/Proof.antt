@@ -1,7 +1,7 @@
 -- `write`: six stores at place k.
 use native.Mathlib.Omega.{arith}
 use lib.ListN.{length-set}
-use Rattle.matching.specs.Memory.{orderOf}
+use Rattle.matching.specs.Memory.{asOrder}
 use Rattle.matching.proofs.laws.orders.OrderLaws.{order-written, past-written}
 use borrow.Author.Needs.{needs}
 use Rattle.matching.proofs.orders.write.Statement.{statement}
@@ -89,8 +89,8 @@ same-length c = search needs
 returns : tie.Need-returns
 returns c =
     let a = c .args in (
-      order-written (a .orders .now) (a .n) (a .k) (orderOf (a .o)) (c .pre .1) (c .pre .0),
-      past-written (a .orders .now) (a .n) (a .k) (orderOf (a .o))
+      order-written (a .orders .now) (a .n) (a .k) (asOrder (a .o)) (c .pre .1) (c .pre .0),
+      past-written (a .orders .now) (a .n) (a .k) (asOrder (a .o))
           (c .pre .1) (c .pre .0),
     )
 

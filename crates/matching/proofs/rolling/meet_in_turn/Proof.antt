@@ -5,7 +5,7 @@ use mathlib.Core.List.{map}
 use native.Mathlib.Omega.{arith}
 use borrow.Author.Tests.{eqb-true, eqb-false}
 use lib.ListN.{length, length-set}
-use Rattle.matching.specs.Memory.{orderOf}
+use Rattle.matching.specs.Memory.{asOrder}
 use Rattle.matching.specs.Rolling.{matchRow}
 use Rattle.matching.proofs.laws.laying.RunLaws.{Found, found-start, found-next, found-whole}
 use Rattle.matching.proofs.laws.rolling.TurnLaws.{Meeting, meeting-begins, meeting-room, meeting-more, ends-spent, ends-alone, ends-full}
@@ -23,7 +23,7 @@ abbrev μ-loop : tie.MeasureT-loop
 abbrev Inv-meeting : tie.InvT-meeting
 Inv-meeting orders n incoming met₀ taken₀ rows₀ keys places heads₀ ends runs left₀ count₀ met taken rows heads left count =
     (length met ≡ length met₀) × (length taken ≡ length taken₀) × (length rows ≡ length rows₀) × (length heads ≡ 16) × (n ≤ length places)
-    × Meeting orders keys places ends (1 - incoming .direction) n runs (orderOf incoming) rows₀ heads met taken rows (left .0) count
+    × Meeting orders keys places ends (1 - incoming .direction) n runs (asOrder incoming) rows₀ heads met taken rows (left .0) count
 
 abbrev μ-meeting : tie.MeasureT-meeting
 μ-meeting orders n incoming met₀ taken₀ rows₀ keys places heads₀ ends runs left₀ count₀ met taken rows heads left count = n - count
@@ -204,7 +204,7 @@ meeting-again c =
           (meeting-more _ _ _ _ _ _ _ _ _ _ _ _ _ _ _ g (c12 .loop .best .run) _ _ f (c9 .if2 .left) (i .4) (omega (arith, i .3, s .pre .1))
           (omega (arith, s .pre .4, i .0)) (omega (arith, s .pre .5, i .1)) _ _
           (eqb-false _ _ (sym (c14 .is-zero .ensures) ∙ c13 .if1 .left)) (t .0) (t .1) (y .0)
-          (y .1 (s .args .rows .now) (map (matchRow (orderOf (s .args .incoming))) (g .done)) (g .counted) (g .handed))),
+          (y .1 (s .args .rows .now) (map (matchRow (asOrder (s .args .incoming))) (g .done)) (g .counted) (g .handed))),
     )
 
 same-length : tie.Need-same-length Inv-loop μ-loop Inv-meeting μ-meeting
