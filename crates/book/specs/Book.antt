@@ -10,16 +10,16 @@ use Rattle.limits.specs.Units.{periods}
 use Rattle.matching.specs.Orders.{Order as OpenOrder}
 
 -- the figures of a unit in a period: held when the trading day began, raised and lowered by trades today, the volume
--- over the term, and today's direction by ways 3 and 4 (0 none, 1 sold, 2 bought)
+-- over the term, and today's mark of ways 3 and 4 (0 none, 1 sold, 2 bought, 3 both)
 pub record Figures : Type 0 where
   pub held : ℕ
   pub raised : ℕ
   pub lowered : ℕ
   pub volume : ℕ
-  pub way : ℕ
+  pub mark : ℕ
 
 abbrev pub noFigures : Figures
-noFigures = record { held = 0; raised = 0; lowered = 0; volume = 0; way = 0 }
+noFigures = record { held = 0; raised = 0; lowered = 0; volume = 0; mark = 0 }
 
 -- a unit, and its figures by period
 pub record EnrolledUnit : Type 0 where

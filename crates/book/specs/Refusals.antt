@@ -152,12 +152,16 @@ clearInRolling b = check 14 (eqb (b .phase) rollingPhase)
 abbrev pub ordersOfUnit : Book → ℕ → ℕ → List OpenOrder
 ordersOfUnit b u p = keep (λ o. eqb (o .unit) u && eqb (o .period) p) (b .orders)
 
+-- whether today's mark has the direction other than d
+abbrev pub markedAgainst : ℕ → ℕ → Bool
+markedAgainst d mark = cond (sells d) (eqb mark 2) (eqb mark 1) || eqb mark 3
+
 -- 15, day: "order: unit has an open order or a trade of way 3 or 4 today, same period, other direction"
 abbrev pub otherDirection : Book → ℕ → ℕ → ℕ → Check
 otherDirection b u d p =
     check 15
     (ltb 0 (length (keep (λ o. not (eqb (o .direction) d)) (ordersOfUnit b u p)))
-    || cond (sells d) (eqb (figuresOf b u p .way) 2) (eqb (figuresOf b u p .way) 1))
+    || markedAgainst d (figuresOf b u p .mark))
 
 -- 16, day: "order in the call phase: unit has two open in that period"
 abbrev pub twoOpen : Book → ℕ → ℕ → Check

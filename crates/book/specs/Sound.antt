@@ -40,7 +40,7 @@ unitIn days u =
     ∷ capacityIn (u .capacity)
     ∷ assetIn (u .asset)
     ∷ eqb (length (u .figures)) (periods days)
-    ∷ every (λ (f : Figures). leb (f .way) 2) (u .figures)
+    ∷ every (λ (f : Figures). leb (f .mark) 3) (u .figures)
     ∷ [])
 
 -- "each open declaration names enrolled units of the side its call wants": an order any unit, a listing any unit, a
@@ -84,8 +84,8 @@ numbersDiffer b =
     ∷ [])
 
 -- "no unit has open orders both ways in a period"
-abbrev pub oneWay : OpenOrder → OpenOrder → Bool
-oneWay a o = not (eqb (a .unit) (o .unit) && eqb (a .period) (o .period)) || eqb (a .direction) (o .direction)
+abbrev pub oneDirection : OpenOrder → OpenOrder → Bool
+oneDirection a o = not (eqb (a .unit) (o .unit) && eqb (a .period) (o .period)) || eqb (a .direction) (o .direction)
 
 -- "no open buy and sell of one period cross"
 abbrev pub apart : OpenOrder → OpenOrder → Bool
@@ -107,7 +107,7 @@ sound b =
     ∷ every (offerIn b) (b .offers)
     ∷ every (orderIn b) (b .orders)
     ∷ numbersDiffer b
-    ∷ eachTwo oneWay (b .orders)
+    ∷ eachTwo oneDirection (b .orders)
     ∷ (not (eqb (b .phase) rollingPhase) || eachTwo apart (b .orders))
     ∷ all (length (b .units)) (λ k. unitFits b (k + 1))
     ∷ [])

@@ -20,7 +20,7 @@ use Rattle.book.specs.Fit.{unitFits}
 use Rattle.book.specs.Sound.{sound, unitIn}
 use Rattle.book.specs.Refusals.{firstOf}
 use Rattle.book.specs.Layout.{word, decode, unitAt}
-use Rattle.book.specs.inner.Readable.{Ranged, waysIn, declared, Fitted, unitFieldsIn, small}
+use Rattle.book.specs.inner.Readable.{Ranged, marksIn, declared, Fitted, unitFieldsIn, small}
 use Rattle.book.specs.Contract.{soundIn}
 use Rattle.book.specs.Order.{orderDeclares}
 use Rattle.book.specs.inner.Ordering.{orderFitChecks}
@@ -58,9 +58,9 @@ module _ (m : List ℕ) (e : soundIn m ≡ true) where
       }
 
   module _ (u : ℕ) (h : In 1 (word m 5) u) where
-    ways-are : waysIn (decode m) u ≡ true
-    unfolding sound unitIn waysIn
-    ways-are =
+    marks-are : marksIn (decode m) u ≡ true
+    unfolding sound unitIn marksIn
+    marks-are =
         let t = all-true _ (sound-book m e) in
         let i = all-true _ (every-at (unitIn (decode m .days)) (decode m .units) (u - 1) noUnit (t .1 .0) (omega (arith, units-held m))) in
         i .1 .1 .1 .1 .0
@@ -119,7 +119,7 @@ module _ (m : List ℕ) (e : soundIn m ≡ true) (n u d p q r : ℕ) (from : 1 �
       → Fitted (decode m) u (declared raising lowering) r → r ≡ firstOf (orderFitChecks (decode m) u d p q)
   unfolding orderFitChecks
   checked raising lowering a b f =
-      f .clean (ways-are m e u (from, upto))
+      f .clean (marks-are m e u (from, upto))
       ∙ misfit-ext (decode m) u (declared raising lowering) (orderDeclares (decode m) u d p q) a b
       ∙ misfit-declared (decode m) u (orderDeclares (decode m) u d p q) (fits-are m e u (from, upto))
 

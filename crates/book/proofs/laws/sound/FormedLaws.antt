@@ -11,7 +11,7 @@ use Rattle.measures.proofs.RangeLaws.{In}
 use Rattle.limits.specs.Units.{generator}
 use Rattle.matching.specs.Orders.{Order as OpenOrder, leaving, numbers}
 use Rattle.book.specs.Book.{OpenOffer, Book, rollingPhase, mostUnits, mostNumbers, unitOf}
-use Rattle.book.specs.Sound.{oneWay, apart, eachTwo}
+use Rattle.book.specs.Sound.{oneDirection, apart, eachTwo}
 use Rattle.book.proofs.laws.sound.RemainLaws.{Remains, remains-each, remains-every, remains-length, remains-rising}
 use Rattle.book.proofs.laws.sound.SoundLaws.{HeadRanges, UnitRanges, Sides, OfferRanges, OrderRanges, otherNumber, numbersApart, Formed}
 
@@ -133,7 +133,7 @@ formed-remaining b b′ r f =
       offersRise = remains-rising LessOffer (λ (o : OpenOffer). o .number) (λ x y l. ap (λ (o : OpenOffer). o .number) (l .is)) (r .offers) (f .offersRise);
       ordersRise = remains-rising LessOrder (λ (o : OpenOrder). o .number) (λ x y l. ap (λ (o : OpenOrder). o .number) (l .is)) (r .orders) (f .ordersRise);
       differ = differ-remain (b′ .offers) (b .offers) (b′ .orders) (b .orders) (r .offers) (r .orders) (f .differ);
-      oneWay = two-remain oneWay (λ x y p q. refl) (b′ .orders) (b .orders) (r .orders) (f .oneWay);
+      oneDirection = two-remain oneDirection (λ x y p q. refl) (b′ .orders) (b .orders) (r .orders) (f .oneDirection);
       apart = r .apart;
     }
   where

@@ -17,7 +17,7 @@ use Rattle.limits.specs.Units.{mostDays, mostCapacity, periods, generator}
 use Rattle.matching.specs.Orders.{Order as OpenOrder, rising, numbers}
 use Rattle.book.specs.Book.{Figures, EnrolledUnit, OpenOffer, Book, rollingPhase, mostUnits, mostOffers, mostOrders, mostNumbers, known, unitOf}
 use Rattle.book.specs.Fit.{nothing, unitFits}
-use Rattle.book.specs.Sound.{headIn, unitIn, bilateralSides, offerSides, offerIn, orderIn, numbersDiffer, oneWay, apart, eachTwo, sound}
+use Rattle.book.specs.Sound.{headIn, unitIn, bilateralSides, offerSides, offerIn, orderIn, numbersDiffer, oneDirection, apart, eachTwo, sound}
 use Rattle.book.proofs.laws.sound.RemainLaws.{each-of, each-holds}
 use Rattle.book.proofs.laws.sound.FitLaws.{Fits, unit-fits, fits-unit}
 
@@ -66,7 +66,7 @@ pub record UnitRanges (days : ℕ) (u : EnrolledUnit) : Type 0 where
   pub capacity : In 1 mostCapacity (u .capacity)
   pub asset : u .asset ≤ mostEnergy
   pub figures : length (u .figures) ≡ periods days
-  pub ways : Each (λ (f : Figures). f .way ≤ 2) (u .figures)
+  pub marks : Each (λ (f : Figures). f .mark ≤ 3) (u .figures)
 
 pub unit-ranges : (days : ℕ) (u : EnrolledUnit) → unitIn days u ≡ true → UnitRanges days u
 unfolding unitIn
@@ -77,7 +77,7 @@ unit-ranges days u e =
       capacity = within 1 mostCapacity (u .capacity) (t .1 .0);
       asset = leb-true _ _ (t .1 .1 .0);
       figures = eqb-true _ _ (t .1 .1 .1 .0);
-      ways = each-of (λ (f : Figures). leb (f .way) 2) (λ (f : Figures). f .way ≤ 2) (λ f h. leb-true _ _ h) (u .figures) (t .1 .1 .1 .1 .0);
+      marks = each-of (λ (f : Figures). leb (f .mark) 3) (λ (f : Figures). f .mark ≤ 3) (λ f h. leb-true _ _ h) (u .figures) (t .1 .1 .1 .1 .0);
     }
 
 pub unit-in : (days : ℕ) (u : EnrolledUnit) → UnitRanges days u → unitIn days u ≡ true
@@ -91,7 +91,7 @@ unit-in days u r =
           le-leb _ _ (r .asset),
           (
             eq-eqb _ _ (r .figures),
-            (each-holds (λ (f : Figures). leb (f .way) 2) (λ (f : Figures). f .way ≤ 2) (λ f h. le-leb _ _ h) (u .figures) (r .ways), tt),
+            (each-holds (λ (f : Figures). leb (f .mark) 3) (λ (f : Figures). f .mark ≤ 3) (λ f h. le-leb _ _ h) (u .figures) (r .marks), tt),
           ),
         ),
       ),
@@ -230,7 +230,7 @@ pub record Formed (b : Book) : Type 0 where
   pub offersRise : rising (map (λ (o : OpenOffer). o .number) (b .offers)) ≡ true
   pub ordersRise : rising (numbers (b .orders)) ≡ true
   pub differ : numbersApart (b .offers) (b .orders) ≡ true
-  pub oneWay : eachTwo oneWay (b .orders) ≡ true
+  pub oneDirection : eachTwo oneDirection (b .orders) ≡ true
   pub apart : b .phase ≡ rollingPhase → eachTwo apart (b .orders) ≡ true
 
 -- a sound book
@@ -265,7 +265,7 @@ module _ (b : Book) where
           offersRise = n .0;
           ordersRise = n .1 .0;
           differ = n .1 .1 .0;
-          oneWay = t .1 .1 .1 .1 .1 .0;
+          oneDirection = t .1 .1 .1 .1 .1 .0;
           apart = λ r. or-other (not (eqb (b .phase) rollingPhase)) (eachTwo apart (b .orders)) (t .1 .1 .1 .1 .1 .1 .0) (ap not (eq-eqb _ _ r));
         };
         fits = all-fit (t .1 .1 .1 .1 .1 .1 .1 .0);
@@ -286,7 +286,7 @@ module _ (b : Book) where
               (
                 holds-all _ (f .offersRise, (f .ordersRise, (f .differ, tt))),
                 (
-                  f .oneWay,
+                  f .oneDirection,
                   (
                     rolling-apart (f .apart),
                     (all-by (length (b .units)) (λ k. unitFits b (k + 1)) (λ k h. fits-unit b (k + 1) (s .fits (k + 1) (omega arith))), tt),

@@ -4,7 +4,7 @@ use mathlib.Core.Path.{_≡_, sym}
 use native.Mathlib.Omega.{arith}
 use borrow.Author.Tests.{not-true, not-false}
 use lib.ListN.{getD}
-use Rattle.measures.proofs.ListLaws.{both-ways}
+use Rattle.measures.proofs.ListLaws.{both-marks}
 use Rattle.book.specs.Layout.{word}
 use Rattle.book.specs.inner.Whole.{Latest, Settling, OrdersSettled}
 use Rattle.book.proofs.laws.check.ShareLaws.{order-words}
@@ -100,7 +100,7 @@ returns c =
     let k = word (a .book .now) (240 + 6 * (l .at - 1) + 1) - 1 in (
       settles-fails _ _ _ _ _ _ _ _ _ _ (settling-fails _ _ _ _ _ _ _ _ _ _ (l .inv .2) k (omega arith) (g .0 .readable .unitsTo) _ _ _ _ _ d
           (not-true _ (c .if1 .taken))),
-      (λ z. both-ways (sym z)),
+      (λ z. both-marks (sym z)),
     )
 
 sub-at : tie.Need-sub-at Inv-loop μ-loop

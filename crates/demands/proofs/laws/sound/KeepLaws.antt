@@ -56,7 +56,7 @@ fresh-sound words days floor ceiling e =
         offersRise = refl;
         ordersRise = refl;
         differ = refl;
-        oneWay = refl;
+        oneDirection = refl;
         apart = λ h. refl;
       };
       fits = λ u i. absurd (omega arith);
@@ -126,7 +126,7 @@ module _ (b : Book) (kind capacity asset : ℕ) where
         capacity = c;
         asset = a;
         figures = l;
-        ways = each-by (λ (f : Figures). f .way ≤ 2) (noTrades (b .days)) noFigures
+        marks = each-by (λ (f : Figures). f .mark ≤ 3) (noTrades (b .days)) noFigures
             (λ i h. rw (getD-replicate (periods (b .days)) i noFigures noFigures (rw l at h)) (omega arith));
       }
 
@@ -240,7 +240,7 @@ module _ (b : Book) where
             capacity = r .capacity;
             asset = r .asset;
             figures = length-map (u .figures) dayOver ∙ r .figures;
-            ways = each-map dayOver (λ (f : Figures). f .way ≤ 2) (λ (f : Figures). f .way ≤ 2) (λ f h. omega arith) (u .figures) (r .ways);
+            marks = each-map dayOver (λ (f : Figures). f .mark ≤ 3) (λ (f : Figures). f .mark ≤ 3) (λ f h. omega arith) (u .figures) (r .marks);
           }
 
       formed : Formed (dayClosed b)
@@ -263,7 +263,7 @@ module _ (b : Book) where
             offersRise = refl;
             ordersRise = refl;
             differ = refl;
-            oneWay = refl;
+            oneDirection = refl;
             apart = λ r. refl;
           }
 
