@@ -54,12 +54,18 @@ callPhase = 0
 abbrev pub rollingPhase : ℕ
 rollingPhase = 1
 
--- a book: its term and prices, the phase, the numbers given today, the units as enrolled, and what stands open, by
--- rising number
-pub record Book : Type 0 where
+-- what an opening chooses: "the days, a floor and a ceiling price"
+pub record Rules : Type 0 where
   pub days : ℕ
   pub floor : ℕ
   pub ceiling : ℕ
+
+abbrev pub rulesOf : ℕ → ℕ → ℕ → Rules
+rulesOf days floor ceiling = record { days = days; floor = floor; ceiling = ceiling }
+
+-- a book: its rules, the phase, the numbers given today, the units as enrolled, and what stands open, by rising number
+pub record Book : Type 0 where
+  pub rules : Rules
   pub phase : ℕ
   pub given : ℕ
   pub units : List EnrolledUnit
@@ -117,9 +123,7 @@ orderOpen b n = ltb 0 (length (ordersOf b n))
 abbrev pub withUnits : Book → List EnrolledUnit → Book
 withUnits b us =
     record {
-      days = b .days;
-      floor = b .floor;
-      ceiling = b .ceiling;
+      rules = b .rules;
       phase = b .phase;
       given = b .given;
       units = us;
@@ -130,15 +134,15 @@ withUnits b us =
 
 abbrev pub withOffers : Book → List OpenOffer → Book
 withOffers b os =
-    record { days = b .days; floor = b .floor; ceiling = b .ceiling; phase = b .phase; given = b .given; units = b .units; offers = os; orders = b .orders }
+    record { rules = b .rules; phase = b .phase; given = b .given; units = b .units; offers = os; orders = b .orders }
 
 abbrev pub withOrders : Book → List OpenOrder → Book
 withOrders b os =
-    record { days = b .days; floor = b .floor; ceiling = b .ceiling; phase = b .phase; given = b .given; units = b .units; offers = b .offers; orders = os }
+    record { rules = b .rules; phase = b .phase; given = b .given; units = b .units; offers = b .offers; orders = os }
 
 abbrev pub inPhase : Book → ℕ → Book
 inPhase b p =
-    record { days = b .days; floor = b .floor; ceiling = b .ceiling; phase = p; given = b .given; units = b .units; offers = b .offers; orders = b .orders }
+    record { rules = b .rules; phase = p; given = b .given; units = b .units; offers = b .offers; orders = b .orders }
 
 -- "the next number of the day"
 abbrev pub nextNumber : Book → ℕ
@@ -147,9 +151,7 @@ nextNumber b = b .given + 1
 abbrev pub numbered : Book → Book
 numbered b =
     record {
-      days = b .days;
-      floor = b .floor;
-      ceiling = b .ceiling;
+      rules = b .rules;
       phase = b .phase;
       given = nextNumber b;
       units = b .units;

@@ -14,9 +14,7 @@ unitDayOver u = record { kind = u .kind; capacity = u .capacity; asset = u .asse
 abbrev pub dayClosed : Book → Book
 dayClosed b =
     record {
-      days = b .days;
-      floor = b .floor;
-      ceiling = b .ceiling;
+      rules = b .rules;
       phase = callPhase;
       given = 0;
       units = map unitDayOver (b .units);

@@ -55,9 +55,7 @@ ordersPart m = take 1536 (drop 240 m)
 unfoldable pub decode : List ℕ → Book
 decode m =
     record {
-      days = word m 0;
-      floor = word m 1;
-      ceiling = word m 2;
+      rules = record { days = word m 0; floor = word m 1; ceiling = word m 2 };
       phase = word m 3;
       given = word m 4;
       units = table (word m 5) (unitAt m (word m 0));

@@ -24,8 +24,8 @@ energyIn q = between 1 mostEnergy q
 unfoldable pub headIn : Book → Bool
 headIn b =
     holds
-    (daysIn (b .days)
-    ∷ pricesIn (b .floor) (b .ceiling)
+    (daysIn (b .rules .days)
+    ∷ pricesIn (b .rules .floor) (b .rules .ceiling)
     ∷ leb (b .phase) rollingPhase
     ∷ leb (b .given) mostNumbers
     ∷ leb (length (b .units)) mostUnits
@@ -57,9 +57,9 @@ offerIn b o =
     (between 1 (b .given) (o .number)
     ∷ known b (o .unit)
     ∷ offerSides b o
-    ∷ between (b .floor) (b .ceiling) (o .price)
+    ∷ between (b .rules .floor) (b .rules .ceiling) (o .price)
     ∷ leb (o .taken) 1
-    ∷ eqb (length (o .amounts)) (periods (b .days))
+    ∷ eqb (length (o .amounts)) (periods (b .rules .days))
     ∷ energyIn (total (o .amounts))
     ∷ [])
 
@@ -69,8 +69,8 @@ orderIn b o =
     (between 1 (b .given) (o .number)
     ∷ known b (o .unit)
     ∷ leb (o .direction) 1
-    ∷ periodIn (b .days) (o .period)
-    ∷ between (b .floor) (b .ceiling) (o .price)
+    ∷ periodIn (b .rules .days) (o .period)
+    ∷ between (b .rules .floor) (b .rules .ceiling) (o .price)
     ∷ energyIn (o .quantity)
     ∷ [])
 
@@ -103,7 +103,7 @@ unfoldable pub sound : Book → Bool
 sound b =
     holds
     (headIn b
-    ∷ every (unitIn (b .days)) (b .units)
+    ∷ every (unitIn (b .rules .days)) (b .units)
     ∷ every (offerIn b) (b .offers)
     ∷ every (orderIn b) (b .orders)
     ∷ numbersDiffer b

@@ -59,7 +59,7 @@ small l = (i : ℕ) → getD l i 0 ≤ mostEnergy
 unfoldable pub misfitOf : Book → ℕ → Declaration → ℕ
 misfitOf b u d =
     firstOf
-    (check 19 (not (all (periods (b .days)) (hourFits b u d)))
+    (check 19 (not (all (periods (b .rules .days)) (hourFits b u d)))
     ∷ check 20 (not (termFits b u d))
     ∷ check 21 (not (volumeFits b u d))
     ∷ [])

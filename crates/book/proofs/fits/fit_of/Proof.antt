@@ -36,14 +36,10 @@ abbrev μ-loop : tie.MeasureT-loop
 μ-loop book k raising lowering most top whole₀ volume₀ p₀ whole volume p = 24 * word book 0 - p
 
 abbrev turn : tie.Else1 Inv-loop μ-loop → tie.At-loop Inv-loop μ-loop
-turn c =
-    let c5 = c .before .before .before .before .before in
-    c5
+turn c = c .before .before .before .before .before
 
 abbrev start : tie.Else1 Inv-loop μ-loop → tie.Start Inv-loop μ-loop
-start c =
-    let c6 = c .before .before .before .before .before .before in
-    turn c6
+start c = turn c .before .before .before .before .before .before
 
 -- what a period that passed says
 passed : (c : tie.Else1 Inv-loop μ-loop)

@@ -133,7 +133,7 @@ module _ (m : List ℕ) (u : ℕ) (h : In 1 (word m 5) u) (d : Declaration) (up 
   unfolding volumeAt
   volume-at = ap (volumeLimit (word m (8 + 3 * (u - 1)))) term-at ∙ sym (ap (λ (x : EnrolledUnit). volumeLimit (x .kind) (termOf (decode m) u d)) (unit-at m u h))
 
-  hours-all : all (periods (word m 0)) (λ p. hourHolds m (u - 1) p (getD up p 0) (getD down p 0)) ≡ all (periods (decode m .days)) (hourFits (decode m) u d)
+  hours-all : all (periods (word m 0)) (λ p. hourHolds m (u - 1) p (getD up p 0) (getD down p 0)) ≡ all (periods (decode m .rules .days)) (hourFits (decode m) u d)
   unfolding decode
   hours-all = all-ext (periods (word m 0)) _ _ hour-same
 

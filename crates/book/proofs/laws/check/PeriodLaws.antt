@@ -8,7 +8,7 @@ use lib.ListN.{getD}
 use lib.Dec.{leb}
 use borrow.Author.Tests.{le-leb, lt-leb, leb-true}
 use Rattle.measures.specs.Lists.{sum, all}
-use Rattle.measures.proofs.ListLaws.{both-marks, false-by, not-both, and-left, and-right, all-none, all-more, all-at, all-fails, sum-none, sum-more}
+use Rattle.measures.proofs.ListLaws.{both-ways, false-by, not-both, and-left, and-right, all-none, all-more, all-at, all-fails, sum-none, sum-more}
 use Rattle.limits.specs.Limits.{Answer, given, refused, hourOf, hourLimit, limitsAt}
 use Rattle.limits.specs.declared.Limits.{Limits}
 use Rattle.limits.specs.Answers.{answerOf}
@@ -25,7 +25,7 @@ unit-words m k r h = unit-facts m k (all-at (word m 5) (unitFieldsIn m) k (r .un
 
 -- a period, by cases
 module _ (m : List ℕ) (k p x y : ℕ) where
-  pub period-mark : 2 < word m (1780 + 328 * p + 5 * k) → 1 ≡ periodMisfit (markHolds m k p) (hourHolds m k p x y)
+  pub period-mark : 3 < word m (1780 + 328 * p + 5 * k) → 1 ≡ periodMisfit (markHolds m k p) (hourHolds m k p x y)
   unfolding markHolds
   period-mark h = rw (lt-leb _ _ h)
 
@@ -42,7 +42,7 @@ module _ (m : List ℕ) (k p x y : ℕ) where
       let b = leb (word m (1778 + 328 * p + 5 * k) + y) (word m (1776 + 328 * p + 5 * k)) in
       (leb-true _ _ (and-left a b t), leb-true _ _ (and-right a b t))
 
-  module _ (w : word m (1780 + 328 * p + 5 * k) ≤ 2) where
+  module _ (w : word m (1780 + 328 * p + 5 * k) ≤ 3) where
     pub period-not : (HourFacts → ⊥) → 19 ≡ periodMisfit (markHolds m k p) (hourHolds m k p x y)
     unfolding markHolds
     period-not n = rw (le-leb _ _ w, false-by (hourHolds m k p x y) (λ t. n (hour-facts t)))
@@ -60,8 +60,8 @@ period-passed false b r e h = absurd (omega arith)
 -- and one that did not
 pub period-failed : (a b : Bool) (r : ℕ) → r ≡ periodMisfit a b → 0 < r → a ≡ true → b ≡ true → ⊥
 period-failed true true r e h f g = omega arith
-period-failed true false r e h f g = both-marks (sym g)
-period-failed false b r e h f g = both-marks (sym f)
+period-failed true false r e h f g = both-ways (sym g)
+period-failed false b r e h f g = both-ways (sym f)
 
 -- the limits over the term
 module _ (m : List ℕ) (k : ℕ) (r : Ranged m) (h : k < word m 5) where

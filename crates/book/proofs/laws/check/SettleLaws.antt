@@ -10,7 +10,7 @@ use lib.ListN.{length, getD, set, replicate, length-set}
 use lib.Seq.{getD-set-same, getD-set-other}
 use lib.Dec.{leb}
 use Rattle.measures.specs.Lists.{holds, sum, all}
-use Rattle.measures.proofs.ListLaws.{both-marks, false-by, not-both, and-true, all-true, holds-all, all-fails, all-at, all-by, all-ext}
+use Rattle.measures.proofs.ListLaws.{both-ways, false-by, not-both, and-true, all-true, holds-all, all-fails, all-at, all-by, all-ext}
 use Rattle.limits.specs.Limits.{hourOf, hourLimit}
 use Rattle.book.specs.Layout.{word}
 use Rattle.book.specs.inner.Readable.{Ranged}
@@ -77,10 +77,10 @@ module _ (m : List ℕ) (p k : ℕ) (x y w v : List ℕ) (r : ℕ) (e : r ≡ pe
       record {
         answer = sym (false-by _ (λ t. let u = all-true (markHolds m k p ∷ hourHolds m k p (getD x k 0) (getD y k 0)
             ∷ []) t in period-failed _ _ r e h (u .0) (u .1 .0)));
-        up = λ z. both-marks (sym z);
-        down = λ z. both-marks (sym z);
-        whole = λ z. both-marks (sym z);
-        volume = λ z. both-marks (sym z);
+        up = λ z. both-ways (sym z);
+        down = λ z. both-ways (sym z);
+        whole = λ z. both-ways (sym z);
+        volume = λ z. both-ways (sym z);
       }
 
   pub settle-passes : r ≤ 0 → true ≡ holds (markHolds m k p ∷ hourHolds m k p (getD x k 0) (getD y k 0) ∷ [])
@@ -246,10 +246,10 @@ module _ (m : List ℕ) (p : ℕ) (x y w v x′ y′ w′ v′ : List ℕ) (s : 
 
 pub settles-fails : (m : List ℕ) (p : ℕ) (x y w v x′ y′ w′ v′ : List ℕ) → all (word m 5) (λ i. cellHolds m p i (getD x i 0) (getD y i 0)) ≡ false
     → Settles m p x y w v false x′ y′ w′ v′
-settles-fails m p x y w v x′ y′ w′ v′ f = record { settled = λ t. both-marks (sym t); failed = λ _. f }
+settles-fails m p x y w v x′ y′ w′ v′ f = record { settled = λ t. both-ways (sym t); failed = λ _. f }
 
 pub settles-ends : (m : List ℕ) (p : ℕ) (x y w v x′ y′ w′ v′ : List ℕ) → Settling m p x y w v x′ y′ w′ v′ → Settles m p x y w v true x′ y′ w′ v′
-settles-ends m p x y w v x′ y′ w′ v′ s = record { settled = λ t. s; failed = λ f. both-marks f }
+settles-ends m p x y w v x′ y′ w′ v′ s = record { settled = λ t. s; failed = λ f. both-ways f }
 
 -- the units of the offers and of the orders passed
 pub offers-settled-more : (m : List ℕ) (j : ℕ) (x y x′ y′ : List ℕ) → ((i : ℕ) → getD x i 0 + getD y i 0 ≡ 0 → getD x′ i 0 + getD y′ i 0 ≡ 0)
@@ -317,11 +317,11 @@ module _ (m : List ℕ) (p : ℕ) (x y w v : List ℕ) (few : word m 5 ≤ 64) (
   open-fails r x′ y′ w′ v′ w″ v″ f a =
       record {
         answer = λ i. sym (sym (all-ext (word m 5) _ _ (λ k h. rw (up k (omega arith), down k (omega arith)) refl)) ∙ a .failed f);
-        long = λ z. both-marks (sym z);
-        whole = λ z. both-marks (sym z);
-        volume = λ z. both-marks (sym z);
-        past = λ z. both-marks (sym z);
-        small = λ z. both-marks (sym z);
+        long = λ z. both-ways (sym z);
+        whole = λ z. both-ways (sym z);
+        volume = λ z. both-ways (sym z);
+        past = λ z. both-ways (sym z);
+        small = λ z. both-ways (sym z);
       }
 
   module _ (x′ y′ w′ v′ : List ℕ) (a : Settling m p x y w v x′ y′ w′ v′) (offers : OffersSettled m (word m 6) x′ y′) (orders : OrdersSettled m p 0 x′ y′)
@@ -387,7 +387,7 @@ module _ (m : List ℕ) (p : ℕ) (x y w v : List ℕ) (few : word m 5 ≤ 64) (
     open-added x′ y′ w′ v′ (a .settled refl) (o refl) (i refl) true refl,
     (λ z. none-left x′ y′ w′ v′ (a .settled refl) (o refl) (i refl)),
   )
-  open-ends false x′ y′ w′ v′ a o i = (open-fails false x′ y′ w′ v′ w′ v′ refl a, (λ z. both-marks (sym z)))
+  open-ends false x′ y′ w′ v′ a o i = (open-fails false x′ y′ w′ v′ w′ v′ refl a, (λ z. both-ways (sym z)))
 
 -- the figures of a period, and then what is open
 module _ (m : List ℕ) (g : Ranged m) (p : ℕ) (w v w′ v′ : List ℕ) where
@@ -397,8 +397,8 @@ module _ (m : List ℕ) (g : Ranged m) (p : ℕ) (w v w′ v′ : List ℕ) wher
       record {
         answer = sym (false-by _ (λ c. not-both _ (all-by (word m 5) (λ k. cellHolds m p k 0 0)
             (λ k l. cell-idle m p k _ _ (all-at (word m 5) (λ i. cellHolds m p i (openUp m p i) (openDown m p i)) k c l))) (sym (d .answer) ∙ f)));
-        whole = λ z. both-marks (sym z);
-        volume = λ z. both-marks (sym z);
+        whole = λ z. both-ways (sym z);
+        volume = λ z. both-ways (sym z);
       }
 
   module _ (i : Bool) (t : i ≡ true) (d : CellsDone m p (λ k. 0) (λ k. 0) w v i w′ v′) (r : Bool) (w″ v″ : List ℕ) (a : OpenAdded m p w′ v′ r w″ v″) where

@@ -62,7 +62,7 @@ pub record SoundWords (m : List ℕ) : Type 0 where
   pub pairs : pairsFit (word m 3) (decode m .orders) ≡ true
   pub whole : unitsWhole (decode m) ≡ true
 
-units-every : (m : List ℕ) → every (unitIn (decode m .days)) (decode m .units) ≡ all (word m 5) (λ k. unitIn (word m 0) (unitAt m (word m 0) k))
+units-every : (m : List ℕ) → every (unitIn (decode m .rules .days)) (decode m .units) ≡ all (word m 5) (λ k. unitIn (word m 0) (unitAt m (word m 0) k))
 unfolding decode
 units-every m = every-table (unitIn (word m 0)) (word m 5) (unitAt m (word m 0))
 

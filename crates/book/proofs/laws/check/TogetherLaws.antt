@@ -10,7 +10,7 @@ use lib.ListN.{length, getD, set, replicate}
 use lib.Seq.{getD-set-same, getD-set-other}
 use lib.Dec.{eqb, leb, ltb}
 use Rattle.measures.specs.Lists.{holds, all}
-use Rattle.measures.proofs.ListLaws.{both-marks, false-by, not-both, all-true, holds-all, all-none, all-more, all-fails, all-at, all-by, all-ext}
+use Rattle.measures.proofs.ListLaws.{both-ways, false-by, not-both, all-true, holds-all, all-none, all-more, all-fails, all-at, all-by, all-ext}
 use Rattle.limits.specs.Units.{periods}
 use Rattle.matching.specs.Orders.{Order as OpenOrder}
 use Rattle.matching.specs.Memory.{orderAt, ordersIn}
@@ -392,7 +392,7 @@ module _ (m : List ℕ) (g : Ranged m) (k : ℕ) (h : k < word m 7) (high low : 
       }
 
 pub not-priced : (m : List ℕ) (k : ℕ) (high low : List ℕ) → false ≡ all k (crossless m k) → Priced m k false high low
-not-priced m k high low e = record { answer = e; entered = λ z. both-marks (sym z) }
+not-priced m k high low e = record { answer = e; entered = λ z. both-ways (sym z) }
 
 -- an order that stands, or does not
 module _ (m : List ℕ) (k : ℕ) (high low : List ℕ) where
@@ -402,7 +402,7 @@ module _ (m : List ℕ) (k : ℕ) (high low : List ℕ) where
         answer = sym (false-by _ (λ t. not-both _ (all-by k (λ j. oneDirection (orderIn m k) (orderIn m j))
             (λ j h. one-direction-holds (orderIn m k) (orderIn m j)
             (pair-fact (word m 3) (orderIn m k) (orderIn m j) (all-at k (λ i. pairFits (word m 3) (orderIn m k) (orderIn m i)) j t h) .direction))) (sym e ∙ f)));
-        entered = λ z. both-marks (sym z);
+        entered = λ z. both-ways (sym z);
       }
 
   pub stands-called : (r : Bool) → r ≡ all k (λ j. oneDirection (orderIn m k) (orderIn m j)) → r ≡ true → (word m 3 ≡ 1 → ⊥) → OrderStands m k true high low

@@ -10,7 +10,7 @@ use lib.ListN.{length, getD, set, replicate}
 use lib.Dec.{eqb, leb}
 use Rattle.measures.specs.Lists.{holds, sum, all, table}
 use Rattle.measures.proofs.ListLaws.{
-  both-marks,
+  both-ways,
   false-by,
   true-by,
   not-both,
@@ -79,7 +79,7 @@ module _ (m : List ℕ) (p k : ℕ) where
       ∷ []) t .1 .1 .0) (lt-leb _ _ h)))
 
   pub cell-refused : (w v w′ v′ : List ℕ) → false ≡ cellHolds m p k 0 0 → CellDone m p k w v false w′ v′
-  cell-refused w v w′ v′ e = record { answer = e; whole = λ z. both-marks (sym z); volume = λ z. both-marks (sym z) }
+  cell-refused w v w′ v′ e = record { answer = e; whole = λ z. both-ways (sym z); volume = λ z. both-ways (sym z) }
 
   pub cell-passed : (r : ℕ) → r ≡ periodMisfit (markHolds m k p) (hourHolds m k p 0 0) → r ≤ 0 → word m (1779 + 328 * p + 5 * k) ≤ 4_800_000_000
       → (w v : List ℕ)
@@ -149,8 +149,8 @@ module _ (m : List ℕ) (p : ℕ) where
     past-fails w″ v″ r h t d =
         record {
           answer = sym (all-fails (word m 5) (λ i. cellHolds m p i 0 0) k h (sym (d .answer) ∙ t));
-          whole = λ z. both-marks (sym z);
-          volume = λ z. both-marks (sym z);
+          whole = λ z. both-ways (sym z);
+          volume = λ z. both-ways (sym z);
         }
 
     module _ (g : Ranged m) (h : k ≤ word m 5) where
@@ -256,8 +256,8 @@ module _ (m : List ℕ) where
   periods-fail w v w′ v′ w″ v″ n p r h t c =
       record {
         answer = sym (all-fails n (λ i. all (word m 5) (λ k. cellHolds m i k (openUp m i k) (openDown m i k))) p h (sym (c .answer) ∙ t));
-        whole = λ z. both-marks (sym z);
-        volume = λ z. both-marks (sym z);
+        whole = λ z. both-ways (sym z);
+        volume = λ z. both-ways (sym z);
       }
 
 pub periods-end : (m w v w′ v′ : List ℕ) (p n : ℕ) → p ≡ n → PeriodsDone m p w v true w′ v′ → PeriodsDone m n w v true w′ v′

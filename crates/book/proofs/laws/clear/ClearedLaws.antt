@@ -126,13 +126,13 @@ cleared-apart n p os c h =
 -- clear, of a sound book
 module _ (b : Book) (s : Sound b) where
   abbrev after : Cleared
-  after = clearFrom 0 (periods (b .days)) (b .orders)
+  after = clearFrom 0 (periods (b .rules .days)) (b .orders)
 
-  pub clear-clears : ClearsTo (length (b .units)) (periods (b .days)) (b .orders) (after .orders) (after .rows)
+  pub clear-clears : ClearsTo (length (b .units)) (periods (b .rules .days)) (b .orders) (after .orders) (after .rows)
   clear-clears =
-      let i : 0 + periods (b .days) ≡ periods (b .days) = omega arith in
+      let i : 0 + periods (b .rules .days) ≡ periods (b .rules .days) = omega arith in
       let f = s .formed in
-      rw i at (from-clears (length (b .units)) 0 (periods (b .days)) (b .orders) (record {
+      rw i at (from-clears (length (b .units)) 0 (periods (b .rules .days)) (b .orders) (record {
         rise = f .ordersRise;
         units = each-imp (OrderRanges b) (λ (o : OpenOrder). In 1 (length (b .units)) (o .unit)) (λ o r. r .unit) (b .orders) (f .orders);
         some = each-imp (OrderRanges b) (λ (o : OpenOrder). 0 < o .quantity) (λ o r. r .energy .0) (b .orders) (f .orders);
@@ -144,9 +144,9 @@ module _ (b : Book) (s : Sound b) where
   pub clear-apart : eachTwo apart (after .orders) ≡ true
   clear-apart =
       let c = clear-clears in
-      cleared-apart (length (b .units)) (periods (b .days)) (after .orders) (c .cleared)
+      cleared-apart (length (b .units)) (periods (b .rules .days)) (after .orders) (c .cleared)
       (remains-each LessOrder (OrderRanges b) (λ (o : OpenOrder). o .period
-      < periods (b .days)) (λ x y l r. rw (l .is) (r .period)) (c .remain) (s .formed .orders))
+      < periods (b .rules .days)) (λ x y l r. rw (l .is) (r .period)) (c .remain) (s .formed .orders))
 
 -- "each period, rising ... the rolling phase begins"
 pub clearing-sound : (b : Book) (lent : ℕ) → sound b ≡ true → sound (clearing b lent .book) ≡ true

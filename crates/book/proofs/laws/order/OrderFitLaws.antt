@@ -35,7 +35,7 @@ module _ (m : List ℕ) (e : soundIn m ≡ true) where
   fields k h =
       let i : In 1 (word m 5) (k + 1) = omega arith in
       let s = sound-facts (decode m) (sound-book m e) in
-      let r = each-at (UnitRanges (decode m .days)) (decode m .units) (k + 1 - 1) noUnit (s .formed .units) (rw (units-held m) (omega arith)) in
+      let r = each-at (UnitRanges (decode m .rules .days)) (decode m .units) (k + 1 - 1) noUnit (s .formed .units) (rw (units-held m) (omega arith)) in
       let q : k + 1 - 1 ≡ k = omega arith in
       let g : unitOf (decode m) (k + 1) ≡ unitAt m (word m 0) k = unit-at m (k + 1) i ∙ ap (unitAt m (word m 0)) q in
       let x = ap (λ (y : EnrolledUnit). y .kind) g in
@@ -62,7 +62,7 @@ module _ (m : List ℕ) (e : soundIn m ≡ true) where
     unfolding sound unitIn marksIn
     marks-are =
         let t = all-true _ (sound-book m e) in
-        let i = all-true _ (every-at (unitIn (decode m .days)) (decode m .units) (u - 1) noUnit (t .1 .0) (omega (arith, units-held m))) in
+        let i = all-true _ (every-at (unitIn (decode m .rules .days)) (decode m .units) (u - 1) noUnit (t .1 .0) (omega (arith, units-held m))) in
         i .1 .1 .1 .1 .0
 
     fits-are : unitFits (decode m) u ≡ true

@@ -18,6 +18,7 @@ use Rattle.book.specs.Trades.{raises, lowers}
 use Rattle.book.specs.Fit.{Declaration, nothing}
 use Rattle.book.specs.Sound.{oneDirection, sound}
 use Rattle.book.specs.Refusals.{
+  markedAgainst,
   accepted,
   ordersOfUnit,
   unsound,
@@ -98,7 +99,7 @@ module _ (b : Book) (u d p price q : ℕ) where
           unit = named;
           direction = leb-true _ _ (not-false _ (t .1 .1 .1 .1 .1 .1 .0));
           period = ltb-true _ _ (not-false _ (t .1 .1 .1 .1 .1 .0));
-          price = within (b .floor) (b .ceiling) price (not-false _ (t .1 .1 .1 .0));
+          price = within (b .rules .floor) (b .rules .ceiling) price (not-false _ (t .1 .1 .1 .0));
           energy = within 1 mostEnergy q (not-false _ (t .1 .1 .1 .1 .0));
         };
         follows =

@@ -144,7 +144,7 @@ module _ (b : Book) (u d p price q : ℕ) (s : Sound b) (a : OrderPassed b u d p
           kinds = λ v i. refl;
         }) incoming incoming (same-order incoming) (a .ranges);
         follows = a .follows;
-        way = a .way;
+        mark = a .mark;
         room = a .room;
         left = a .left;
         fits = fits-in-phase b callPhase u (orderDeclares b u d p q) (a .fits);

@@ -76,8 +76,8 @@ offer-same ha hb hc hd he hf = rw (ha, hb, hc, hd, he, hf)
 
 pub book-same : {a b c d e a′ b′ c′ d′ e′ : ℕ} {us us′ : List EnrolledUnit} {fs fs′ : List OpenOffer} {os os′ : List OpenOrder} → a ≡ a′ → b ≡ b′ → c ≡ c′ → d ≡ d′
     → e ≡ e′ → us ≡ us′ → fs ≡ fs′ → os ≡ os′
-    → _≡_ {A = Book} (record { days = a; floor = b; ceiling = c; phase = d; given = e; units = us; offers = fs; orders = os })
-    (record { days = a′; floor = b′; ceiling = c′; phase = d′; given = e′; units = us′; offers = fs′; orders = os′ })
+    → _≡_ {A = Book} (record { rules = record { days = a; floor = b; ceiling = c }; phase = d; given = e; units = us; offers = fs; orders = os })
+    (record { rules = record { days = a′; floor = b′; ceiling = c′ }; phase = d′; given = e′; units = us′; offers = fs′; orders = os′ })
 book-same ha hb hc hd he hu hf ho = rw (ha, hb, hc, hd, he, hu, hf, ho)
 
 -- the orders' part, where none of its words changed

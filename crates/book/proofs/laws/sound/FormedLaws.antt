@@ -47,9 +47,9 @@ same-order o = record { left = o .quantity; is = refl; fewer = omega arith; some
 
 -- what is named in b is so in b′
 pub record Names (b b′ : Book) : Type 0 where
-  pub days : b′ .days ≡ b .days
-  pub floor : b′ .floor ≡ b .floor
-  pub ceiling : b′ .ceiling ≡ b .ceiling
+  pub days : b′ .rules .days ≡ b .rules .days
+  pub floor : b′ .rules .floor ≡ b .rules .floor
+  pub ceiling : b′ .rules .ceiling ≡ b .rules .ceiling
   pub given : b .given ≤ b′ .given
   pub count : length (b .units) ≤ length (b′ .units)
   pub kinds : (u : ℕ) → In 1 (length (b .units)) u → unitOf b′ u .kind ≡ unitOf b u .kind
@@ -118,7 +118,7 @@ pub record Remaining (b b′ : Book) : Type 0 where
   pub phase : b′ .phase ≤ rollingPhase
   pub given : b′ .given ≤ mostNumbers
   pub most : length (b′ .units) ≤ mostUnits
-  pub units : Each (UnitRanges (b′ .days)) (b′ .units)
+  pub units : Each (UnitRanges (b′ .rules .days)) (b′ .units)
   pub offers : Remains LessOffer (b′ .offers) (b .offers)
   pub orders : Remains LessOrder (b′ .orders) (b .orders)
   pub apart : b′ .phase ≡ rollingPhase → eachTwo apart (b′ .orders) ≡ true

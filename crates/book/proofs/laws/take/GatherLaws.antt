@@ -64,7 +64,7 @@ module _ (m : List ℕ) (s : soundIn m ≡ true) where
   unit-in-at k h =
       let t = all-true _ (sound-book m s) in
       ap (unitIn (word m 0)) (sym (table-at (word m 5) (unitAt m (word m 0)) k noUnit h))
-      ∙ every-at (unitIn (decode m .days)) (decode m .units) k noUnit (t .1 .0) (omega (arith, units-held m))
+      ∙ every-at (unitIn (decode m .rules .days)) (decode m .units) k noUnit (t .1 .0) (omega (arith, units-held m))
 
   fields-in : (k : ℕ) → k < word m 5 → unitFieldsIn m k ≡ true
   unfolding unitFieldsIn unitIn

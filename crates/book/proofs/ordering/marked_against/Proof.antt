@@ -6,13 +6,13 @@ use Rattle.book.proofs.ordering.marked_against.Statement.{statement}
 use Rattle.book.proofs.ordering.marked_against.Tie as tie
 
 returns : tie.Need-returns
-returns c = mark-both (c .before .args .direction) _ (omega arith)
+returns c = mark-both (c .before .args .direction) (c .before .args .mark) (omega arith)
 
 sub-result : tie.Need-sub-result
 sub-result c = search needs
 
 returns-2 : tie.Need-returns-2
-returns-2 c = mark-one _ _ (omega arith) (omega arith)
+returns-2 c = mark-one (c .before .args .direction) (c .before .args .mark) (omega arith) (omega arith)
 
 pub marked-against-spec : {M : Type 1} → statement M
 marked-against-spec = tie.close (tie.spec returns sub-result returns-2)

@@ -44,21 +44,20 @@ counted-requires c κs = search needs
 
 returns-3 : tie.Need-returns-3
 returns-3 c =
-    let c6 = c .before .before .before .before .before .before in
-    let s = c6 .unit-orders .ensures in
-    days-two _ _ _ _ (omega arith) (omega arith) (omega arith) (omega arith) _ (s .1) (omega arith) (omega arith) _ _ (s .0) (c .before .counted .ensures)
-    (omega arith)
+    let s = c .before .before .before .before .before .before .before .unit-orders .ensures in
+    let w = c .before .before .before .marked-against .ensures in
+    days-two _ _ _ _ (omega arith) (omega arith) (omega arith) (omega arith) _ (s .1) (omega arith) _ w (c .before .before .if2 .left)
+    _ _ (s .0) (c .before .counted .ensures) (omega arith)
 
 shared-slice-read-if4 : tie.Need-shared-slice-read-if4
 shared-slice-read-if4 c = search needs
 
 returns-4 : tie.Need-returns-4
 returns-4 c =
-    let c3 = c .before .before .before in
-    let c8 = c3 .before .before .before .before .before in
-    let s = c8 .unit-orders .ensures in
-    days-full _ _ _ _ (omega arith) (omega arith) (omega arith) (omega arith) _ (s .1) (omega arith) (omega arith) _ _ (s .0) (c3 .counted .ensures)
-    (omega arith) (omega arith)
+    let s = c .before .before .before .before .before .before .before .before .before .unit-orders .ensures in
+    let w = c .before .before .before .before .before .marked-against .ensures in
+    days-full _ _ _ _ (omega arith) (omega arith) (omega arith) (omega arith) _ (s .1) (omega arith) _ w (c .before .before .before .before .if2 .left)
+    _ _ (s .0) (c .before .before .before .counted .ensures) (omega arith) (omega arith)
 
 shared-slice-read-if5 : tie.Need-shared-slice-read-if5
 shared-slice-read-if5 c = search needs
@@ -66,18 +65,16 @@ shared-slice-read-if5 c = search needs
 returns-5 : tie.Need-returns-5
 returns-5 c =
     let c5 = c .before .before .before .before .before in
-    let c10 = c5 .before .before .before .before .before in
-    let s = c10 .unit-orders .ensures in
-    days-used _ _ _ _ (omega arith) (omega arith) (omega arith) (omega arith) _ (s .1) (omega arith) (omega arith) _ _ (s .0) (c5 .counted .ensures)
-    (omega arith) (omega arith) (omega arith)
+    let s = c5 .before .before .before .before .before .before .unit-orders .ensures in
+    days-used _ _ _ _ (omega arith) (omega arith) (omega arith) (omega arith) _ (s .1) (omega arith) _ (c5 .before .before .marked-against .ensures)
+    (c5 .before .if2 .left) _ _ (s .0) (c5 .counted .ensures) (omega arith) (omega arith) (omega arith)
 
 returns-6 : tie.Need-returns-6
 returns-6 c =
     let c5 = c .before .before .before .before .before in
-    let c10 = c5 .before .before .before .before .before in
-    let s = c10 .unit-orders .ensures in
-    days-pass _ _ _ _ (omega arith) (omega arith) (omega arith) (omega arith) _ (s .1) (omega arith) (omega arith) _ _ (s .0) (c5 .counted .ensures)
-    (omega arith) (omega arith) (omega arith)
+    let s = c5 .before .before .before .before .before .before .unit-orders .ensures in
+    days-pass _ _ _ _ (omega arith) (omega arith) (omega arith) (omega arith) _ (s .1) (omega arith) _ (c5 .before .before .marked-against .ensures)
+    (c5 .before .if2 .left) _ _ (s .0) (c5 .counted .ensures) (omega arith) (omega arith) (omega arith)
 
 pub order-days-spec : {M : Type 1} → statement M
 order-days-spec =

@@ -9,13 +9,13 @@ add-result : tie.Need-add-result
 add-result c = search needs
 
 returns : tie.Need-returns
-returns c = mark-none _ _ (omega arith)
+returns c = mark-none (c .before .args .direction) (c .before .args .mark) (omega arith)
 
 sub-if2 : tie.Need-sub-if2
 sub-if2 c = search needs
 
 returns-2 : tie.Need-returns-2
-returns-2 c = mark-other _ _ (omega arith) (omega arith)
+returns-2 c = mark-other (c .before .before .args .direction) (c .before .before .args .mark) (omega arith) (omega arith)
 
 returns-3 : tie.Need-returns-3
 returns-3 c = mark-own _ _ (omega arith) (omega arith)

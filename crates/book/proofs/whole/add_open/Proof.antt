@@ -2,7 +2,7 @@
 use mathlib.Core.Path.{_∙_, sym}
 use native.Mathlib.Omega.{arith}
 use borrow.Author.Tests.{not-true, not-false}
-use Rattle.measures.proofs.ListLaws.{both-marks}
+use Rattle.measures.proofs.ListLaws.{both-ways}
 use Rattle.book.proofs.laws.check.UnitsFitLaws.{open-up, open-down, open-below}
 use Rattle.book.proofs.laws.check.SettleLaws.{open-waits, open-fails, open-ends, settles-both, settling-still}
 use borrow.Author.Needs.{needs}
@@ -71,7 +71,7 @@ returns c =
     let u = open-up (a .book .now) (a .p) (a .raising .now) _ (a .lowering .now) _ _ (g .5 .up) (g .5 .down) o r in
     let d = open-down (a .book .now) (a .p) (a .raising .now) _ (a .lowering .now) _ _ (g .5 .up) (g .5 .down) o r in (
       open-fails (a .book .now) (a .p) _ _ _ _ (g .0 .readable .unitsTo) u d f _ _ _ _ _ _ _ (not-true _ (c .if1 .taken)) (c9 .settle-offers .ensures .0),
-      (λ z. both-marks (sym z)),
+      (λ z. both-ways (sym z)),
     )
 
 settle-orders-requires : tie.Need-settle-orders-requires

@@ -3,7 +3,7 @@ use mathlib.Core.Path.{_∙_, sym}
 use mathlib.Core.Bool.{true}
 use native.Mathlib.Omega.{arith}
 use borrow.Author.Tests.{not-true, not-false}
-use Rattle.measures.proofs.ListLaws.{both-marks}
+use Rattle.measures.proofs.ListLaws.{both-ways}
 use Rattle.book.specs.inner.Whole.{CellsDone, openUp, openDown}
 use Rattle.book.proofs.laws.check.UnitsFitLaws.{cells-same, idle-up, idle-down}
 use Rattle.book.proofs.laws.check.SettleLaws.{period-fails, period-done}
@@ -26,7 +26,7 @@ returns c =
     let c15 = c5 .before .before .before .before .before .before .before .before .before .before in
     let a = c15 .args in
     let g = c15 .pre in
-    (period-fails (a .book .now) (g .0) (a .p) _ _ _ _ _ (not-true _ (c .if1 .taken)) (c5 .add-idle .ensures) _ _, (λ z. both-marks (sym z)))
+    (period-fails (a .book .now) (g .0) (a .p) _ _ _ _ _ (not-true _ (c .if1 .taken)) (c5 .add-idle .ensures) _ _, (λ z. both-ways (sym z)))
 
 shared-slice-read-if2 : tie.Need-shared-slice-read-if2
 shared-slice-read-if2 c = search needs

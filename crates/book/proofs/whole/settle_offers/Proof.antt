@@ -3,7 +3,7 @@ use Prim.Native.Nat.{_≤_, _-_, _+_, _*_}
 use mathlib.Core.Path.{sym}
 use native.Mathlib.Omega.{arith}
 use borrow.Author.Tests.{not-true, not-false}
-use Rattle.measures.proofs.ListLaws.{both-marks}
+use Rattle.measures.proofs.ListLaws.{both-ways}
 use Rattle.book.specs.Layout.{word}
 use Rattle.book.specs.inner.Whole.{Settling, OffersSettled}
 use Rattle.book.proofs.laws.check.ShareLaws.{offer-words}
@@ -90,7 +90,7 @@ returns c =
     let k = word (a .book .now) (201 + 5 * l .j) - 1 in (
       settles-fails _ _ _ _ _ _ _ _ _ _ (settling-fails _ _ _ _ _ _ _ _ _ _ (l .inv .1) k (omega arith) (g .0 .readable .unitsTo) _ _ _ _ _ d
           (not-true _ (c .if1 .taken))),
-      (λ z. both-marks (sym z)),
+      (λ z. both-ways (sym z)),
     )
 
 add-j : tie.Need-add-j Inv-loop μ-loop

@@ -4,7 +4,7 @@ use mathlib.Core.Path.{_≡_, sym}
 use native.Mathlib.Omega.{arith}
 use borrow.Author.Tests.{not-true, not-false}
 use lib.ListN.{getD}
-use Rattle.measures.proofs.ListLaws.{both-marks}
+use Rattle.measures.proofs.ListLaws.{both-ways}
 use Rattle.book.specs.Layout.{word}
 use Rattle.book.specs.inner.Whole.{Latest, Settling, OrdersSettled}
 use Rattle.book.proofs.laws.check.ShareLaws.{order-words}
@@ -89,18 +89,17 @@ same-length-4 c = search needs
 
 returns : tie.Need-returns Inv-loop μ-loop
 returns c =
-    let c9 = c .before .before .before .before .before .before .before .before .before in
-    let c16 = c9 .before .before .before .before .before .before .before in
-    let c25 = c16 .before .before .before .before .before .before .before .before .before in
-    let a = c25 .args in
-    let g = c25 .pre in
-    let l = c16 .loop in
-    let d = c9 .settle .ensures in
+    let a = c .before .before .before .before .before .before .before .before .before .before .before .before .before .before .before .before .before
+    .before .before .before .before .before .before .before .before .args in
+    let g = c .before .before .before .before .before .before .before .before .before .before .before .before .before .before .before .before .before
+    .before .before .before .before .before .before .before .before .pre in
+    let l = c .before .before .before .before .before .before .before .before .before .before .before .before .before .before .before .before .loop in
+    let d = c .before .before .before .before .before .before .before .before .before .settle .ensures in
     let u = order-words (a .book .now) (l .at - 1) (g .0) (omega arith) .unit in
     let k = word (a .book .now) (240 + 6 * (l .at - 1) + 1) - 1 in (
       settles-fails _ _ _ _ _ _ _ _ _ _ (settling-fails _ _ _ _ _ _ _ _ _ _ (l .inv .2) k (omega arith) (g .0 .readable .unitsTo) _ _ _ _ _ d
           (not-true _ (c .if1 .taken))),
-      (λ z. both-marks (sym z)),
+      (λ z. both-ways (sym z)),
     )
 
 sub-at : tie.Need-sub-at Inv-loop μ-loop

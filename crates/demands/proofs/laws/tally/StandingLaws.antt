@@ -22,7 +22,7 @@ abbrev pub OneDirections : List OpenOrder → Type 0
 OneDirections os = Each (λ (a : OpenOrder). Each (λ (o : OpenOrder). oneDirection a o ≡ true) os) os
 
 pub record Standing (b : Book) : Type 0 where
-  pub long : (u : ℕ) → In 1 (length (b .units)) u → length (unitOf b u .figures) ≡ periods (b .days)
+  pub long : (u : ℕ) → In 1 (length (b .units)) u → length (unitOf b u .figures) ≡ periods (b .rules .days)
   pub fits : (u : ℕ) → In 1 (length (b .units)) u → Fits b u nothing
   pub offers : Each (OfferRanges b) (b .offers)
   pub orders : Each (OrderRanges b) (b .orders)
@@ -41,7 +41,7 @@ standing b e =
     let s = sound-facts b e in
     let f = s .formed in
     record {
-      long = λ u h. each-at (UnitRanges (b .days)) (b .units) (u - 1) noUnit (f .units) (omega arith) .figures;
+      long = λ u h. each-at (UnitRanges (b .rules .days)) (b .units) (u - 1) noUnit (f .units) (omega arith) .figures;
       fits = s .fits;
       offers = f .offers;
       orders = f .orders;
