@@ -12,7 +12,9 @@ mark-with-requires : tie.Need-mark-with-requires
 mark-with-requires c κs = search needs
 
 returns-2 : tie.Need-returns-2
-returns-2 c = mark-set (c .before .before .args .way) _ _ _ (omega arith) (c .mark-with .ensures)
+returns-2 c =
+    let a = c .before .before .args in
+    mark-set (a .way) (a .direction) (a .mark) _ (omega arith) (c .mark-with .ensures)
 
 pub mark-after-spec : {M : Type 1} → statement M
 mark-after-spec = tie.close (tie.spec returns mark-with-requires returns-2)
