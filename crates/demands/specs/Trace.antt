@@ -52,7 +52,7 @@ pub record Claimed (t : Tally) (x : List ℕ) : Type 0 where
       × (getD pts′ (2 * h) 0 ≤ getD pts′ (2 * h + 1) 0)
       × (getD pts′ (2 * h + 1) 0 ≤ getD pts′ (2 * h) 0 + 1))
 
--- "One theorem over every list of calls from a newly opened book"
+-- the theorem over every list of calls from a newly opened book
 abbrev pub OverEveryTrace : Type 0
 OverEveryTrace =
     (m₀ : List ℕ) (r : Rules) (a : Answer) (m x : List ℕ) → Opened m₀ r a m → toldBy a .refusal ≡ 0
