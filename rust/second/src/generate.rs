@@ -35,7 +35,8 @@ impl Generator {
         if (book.units.len() as u64) < self.units && !self.random.once_in(16) {
             return self.enrol();
         }
-        if self.manner.name == "numbers" && book.given < Book::MOST_NUMBERS {
+        let numbers = self.manner.name == "numbers" && book.given < Book::MOST_NUMBERS;
+        if numbers && !book.units.is_empty() {
             return self.next_number(book);
         }
         let mut drawn = self.random.below(self.manner.weights.iter().sum());
@@ -382,7 +383,7 @@ impl Generator {
         Call::Curve { unit: self.spoil(unit), day: self.spoil(day), lent: self.lent(POINTS_LENT) }
     }
 
-    /// Orders and cancels in turn, so that the numbers of the day are used up.
+    /// Orders and cancels in turn, so that the numbers of the day are used up. A unit stands.
     fn next_number(&mut self, book: &Book) -> Call {
         if self.random.once_in(400) {
             return self.order(book);
