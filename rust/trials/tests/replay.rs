@@ -51,7 +51,9 @@ fn own_lists() {
 
 #[test]
 fn lists_of_the_requests() {
-    for (path, list, answers) in pairs("CENDUXARI_REQUESTS", "shared/requests/vectors", STAGE) {
+    let lists = pairs("CENDUXARI_REQUESTS", "shared/requests/vectors", STAGE);
+    assert!(lists.is_empty() || lists.len() >= 8, "only {} lists found", lists.len());
+    for (path, list, answers) in lists {
         answered(&path.display().to_string(), &list, &answers);
     }
 }
