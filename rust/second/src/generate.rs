@@ -240,11 +240,13 @@ impl Generator {
         (unit, direction, period, self.room(book, unit, direction, period))
     }
 
-    /// The way the unit goes already in the period; else raising, or lowering of what is held.
+    /// The direction that the unit goes already in the period; else raising, or lowering of what is held.
     fn direction(&mut self, book: &Book, unit: u64, period: u64) -> u64 {
         let figures = &book.unit(unit).figures[period as usize];
-        if figures.way != 0 {
-            return figures.way - 1;
+        if let Some(direction) =
+            [SELL, BUY].into_iter().find(|&direction| figures.marked(direction))
+        {
+            return direction;
         }
         for order in &book.orders {
             if order.unit == unit && order.period == period {
