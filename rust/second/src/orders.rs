@@ -36,9 +36,9 @@ impl Book {
                 }
             }
         }
-        let other_way = if direction == SELL { 2 } else { 1 };
-        let way = self.unit(unit).figures[period as usize].way;
-        check(other == 0 && way != other_way, 15)?;
+        let figures = &self.unit(unit).figures[period as usize];
+        let marked = figures.marked(if direction == SELL { BUY } else { SELL });
+        check(other == 0 && !marked, 15)?;
         check(self.phase == ROLLING || open < 2, 16)?;
         check(self.orders.len() < Order::MOST, 17)?;
         check(self.given < Book::MOST_NUMBERS, 18)?;
