@@ -39,7 +39,7 @@ was-sound b (callCancel unit number) z = first-passed b _ (not-refused (cancelRe
 was-sound b (callClear lent) z = first-passed b _ (not-refused (clearRefusal b lent) b _ z)
 was-sound b callClose z = first-passed b [] (not-refused (firstOf (unsound b ∷ [])) b _ z)
 
--- two laws are still to come: order in the rolling phase, and clear
+-- from the laws of an order in the rolling phase and of a clear
 module _
     (rolling : (b : Book) (u d p price q lent : ℕ) → b .phase ≡ rollingPhase → sound b ≡ true → sound (ordering b u d p price q lent .book) ≡ true)
     (cleared : (b : Book) (lent : ℕ) → sound b ≡ true → sound (clearing b lent .book) ≡ true)

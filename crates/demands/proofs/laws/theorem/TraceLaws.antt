@@ -159,7 +159,7 @@ module _ (t : Tally) (x : List ℕ) (h : Holding t x) where
   sound-x = and-true (enough x) (sound (decode x)) (h .long) (h .step .sound)
 
   pub claimed : Claimed t x
-  claimed = record { book = d; curves = λ u day pts a pts′ e l k c. at u day pts a pts′ e l k c }
+  claimed = record { sound = sound-x; book = d; curves = λ u day pts a pts′ e l k c. at u day pts a pts′ e l k c }
     where
       d : Demand3 t (decode x)
       d = demand-from t (decode x) (h .step .agree) (h .step .sound)
