@@ -32,3 +32,38 @@ figure-places m p k =
       volume = ap (word m) (volume-place p k);
       mark = ap (word m) (mark-place p k);
     }
+
+-- the same of the offer at place j
+pub offer-unit-place : (j : ℕ) → 200 + 5 * j + 1 ≡ 201 + 5 * j
+offer-unit-place j = omega arith
+
+pub partner-place : (j : ℕ) → 200 + 5 * j + 2 ≡ 202 + 5 * j
+partner-place j = omega arith
+
+pub price-place : (j : ℕ) → 200 + 5 * j + 3 ≡ 203 + 5 * j
+price-place j = omega arith
+
+pub taken-place : (j : ℕ) → 200 + 5 * j + 4 ≡ 204 + 5 * j
+taken-place j = omega arith
+
+pub record OfferPlaces (m : List ℕ) (j : ℕ) : Type 0 where
+  pub unit : word m (200 + 5 * j + 1) ≡ word m (201 + 5 * j)
+  pub partner : word m (200 + 5 * j + 2) ≡ word m (202 + 5 * j)
+  pub price : word m (200 + 5 * j + 3) ≡ word m (203 + 5 * j)
+  pub taken : word m (200 + 5 * j + 4) ≡ word m (204 + 5 * j)
+
+pub offer-places : (m : List ℕ) (j : ℕ) → OfferPlaces m j
+offer-places m j =
+    record {
+      unit = ap (word m) (offer-unit-place j);
+      partner = ap (word m) (partner-place j);
+      price = ap (word m) (price-place j);
+      taken = ap (word m) (taken-place j);
+    }
+
+-- and of the unit at place k
+pub capacity-place : (k : ℕ) → 8 + 3 * k + 1 ≡ 9 + 3 * k
+capacity-place k = omega arith
+
+pub asset-place : (k : ℕ) → 8 + 3 * k + 2 ≡ 10 + 3 * k
+asset-place k = omega arith
