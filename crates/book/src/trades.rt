@@ -100,11 +100,12 @@ fn book_row(book: &mut [u64], rows: &[u64], i: usize)
         × (Small (now book) 1900000000000000000) ⌝ }
     ensures { λ _. ⌜ RowTraded (now (book .entry)) (now (book .exit)) (rowAt (now (rows .entry)) i) ⌝ }
 {
-    let way = rows[6 * i];
-    let period = rows[6 * i + 1];
-    let seller = rows[6 * i + 2];
-    let buyer = rows[6 * i + 3];
-    let quantity = rows[6 * i + 4];
+    let at = 6 * i;
+    let way = rows[at];
+    let period = rows[at + 1];
+    let seller = rows[at + 2];
+    let buyer = rows[at + 3];
+    let quantity = rows[at + 4];
     book_trade(book, way, 0, period, quantity, seller);
     book_trade(book, way, 1, period, quantity, buyer);
 }
