@@ -90,21 +90,22 @@ fn unit_in(book: &[u64], k: usize) -> bool
     requires { ⌜ (Readable (now book)) × (k < 64) ⌝ }
     ensures { λ r. ⌜ r ≡ unitFieldsIn (now (book .entry)) k ⌝ }
 {
-    let kind = book[8 + 3 * k];
+    let at = 8 + 3 * k;
+    let kind = book[at];
     if kind < 1 {
         return false;
     }
     if Unit::KINDS < kind {
         return false;
     }
-    let capacity = book[9 + 3 * k];
+    let capacity = book[at + 1];
     if capacity < 1 {
         return false;
     }
     if Unit::MOST_CAPACITY < capacity {
         return false;
     }
-    if Energy::MOST < book[10 + 3 * k] {
+    if Energy::MOST < book[at + 2] {
         return false;
     }
     true
