@@ -1,13 +1,10 @@
 -- `period_fit`: a test that fails contradicts one of the two facts of the hour.
 use native.Mathlib.Omega.{arith}
-use Rattle.book.proofs.laws.memory.PlaceFacts.{FigurePlaces, figure-places}
+use Rattle.book.proofs.laws.memory.PlaceFacts.{raised-place, lowered-place, mark-place}
 use Rattle.book.proofs.laws.check.PeriodLaws.{period-mark, period-not, period-fits}
 use borrow.Author.Needs.{needs}
 use Rattle.book.proofs.fits.period_fit.Statement.{statement}
 use Rattle.book.proofs.fits.period_fit.Tie as tie
-
-places : (c : tie.Start) → FigurePlaces (c .args .book .now) (c .args .p) (c .args .k)
-places c = figure-places _ _ _
 
 mul-at : tie.Need-mul-at
 mul-at c = search needs
@@ -31,7 +28,7 @@ shared-slice-read-if1 : tie.Need-shared-slice-read-if1
 shared-slice-read-if1 c = search needs
 
 returns : tie.Need-returns
-returns c = period-mark _ _ _ _ _ (omega (arith, places (c .before .before .before) .mark))
+returns c = period-mark _ _ _ _ _ (rw mark-place at (c .if1 .taken))
 
 hour-at-requires : tie.Need-hour-at-requires
 hour-at-requires c κs = search needs
@@ -43,7 +40,8 @@ shared-slice-read-held : tie.Need-shared-slice-read-held
 shared-slice-read-held c = search needs
 
 returns-2 : tie.Need-returns-2
-returns-2 c = period-not _ _ _ _ _ (omega (arith, places (c .before .before .before .before .before .before) .mark)) (λ f. omega arith)
+returns-2 c =
+    period-not _ _ _ _ _ (rw mark-place at (c .before .before .before .if1 .left)) (λ f. omega (arith, f .0, c .if2 .taken, c .before .before .hour-at .ensures))
 
 add-raised : tie.Need-add-raised
 add-raised c = search needs
@@ -56,16 +54,16 @@ shared-slice-read-raised c = search needs
 
 returns-3 : tie.Need-returns-3
 returns-3 c =
-    let w = places (c .before .before .before .before .before .before .before .before) in
-    period-not _ _ _ _ _ (omega (arith, w .mark)) (λ f. omega (arith, w .raised))
+    period-not _ _ _ _ _ (rw mark-place at (c .before .before .before .before .before .if1 .left))
+    (λ f. omega (arith, f .0, rw raised-place at (c .if3 .taken), c .before .before .before .before .hour-at .ensures))
 
 sub-if4 : tie.Need-sub-if4
 sub-if4 c = search needs
 
 returns-4 : tie.Need-returns-4
 returns-4 c =
-    let w = places (c .before .before .before .before .before .before .before .before .before) in
-    period-not _ _ _ _ _ (omega (arith, w .mark)) (λ f. omega (arith, w .raised))
+    period-not _ _ _ _ _ (rw mark-place at (c .before .before .before .before .before .before .if1 .left))
+    (λ f. omega (arith, f .0, rw raised-place at (c .if4 .taken), c .before .before .before .before .before .hour-at .ensures))
 
 add-lowered : tie.Need-add-lowered
 add-lowered c = search needs
@@ -78,18 +76,21 @@ shared-slice-read-lowered c = search needs
 
 returns-5 : tie.Need-returns-5
 returns-5 c =
-    let w = places (c .before .before .before .before .before .before .before .before .before .before .before) in
-    period-not _ _ _ _ _ (omega (arith, w .mark)) (λ f. omega (arith, w .lowered))
+    period-not _ _ _ _ _ (rw mark-place at (c .before .before .before .before .before .before .before .before .if1 .left)) (λ f. omega (arith, f .1, rw lowered-place at (c .if5 .taken)))
 
 returns-6 : tie.Need-returns-6
 returns-6 c =
-    let w = places (c .before .before .before .before .before .before .before .before .before .before .before .before) in
-    period-not _ _ _ _ _ (omega (arith, w .mark)) (λ f. omega (arith, w .lowered))
+    period-not _ _ _ _ _ (rw mark-place at (c .before .before .before .before .before .before .before .before .before .if1 .left)) (λ f. omega (arith, f .1, rw lowered-place at (c .if6 .taken)))
 
 returns-7 : tie.Need-returns-7
 returns-7 c =
-    let w = places (c .before .before .before .before .before .before .before .before .before .before .before .before) in
-    period-fits _ _ _ _ _ (omega (arith, w .mark)) (omega (arith, w .raised, w .lowered))
+    let c4 = c .before .before .before .before in
+    let c6 = c4 .before .before in
+    let c8 = c6 .before .before in
+    period-fits _ _ _ _ _ (rw mark-place at (c8 .before .if1 .left)) (
+      omega (arith, rw raised-place at (c .before .before .before .if4 .left), rw raised-place at (c4 .if3 .left), c6 .if2 .left, c8 .hour-at .ensures),
+      omega (arith, rw lowered-place at (c .if6 .left), rw lowered-place at (c .before .if5 .left)),
+    )
 
 pub period-fit-spec : {M : Type 1} → statement M
 period-fit-spec =

@@ -125,11 +125,8 @@ shared-slice-read-b-2 c = search needs
 loop-less : tie.Need-loop-less Inv-loop μ-loop
 loop-less c =
     let c8 = c .before .before .before .before .before .before .before .before in
-    let c13 = c8 .before .before .before .before .before in
-    let g = c13 .pre in
     let l = c8 .loop in
-    let w = l .inv .fewUnit in
-    omega (arith, g .4 (l .a - 1) (omega arith) .to)
+    omega (arith, c8 .before .before .before .before .before .pre .4 (l .a - 1) (omega (arith, l .inv .fewUnit, c .before .before .before .before .before .before .before .loop-test .taken)) .to, c .before .before .before .before .before .before .before .loop-test .taken)
 
 loop-again : tie.Need-loop-again Inv-loop μ-loop
 loop-again c =
@@ -137,13 +134,11 @@ loop-again c =
     let c6 = c4 .before .before in
     let c7 = c6 .before in
     let c8 = c7 .before in
-    let c13 = c8 .before .before .before .before .before in
-    let g = c13 .pre in
+    let g = c8 .before .before .before .before .before .pre in
     let l = c8 .loop in
-    let w = l .inv .fewUnit in
-    let v = l .inv .fewPeriod in
-    seeking-more _ _ (l .a) (l .b) (l .inv) _ _ (c7 .loop-test .taken) (omega (arith, c6 .if1 .left)) (c4 .if2 .left) (c .before .before .if3 .left)
-    (g .4 (l .a - 1) (omega arith)) (g .5 (l .b - 1) (omega arith))
+    let t = c7 .loop-test .taken in
+    seeking-more _ _ (l .a) (l .b) (l .inv) _ _ t (omega (arith, c6 .if1 .left)) (c4 .if2 .left) (c .before .before .if3 .left)
+    (g .4 (l .a - 1) (omega (arith, l .inv .fewUnit, t))) (g .5 (l .b - 1) (omega (arith, l .inv .fewPeriod, c6 .if1 .left)))
 
 returns-4 : tie.Need-returns-4 Inv-loop μ-loop
 returns-4 c = none-of-unit _ _ _ (c .before .loop .b) (c .before .loop .inv) (omega arith)
