@@ -16,13 +16,14 @@ fn close_cell(book: &mut [u64], k: usize, p: usize)
         × (word (now book) (1778 + 328 * p + 5 * k) ≤ word (now book) (1776 + 328 * p + 5 * k)) ⌝ }
     ensures { λ _. ⌜ now (book .exit) ≡ cellClosed (now (book .entry)) k p ⌝ }
 {
-    let held = book[1776 + 328 * p + 5 * k];
-    let raised = book[1777 + 328 * p + 5 * k];
-    let lowered = book[1778 + 328 * p + 5 * k];
-    book[1776 + 328 * p + 5 * k] = held + raised - lowered;
-    book[1777 + 328 * p + 5 * k] = 0;
-    book[1778 + 328 * p + 5 * k] = 0;
-    book[1780 + 328 * p + 5 * k] = 0;
+    let at = 1776 + 328 * p + 5 * k;
+    let held = book[at];
+    let raised = book[at + 1];
+    let lowered = book[at + 2];
+    book[at] = held + raised - lowered;
+    book[at + 1] = 0;
+    book[at + 2] = 0;
+    book[at + 4] = 0;
 }
 
 // The figures of all units in period p.

@@ -33,9 +33,10 @@ fn net_at(book: &[u64], k: usize, p: usize) -> u64
     requires { ⌜ (Readable (now book)) × (Netted (now book) k) × (k < 64) × (p < 24 * word (now book) 0) ⌝ }
     ensures { λ r. ⌜ r ≡ netIn (now (book .entry)) k p ⌝ }
 {
-    let held = book[1776 + 328 * p + 5 * k];
-    let raised = book[1777 + 328 * p + 5 * k];
-    let lowered = book[1778 + 328 * p + 5 * k];
+    let at = 1776 + 328 * p + 5 * k;
+    let held = book[at];
+    let raised = book[at + 1];
+    let lowered = book[at + 2];
     held + raised - lowered
 }
 

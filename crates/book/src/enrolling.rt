@@ -44,11 +44,12 @@ fn clear_cell(book: &mut [u64], k: usize, p: usize)
     ensures { λ _. ⌜ now (book .exit) ≡ set (set (set (set (set (now (book .entry)) (1776 + 328 * p + 5 * k) 0) (1777 + 328 * p + 5 * k) 0)
         (1778 + 328 * p + 5 * k) 0) (1779 + 328 * p + 5 * k) 0) (1780 + 328 * p + 5 * k) 0 ⌝ }
 {
-    book[1776 + 328 * p + 5 * k] = 0;
-    book[1777 + 328 * p + 5 * k] = 0;
-    book[1778 + 328 * p + 5 * k] = 0;
-    book[1779 + 328 * p + 5 * k] = 0;
-    book[1780 + 328 * p + 5 * k] = 0;
+    let at = 1776 + 328 * p + 5 * k;
+    book[at] = 0;
+    book[at + 1] = 0;
+    book[at + 2] = 0;
+    book[at + 3] = 0;
+    book[at + 4] = 0;
 }
 
 // The figures of the unit at place k become 0 in each period; all other words stay.
@@ -76,8 +77,9 @@ pub(crate) fn enrol_effect(book: &mut [u64], kind: u64, capacity: u64, asset: u6
     let k = book[5] as usize;
     let unit = Unit::fresh(kind, capacity, Energy(asset));
     clear_unit(book, k);
-    book[8 + 3 * k] = unit.kind;
-    book[9 + 3 * k] = unit.capacity;
-    book[10 + 3 * k] = unit.asset.0;
+    let at = 8 + 3 * k;
+    book[at] = unit.kind;
+    book[at + 1] = unit.capacity;
+    book[at + 2] = unit.asset.0;
     book[5] = k as u64 + 1;
 }

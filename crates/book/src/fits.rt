@@ -147,22 +147,23 @@ pub(crate) fn period_fit(book: &[u64], k: usize, p: usize, x: u64, y: u64) -> u6
     requires { ⌜ (Ranged (now book)) × (k < word (now book) 5) × (p < periods (word (now book) 0)) ⌝ }
     ensures { λ r. ⌜ r ≡ periodMisfit (markHolds (now (book .entry)) k p) (hourHolds (now (book .entry)) k p x y) ⌝ }
 {
-    if 3 < book[1780 + 328 * p + 5 * k] {
+    let at = 1776 + 328 * p + 5 * k;
+    if 3 < book[at + 4] {
         return 1;
     }
     let hour = hour_at(book, k, p);
-    let held = book[1776 + 328 * p + 5 * k];
+    let held = book[at];
     if hour < held {
         return 19;
     }
-    let raised = book[1777 + 328 * p + 5 * k];
+    let raised = book[at + 1];
     if hour - held < raised {
         return 19;
     }
     if hour - held - raised < x {
         return 19;
     }
-    let lowered = book[1778 + 328 * p + 5 * k];
+    let lowered = book[at + 2];
     if held < lowered {
         return 19;
     }
@@ -191,8 +192,9 @@ fn fit_of(book: &[u64], k: usize, raising: &[u64], lowering: &[u64]) -> u64
         if 0 < r {
             return r;
         }
-        whole += book[1776 + 328 * p + 5 * k] + (book[1777 + 328 * p + 5 * k] + x);
-        volume = capped(volume, book[1779 + 328 * p + 5 * k]);
+        let at = 1776 + 328 * p + 5 * k;
+        whole += book[at] + (book[at + 1] + x);
+        volume = capped(volume, book[at + 3]);
         volume = capped(volume, x + y);
         p += 1;
     }

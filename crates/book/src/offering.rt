@@ -173,11 +173,12 @@ pub(crate) fn offer_effect(book: &mut [u64], unit: u64, partner: u64, price: u64
     let number = book[4] + 1;
     let o = Offer::fresh(number, unit, partner, Price(price));
     put_amounts(book, j, amounts);
-    book[200 + 5 * j] = o.number;
-    book[201 + 5 * j] = o.unit;
-    book[202 + 5 * j] = o.partner;
-    book[203 + 5 * j] = o.price.0;
-    book[204 + 5 * j] = o.taken;
+    let at = 200 + 5 * j;
+    book[at] = o.number;
+    book[at + 1] = o.unit;
+    book[at + 2] = o.partner;
+    book[at + 3] = o.price.0;
+    book[at + 4] = o.taken;
     book[6] = j as u64 + 1;
     book[4] = number;
 }

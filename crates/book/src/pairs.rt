@@ -18,16 +18,19 @@ fn find_alike(book: &[u64], k: usize, own: &[u64], peers: &[u64]) -> usize
         × (Chained (now book) 3 (now peers)) ⌝ }
     ensures { λ r. ⌜ Alike (now (book .entry)) k r ⌝ }
 {
+    let at = 240 + 6 * k;
+    let unit = book[at + 1];
+    let period = book[at + 3];
     let mut a = own[k] as usize;
     let mut b = peers[k] as usize;
     while 0 < a {
         if b == 0 {
             return 0;
         }
-        if book[240 + 6 * (a - 1) + 3] == book[240 + 6 * k + 3] {
+        if book[240 + 6 * (a - 1) + 3] == period {
             return a;
         }
-        if book[240 + 6 * (b - 1) + 1] == book[240 + 6 * k + 1] {
+        if book[240 + 6 * (b - 1) + 1] == unit {
             return b;
         }
         a = own[a - 1] as usize;

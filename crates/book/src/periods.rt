@@ -42,10 +42,11 @@ fn note_prices(orders: &[u64], n: usize, high: &mut [u64], low: &mut [u64])
 {
     let mut k: usize = 0;
     while k < n {
+        let at = 6 * k;
         note_price(
-            orders[6 * k + 2],
-            orders[6 * k + 3] as usize,
-            orders[6 * k + 4],
+            orders[at + 2],
+            orders[at + 3] as usize,
+            orders[at + 4],
             high,
             low,
         );

@@ -90,21 +90,22 @@ fn unit_in(book: &[u64], k: usize) -> bool
     requires { ⌜ (Readable (now book)) × (k < 64) ⌝ }
     ensures { λ r. ⌜ r ≡ unitFieldsIn (now (book .entry)) k ⌝ }
 {
-    let kind = book[8 + 3 * k];
+    let at = 8 + 3 * k;
+    let kind = book[at];
     if kind < 1 {
         return false;
     }
     if Unit::KINDS < kind {
         return false;
     }
-    let capacity = book[9 + 3 * k];
+    let capacity = book[at + 1];
     if capacity < 1 {
         return false;
     }
     if Unit::MOST_CAPACITY < capacity {
         return false;
     }
-    if Energy::MOST < book[10 + 3 * k] {
+    if Energy::MOST < book[at + 2] {
         return false;
     }
     true
@@ -185,28 +186,29 @@ fn offer_in(book: &[u64], j: usize) -> bool
     requires { ⌜ (Readable (now book)) × (j < 8) ⌝ }
     ensures { λ r. ⌜ r ≡ offerIn (decode (now (book .entry))) (offerAt (now (book .entry)) (word (now (book .entry)) 0) j) ⌝ }
 {
-    let number = book[200 + 5 * j];
+    let at = 200 + 5 * j;
+    let number = book[at];
     if number < 1 {
         return false;
     }
     if book[4] < number {
         return false;
     }
-    let unit = book[201 + 5 * j];
+    let unit = book[at + 1];
     if unit < 1 {
         return false;
     }
     if book[5] < unit {
         return false;
     }
-    let price = book[203 + 5 * j];
+    let price = book[at + 3];
     if price < book[1] {
         return false;
     }
     if book[2] < price {
         return false;
     }
-    if 1 < book[204 + 5 * j] {
+    if 1 < book[at + 4] {
         return false;
     }
     let whole = offer_total(book, j);
@@ -216,7 +218,7 @@ fn offer_in(book: &[u64], j: usize) -> bool
     if Energy::MOST < whole {
         return false;
     }
-    sides_fit(book, unit, book[202 + 5 * j])
+    sides_fit(book, unit, book[at + 2])
 }
 
 // All open offers.

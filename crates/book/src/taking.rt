@@ -193,8 +193,9 @@ fn take_off(book: &mut [u64], j: usize, parts: &[u64])
     let top = 24 * (book[0] as usize);
     let mut p: usize = 0;
     while p < top {
-        let left = book[2096 + 328 * p + j] - parts[p];
-        book[2096 + 328 * p + j] = left;
+        let at = 2096 + 328 * p + j;
+        let left = book[at] - parts[p];
+        book[at] = left;
         p += 1;
     }
 }
@@ -228,9 +229,10 @@ fn take_rows(book: &[u64], unit: u64, j: usize, parts: &[u64], rows: &mut [u64])
         (take (24 * word (now (book .entry)) 0) (now (parts .entry)))) ⌝ }
 {
     let top = 24 * (book[0] as usize);
-    let owner = book[201 + 5 * j];
-    let price = book[203 + 5 * j];
-    let way = way_of(book[202 + 5 * j]);
+    let at = 200 + 5 * j;
+    let owner = book[at + 1];
+    let price = book[at + 3];
+    let way = way_of(book[at + 2]);
     if is_generator(book, owner) {
         return write_rows(parts, top, rows, way, owner, unit, price);
     }

@@ -60,10 +60,11 @@ fn put_figures(
     requires { ⌜ (1780 + 328 * p + 5 * k < length (now book)) × (k < 64) × (p < 744) ⌝ }
     ensures { λ _. ⌜ FiguresPut (now (book .entry)) (now (book .exit)) k p raised lowered volume mark ⌝ }
 {
-    book[1777 + 328 * p + 5 * k] = raised;
-    book[1778 + 328 * p + 5 * k] = lowered;
-    book[1779 + 328 * p + 5 * k] = volume;
-    book[1780 + 328 * p + 5 * k] = mark;
+    let at = 1776 + 328 * p + 5 * k;
+    book[at + 1] = raised;
+    book[at + 2] = lowered;
+    book[at + 3] = volume;
+    book[at + 4] = mark;
 }
 
 // One party of a row.
@@ -81,10 +82,11 @@ pub(crate) fn book_trade(
 {
     let k = unit as usize - 1;
     let p = period as usize;
-    let raised = book[1777 + 328 * p + 5 * k];
-    let lowered = book[1778 + 328 * p + 5 * k];
-    let volume = book[1779 + 328 * p + 5 * k] + quantity;
-    let mark = mark_after(way, direction, book[1780 + 328 * p + 5 * k]);
+    let at = 1776 + 328 * p + 5 * k;
+    let raised = book[at + 1];
+    let lowered = book[at + 2];
+    let volume = book[at + 3] + quantity;
+    let mark = mark_after(way, direction, book[at + 4]);
     if raises_net(book, unit, direction) {
         put_figures(book, k, p, raised + quantity, lowered, volume, mark);
     } else {
@@ -98,11 +100,12 @@ fn book_row(book: &mut [u64], rows: &[u64], i: usize)
         × (Small (now book) 1900000000000000000) ⌝ }
     ensures { λ _. ⌜ RowTraded (now (book .entry)) (now (book .exit)) (rowAt (now (rows .entry)) i) ⌝ }
 {
-    let way = rows[6 * i];
-    let period = rows[6 * i + 1];
-    let seller = rows[6 * i + 2];
-    let buyer = rows[6 * i + 3];
-    let quantity = rows[6 * i + 4];
+    let at = 6 * i;
+    let way = rows[at];
+    let period = rows[at + 1];
+    let seller = rows[at + 2];
+    let buyer = rows[at + 3];
+    let quantity = rows[at + 4];
     book_trade(book, way, 0, period, quantity, seller);
     book_trade(book, way, 1, period, quantity, buyer);
 }

@@ -39,11 +39,12 @@ fn add_cell(book: &[u64], p: usize, k: usize, whole: &mut [u64], volume: &mut [u
     if 0 < period_fit(book, k, p, 0, 0) {
         return false;
     }
-    let traded = book[1779 + 328 * p + 5 * k];
+    let at = 1776 + 328 * p + 5 * k;
+    let traded = book[at + 3];
     if MOST_VOLUME < traded {
         return false;
     }
-    whole[k] = whole[k] + (book[1776 + 328 * p + 5 * k] + book[1777 + 328 * p + 5 * k]);
+    whole[k] = whole[k] + (book[at] + book[at + 1]);
     volume[k] = volume[k] + traded;
     true
 }

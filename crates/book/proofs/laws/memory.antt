@@ -1,3 +1,4 @@
+pub mod PlaceFacts
 pub mod RangeFacts
 pub mod WordLaws
 pub mod KeptLaws

@@ -4,6 +4,7 @@ use lib.ListN.{length-set}
 use Rattle.book.specs.inner.Readable.{Readable}
 use Rattle.book.proofs.laws.answer.MadeLaws.{sound-readable}
 use Rattle.book.proofs.laws.enrol.EnrolLaws.{enrolled-in, enrolled-past}
+use Rattle.book.proofs.laws.memory.PlaceFacts.{capacity-place, asset-place}
 use borrow.Author.Needs.{needs}
 use Rattle.book.proofs.enrolling.enrol_effect.Statement.{statement}
 use Rattle.book.proofs.enrolling.enrol_effect.Tie as tie
@@ -20,8 +21,19 @@ fresh-requires c κs = search needs
 clear-unit-requires : tie.Need-clear-unit-requires
 clear-unit-requires c κs = (ok (c .before .before .before .before), c .before .before .before .before .pre .1)
 
+mul-at : tie.Need-mul-at
+mul-at c = search needs
+
+add-at : tie.Need-add-at
+add-at c = search needs
+
 mul-book : tie.Need-mul-book
 mul-book c = search needs
+
+slice-write-book : tie.Need-slice-write-book
+slice-write-book c =
+    let c7 = c .before .before .before .before .before .before .before in
+    let r = ok c7 in omega arith
 
 add-book : tie.Need-add-book
 add-book c = search needs
@@ -29,41 +41,24 @@ add-book c = search needs
 mul-book-2 : tie.Need-mul-book-2
 mul-book-2 c = search needs
 
-slice-write-book : tie.Need-slice-write-book
-slice-write-book c =
-    let c7 = c .before .before .before .before .before .before .before in
-    let r = ok c7 in omega arith
-
-mul-book-3 : tie.Need-mul-book-3
-mul-book-3 c = search needs
-
-add-book-2 : tie.Need-add-book-2
-add-book-2 c = search needs
-
-mul-book-4 : tie.Need-mul-book-4
-mul-book-4 c = search needs
-
 slice-write-book-2 : tie.Need-slice-write-book-2
 slice-write-book-2 c =
     let c7 = c .before .before .before .before .before .before .before in
     let r = ok c7 in simp length-set (omega arith)
 
-mul-book-5 : tie.Need-mul-book-5
-mul-book-5 c = search needs
+add-book-2 : tie.Need-add-book-2
+add-book-2 c = search needs
 
-add-book-3 : tie.Need-add-book-3
-add-book-3 c = search needs
-
-mul-book-6 : tie.Need-mul-book-6
-mul-book-6 c = search needs
+mul-book-3 : tie.Need-mul-book-3
+mul-book-3 c = search needs
 
 slice-write-book-3 : tie.Need-slice-write-book-3
 slice-write-book-3 c =
     let c7 = c .before .before .before .before .before .before .before in
     let r = ok c7 in simp length-set (omega arith)
 
-add-book-4 : tie.Need-add-book-4
-add-book-4 c = search needs
+add-book-3 : tie.Need-add-book-3
+add-book-3 c = search needs
 
 slice-write-book-4 : tie.Need-slice-write-book-4
 slice-write-book-4 c =
@@ -79,7 +74,7 @@ returns c =
     let a = s .args in
     let e = c .before .before .before .before .fresh .ensures in
     let w = c .before .before .clear-unit in
-    rw (e .0, e .1, e .2) (
+    rw (e .0, e .1, e .2, capacity-place, asset-place) (
       enrolled-in (a .book .now) (w .last .0) (a .kind) (a .capacity) (a .asset) (ok s) (s .pre .1) (w .kept .0) (w .ensures .0) (w .ensures .1)
           (w .ensures .2),
       enrolled-past (a .book .now) (w .last .0) (a .kind) (a .capacity) (a .asset) (ok s) (s .pre .1) (w .kept .0) (w .ensures .0) (w .ensures .1)
@@ -93,19 +88,17 @@ enrol-effect-spec =
     slice-read-k
     fresh-requires
     clear-unit-requires
+    mul-at
+    add-at
     mul-book
+    slice-write-book
     add-book
     mul-book-2
-    slice-write-book
-    mul-book-3
-    add-book-2
-    mul-book-4
     slice-write-book-2
-    mul-book-5
-    add-book-3
-    mul-book-6
+    add-book-2
+    mul-book-3
     slice-write-book-3
-    add-book-4
+    add-book-3
     slice-write-book-4
     same-length
     returns)

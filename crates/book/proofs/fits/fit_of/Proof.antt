@@ -6,6 +6,7 @@ use native.Mathlib.Omega.{arith}
 use lib.ListN.{getD}
 use Rattle.book.specs.Layout.{word}
 use Rattle.book.specs.inner.Fitting.{markHolds, hourHolds, termPart, volumePart}
+use Rattle.book.proofs.laws.memory.PlaceFacts.{FigurePlaces, figure-places}
 use Rattle.book.proofs.laws.check.PeriodLaws.{
   Passing,
   passing-none,
@@ -56,6 +57,9 @@ little : (c : tie.Else1 Inv-loop μ-loop)
     ≤ 5_000_000
 little c = hour-small _ _ (start c .pre .0 .0) (start c .pre .0 .1) _ _ _ (passed c .1)
 
+places : (c : tie.Else1 Inv-loop μ-loop) → FigurePlaces (start c .args .book .now) (turn c .loop .p) (start c .args .k)
+places c = figure-places _ _ _
+
 bounds-of-requires : tie.Need-bounds-of-requires Inv-loop μ-loop
 bounds-of-requires c κs = search needs
 
@@ -88,8 +92,23 @@ returns c =
     let c5 = c .before .before .before .before .before in
     came-early _ _ _ _ _ _ _ (c5 .loop .p) _ (omega arith) (c .before .period-fit .ensures) (c .if1 .taken)
 
+mul-at : tie.Need-mul-at Inv-loop μ-loop
+mul-at c = search needs
+
+add-at : tie.Need-add-at Inv-loop μ-loop
+add-at c = search needs
+
+mul-at-2 : tie.Need-mul-at-2 Inv-loop μ-loop
+mul-at-2 c = search needs
+
+add-at-2 : tie.Need-add-at-2 Inv-loop μ-loop
+add-at-2 c = search needs
+
 mul-whole : tie.Need-mul-whole Inv-loop μ-loop
 mul-whole c = search needs
+
+shared-slice-read-whole : tie.Need-shared-slice-read-whole Inv-loop μ-loop
+shared-slice-read-whole c = search needs
 
 add-whole : tie.Need-add-whole Inv-loop μ-loop
 add-whole c = search needs
@@ -97,56 +116,23 @@ add-whole c = search needs
 mul-whole-2 : tie.Need-mul-whole-2 Inv-loop μ-loop
 mul-whole-2 c = search needs
 
-add-whole-2 : tie.Need-add-whole-2 Inv-loop μ-loop
-add-whole-2 c = search needs
-
-mul-whole-3 : tie.Need-mul-whole-3 Inv-loop μ-loop
-mul-whole-3 c = search needs
-
-shared-slice-read-whole : tie.Need-shared-slice-read-whole Inv-loop μ-loop
-shared-slice-read-whole c = search needs
-
-mul-whole-4 : tie.Need-mul-whole-4 Inv-loop μ-loop
-mul-whole-4 c = search needs
-
-add-whole-3 : tie.Need-add-whole-3 Inv-loop μ-loop
-add-whole-3 c = search needs
-
-mul-whole-5 : tie.Need-mul-whole-5 Inv-loop μ-loop
-mul-whole-5 c = search needs
-
-add-whole-4 : tie.Need-add-whole-4 Inv-loop μ-loop
-add-whole-4 c = search needs
-
-mul-whole-6 : tie.Need-mul-whole-6 Inv-loop μ-loop
-mul-whole-6 c = search needs
-
 shared-slice-read-whole-2 : tie.Need-shared-slice-read-whole-2 Inv-loop μ-loop
 shared-slice-read-whole-2 c = search needs
 
-add-whole-5 : tie.Need-add-whole-5 Inv-loop μ-loop
-add-whole-5 c = omega (arith, little (c .before .before))
+add-whole-2 : tie.Need-add-whole-2 Inv-loop μ-loop
+add-whole-2 c = omega (arith, little (c .before .before), places (c .before .before) .raised)
 
-add-whole-6 : tie.Need-add-whole-6 Inv-loop μ-loop
-add-whole-6 c = omega (arith, little (c .before .before))
+add-whole-3 : tie.Need-add-whole-3 Inv-loop μ-loop
+add-whole-3 c = omega (arith, little (c .before .before), places (c .before .before) .raised)
 
-add-whole-7 : tie.Need-add-whole-7 Inv-loop μ-loop
-add-whole-7 c = omega (arith, little (c .before .before))
-
-mul-capped : tie.Need-mul-capped Inv-loop μ-loop
-mul-capped c = search needs
+add-whole-4 : tie.Need-add-whole-4 Inv-loop μ-loop
+add-whole-4 c = omega (arith, little (c .before .before), places (c .before .before) .raised)
 
 add-capped : tie.Need-add-capped Inv-loop μ-loop
 add-capped c = search needs
 
-mul-capped-2 : tie.Need-mul-capped-2 Inv-loop μ-loop
-mul-capped-2 c = search needs
-
-add-capped-2 : tie.Need-add-capped-2 Inv-loop μ-loop
-add-capped-2 c = search needs
-
-mul-capped-3 : tie.Need-mul-capped-3 Inv-loop μ-loop
-mul-capped-3 c = search needs
+mul-capped : tie.Need-mul-capped Inv-loop μ-loop
+mul-capped c = search needs
 
 shared-slice-read-capped : tie.Need-shared-slice-read-capped Inv-loop μ-loop
 shared-slice-read-capped c = search needs
@@ -154,8 +140,8 @@ shared-slice-read-capped c = search needs
 capped-requires : tie.Need-capped-requires Inv-loop μ-loop
 capped-requires c κs = search needs
 
-add-capped-3 : tie.Need-add-capped-3 Inv-loop μ-loop
-add-capped-3 c =
+add-capped-2 : tie.Need-add-capped-2 Inv-loop μ-loop
+add-capped-2 c =
     let e = c .before .before .before .before in
     omega (arith, start e .pre .1 .2 (turn e .loop .p), start e .pre .1 .3 (turn e .loop .p))
 
@@ -172,9 +158,11 @@ loop-again : tie.Need-loop-again Inv-loop μ-loop
 unfolding termPart volumePart
 loop-again c =
     let e = c .before .before .before .before .before in
-    let l = turn e .loop in (
+    let l = turn e .loop in
+    let w = places e in (
       search needs,
-      passing-more _ _ _ _ (l .p) (l .whole) (l .volume) _ _ (l .inv .1) (passed e .0) (passed e .1) (omega arith) (little e) (omega arith),
+      passing-more _ _ _ _ (l .p) (l .whole) (l .volume) _ _ (l .inv .1) (passed e .0) (passed e .1) (omega (arith, w .raised)) (little e)
+          (omega (arith, c .capped2 .ensures, c .before .capped .ensures, w .volume)),
     )
 
 returns-2 : tie.Need-returns-2 Inv-loop μ-loop
@@ -207,29 +195,23 @@ fit-of-spec =
     shared-slice-read-y
     period-fit-requires
     returns
+    mul-at
+    add-at
+    mul-at-2
+    add-at-2
     mul-whole
+    shared-slice-read-whole
     add-whole
     mul-whole-2
-    add-whole-2
-    mul-whole-3
-    shared-slice-read-whole
-    mul-whole-4
-    add-whole-3
-    mul-whole-5
-    add-whole-4
-    mul-whole-6
     shared-slice-read-whole-2
-    add-whole-5
-    add-whole-6
-    add-whole-7
-    mul-capped
+    add-whole-2
+    add-whole-3
+    add-whole-4
     add-capped
-    mul-capped-2
-    add-capped-2
-    mul-capped-3
+    mul-capped
     shared-slice-read-capped
     capped-requires
-    add-capped-3
+    add-capped-2
     capped-requires-2
     add-p
     loop-less

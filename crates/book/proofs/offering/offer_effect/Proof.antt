@@ -4,6 +4,7 @@ use lib.ListN.{length-set}
 use Rattle.book.specs.inner.Readable.{Readable}
 use Rattle.book.proofs.laws.answer.MadeLaws.{sound-head, sound-readable}
 use Rattle.book.proofs.laws.offer.OfferedLaws.{offered-in, offered-past}
+use Rattle.book.proofs.laws.memory.PlaceFacts.{offer-unit-place, partner-place, price-place, taken-place}
 use borrow.Author.Needs.{needs}
 use Rattle.book.proofs.offering.offer_effect.Statement.{statement}
 use Rattle.book.proofs.offering.offer_effect.Tie as tie
@@ -28,8 +29,19 @@ put-amounts-requires c κs =
     let c6 = c .before .before .before .before .before .before in
     (ok c6, c6 .pre .1, c6 .pre .2)
 
+mul-at : tie.Need-mul-at
+mul-at c = search needs
+
+add-at : tie.Need-add-at
+add-at c = search needs
+
 mul-book : tie.Need-mul-book
 mul-book c = search needs
+
+slice-write-book : tie.Need-slice-write-book
+slice-write-book c =
+    let c9 = c .before .before .before .before .before .before .before .before .before in
+    let r = ok c9 in omega arith
 
 add-book : tie.Need-add-book
 add-book c = search needs
@@ -37,69 +49,46 @@ add-book c = search needs
 mul-book-2 : tie.Need-mul-book-2
 mul-book-2 c = search needs
 
-slice-write-book : tie.Need-slice-write-book
-slice-write-book c =
-    let c9 = c .before .before .before .before .before .before .before .before .before in
-    let r = ok c9 in omega arith
-
-mul-book-3 : tie.Need-mul-book-3
-mul-book-3 c = search needs
-
-add-book-2 : tie.Need-add-book-2
-add-book-2 c = search needs
-
-mul-book-4 : tie.Need-mul-book-4
-mul-book-4 c = search needs
-
 slice-write-book-2 : tie.Need-slice-write-book-2
 slice-write-book-2 c =
     let c9 = c .before .before .before .before .before .before .before .before .before in
     let r = ok c9 in simp length-set (omega arith)
 
-mul-book-5 : tie.Need-mul-book-5
-mul-book-5 c = search needs
+add-book-2 : tie.Need-add-book-2
+add-book-2 c = search needs
 
-add-book-3 : tie.Need-add-book-3
-add-book-3 c = search needs
-
-mul-book-6 : tie.Need-mul-book-6
-mul-book-6 c = search needs
+mul-book-3 : tie.Need-mul-book-3
+mul-book-3 c = search needs
 
 slice-write-book-3 : tie.Need-slice-write-book-3
 slice-write-book-3 c =
     let c9 = c .before .before .before .before .before .before .before .before .before in
     let r = ok c9 in simp length-set (omega arith)
 
-mul-book-7 : tie.Need-mul-book-7
-mul-book-7 c = search needs
+add-book-3 : tie.Need-add-book-3
+add-book-3 c = search needs
 
-add-book-4 : tie.Need-add-book-4
-add-book-4 c = search needs
-
-mul-book-8 : tie.Need-mul-book-8
-mul-book-8 c = search needs
+mul-book-4 : tie.Need-mul-book-4
+mul-book-4 c = search needs
 
 slice-write-book-4 : tie.Need-slice-write-book-4
 slice-write-book-4 c =
     let c9 = c .before .before .before .before .before .before .before .before .before in
     let r = ok c9 in simp length-set (omega arith)
 
-mul-book-9 : tie.Need-mul-book-9
-mul-book-9 c = search needs
+add-book-4 : tie.Need-add-book-4
+add-book-4 c = search needs
 
-add-book-5 : tie.Need-add-book-5
-add-book-5 c = search needs
-
-mul-book-10 : tie.Need-mul-book-10
-mul-book-10 c = search needs
+mul-book-5 : tie.Need-mul-book-5
+mul-book-5 c = search needs
 
 slice-write-book-5 : tie.Need-slice-write-book-5
 slice-write-book-5 c =
     let c9 = c .before .before .before .before .before .before .before .before .before in
     let r = ok c9 in simp length-set (omega arith)
 
-add-book-6 : tie.Need-add-book-6
-add-book-6 c = search needs
+add-book-5 : tie.Need-add-book-5
+add-book-5 c = search needs
 
 slice-write-book-6 : tie.Need-slice-write-book-6
 slice-write-book-6 c =
@@ -121,7 +110,7 @@ returns c =
     let a = s .args in
     let e = c4 .fresh .ensures in
     let w = c .before .before .put-amounts in
-    rw (e .0, e .1, e .2, e .3, e .4) (
+    rw (e .0, e .1, e .2, e .3, e .4, offer-unit-place, partner-place, price-place, taken-place) (
       offered-in (a .book .now) (w .last .0) (a .unit) (a .partner) (a .price) (a .amounts .now) (ok s) (s .pre .1) (s .pre .2) (w .kept .0) (w .ensures .0)
           (w .ensures .1) (w .ensures .2),
       offered-past (a .book .now) (w .last .0) (a .unit) (a .partner) (a .price) (a .amounts .now) (ok s) (s .pre .1) (s .pre .2) (w .kept .0)
@@ -137,27 +126,23 @@ offer-effect-spec =
     add-number
     fresh-requires
     put-amounts-requires
+    mul-at
+    add-at
     mul-book
+    slice-write-book
     add-book
     mul-book-2
-    slice-write-book
-    mul-book-3
-    add-book-2
-    mul-book-4
     slice-write-book-2
-    mul-book-5
-    add-book-3
-    mul-book-6
+    add-book-2
+    mul-book-3
     slice-write-book-3
-    mul-book-7
-    add-book-4
-    mul-book-8
+    add-book-3
+    mul-book-4
     slice-write-book-4
-    mul-book-9
-    add-book-5
-    mul-book-10
+    add-book-4
+    mul-book-5
     slice-write-book-5
-    add-book-6
+    add-book-5
     slice-write-book-6
     slice-write-book-7
     same-length

@@ -7,10 +7,34 @@ use Rattle.book.proofs.pairs.find_alike.Statement.{statement}
 use Rattle.book.proofs.pairs.find_alike.Tie as tie
 
 abbrev Inv-loop : tie.InvT-loop
-Inv-loop book k own peers a₀ b₀ a b = Seeking book k a b
+Inv-loop book k own peers at unit period a₀ b₀ a b = Seeking book k a b
 
 abbrev μ-loop : tie.MeasureT-loop
-μ-loop book k own peers a₀ b₀ a b = a
+μ-loop book k own peers at unit period a₀ b₀ a b = a
+
+mul-at : tie.Need-mul-at Inv-loop μ-loop
+mul-at c = search needs
+
+add-at : tie.Need-add-at Inv-loop μ-loop
+add-at c = search needs
+
+add-unit : tie.Need-add-unit Inv-loop μ-loop
+add-unit c = search needs
+
+mul-unit : tie.Need-mul-unit Inv-loop μ-loop
+mul-unit c = search needs
+
+shared-slice-read-unit : tie.Need-shared-slice-read-unit Inv-loop μ-loop
+shared-slice-read-unit c = search needs
+
+add-period : tie.Need-add-period Inv-loop μ-loop
+add-period c = search needs
+
+mul-period : tie.Need-mul-period Inv-loop μ-loop
+mul-period c = search needs
+
+shared-slice-read-period : tie.Need-shared-slice-read-period Inv-loop μ-loop
+shared-slice-read-period c = search needs
 
 mul-a : tie.Need-mul-a Inv-loop μ-loop
 mul-a c = search needs
@@ -26,7 +50,7 @@ shared-slice-read-b c = search needs
 
 loop-holds : tie.Need-loop-holds Inv-loop μ-loop
 loop-holds c =
-    let g = c .before .before .pre in
+    let g = c .before .before .before .before .pre in
     seeking-starts _ _ _ _ (g .4 _ (g .1)) (g .5 _ (g .1))
 
 returns : tie.Need-returns Inv-loop μ-loop
@@ -50,26 +74,11 @@ mul-if2-2 c = search needs
 shared-slice-read-if2 : tie.Need-shared-slice-read-if2 Inv-loop μ-loop
 shared-slice-read-if2 c = search needs
 
-mul-if2-3 : tie.Need-mul-if2-3 Inv-loop μ-loop
-mul-if2-3 c = search needs
-
-add-if2-3 : tie.Need-add-if2-3 Inv-loop μ-loop
-add-if2-3 c = search needs
-
-add-if2-4 : tie.Need-add-if2-4 Inv-loop μ-loop
-add-if2-4 c = search needs
-
-mul-if2-4 : tie.Need-mul-if2-4 Inv-loop μ-loop
-mul-if2-4 c = search needs
-
-shared-slice-read-if2-2 : tie.Need-shared-slice-read-if2-2 Inv-loop μ-loop
-shared-slice-read-if2-2 c = search needs
-
 returns-2 : tie.Need-returns-2 Inv-loop μ-loop
 returns-2 c =
-    let c4 = c .before .before .before .before in
-    let c5 = c4 .before in
-    alike-by-unit _ _ _ (c5 .loop .b) (c5 .loop .inv) (c4 .loop-test .taken) (c .if2 .taken)
+    let c3 = c .before .before .before in
+    let c4 = c3 .before in
+    alike-by-unit _ _ _ (c4 .loop .b) (c4 .loop .inv) (c3 .loop-test .taken) (c .if2 .taken)
 
 sub-if3 : tie.Need-sub-if3 Inv-loop μ-loop
 sub-if3 c = search needs
@@ -89,26 +98,11 @@ mul-if3-2 c = search needs
 shared-slice-read-if3 : tie.Need-shared-slice-read-if3 Inv-loop μ-loop
 shared-slice-read-if3 c = search needs
 
-mul-if3-3 : tie.Need-mul-if3-3 Inv-loop μ-loop
-mul-if3-3 c = search needs
-
-add-if3-3 : tie.Need-add-if3-3 Inv-loop μ-loop
-add-if3-3 c = search needs
-
-add-if3-4 : tie.Need-add-if3-4 Inv-loop μ-loop
-add-if3-4 c = search needs
-
-mul-if3-4 : tie.Need-mul-if3-4 Inv-loop μ-loop
-mul-if3-4 c = search needs
-
-shared-slice-read-if3-2 : tie.Need-shared-slice-read-if3-2 Inv-loop μ-loop
-shared-slice-read-if3-2 c = search needs
-
 returns-3 : tie.Need-returns-3 Inv-loop μ-loop
 returns-3 c =
-    let c6 = c .before .before .before .before .before .before in
-    let c8 = c6 .before .before in
-    alike-by-period _ _ (c8 .loop .a) _ (c8 .loop .inv) (c6 .if1 .left) (c .if3 .taken)
+    let c4 = c .before .before .before .before in
+    let c6 = c4 .before .before in
+    alike-by-period _ _ (c6 .loop .a) _ (c6 .loop .inv) (c4 .if1 .left) (c .if3 .taken)
 
 sub-a : tie.Need-sub-a Inv-loop μ-loop
 sub-a c = search needs
@@ -130,26 +124,21 @@ shared-slice-read-b-2 c = search needs
 
 loop-less : tie.Need-loop-less Inv-loop μ-loop
 loop-less c =
-    let c10 = c .before .before .before .before .before .before .before .before .before .before in
-    let c13 = c10 .before .before .before in
-    let g = c13 .pre in
-    let l = c10 .loop in
-    let w = l .inv .fewUnit in
-    omega (arith, g .4 (l .a - 1) (omega arith) .to)
+    let c8 = c .before .before .before .before .before .before .before .before in
+    let l = c8 .loop in
+    omega (arith, c8 .before .before .before .before .before .pre .4 (l .a - 1) (omega (arith, l .inv .fewUnit, c .before .before .before .before .before .before .before .loop-test .taken)) .to, c .before .before .before .before .before .before .before .loop-test .taken)
 
 loop-again : tie.Need-loop-again Inv-loop μ-loop
 loop-again c =
-    let c5 = c .before .before .before .before .before in
-    let c8 = c5 .before .before .before in
-    let c9 = c8 .before in
-    let c10 = c9 .before in
-    let c13 = c10 .before .before .before in
-    let g = c13 .pre in
-    let l = c10 .loop in
-    let w = l .inv .fewUnit in
-    let v = l .inv .fewPeriod in
-    seeking-more _ _ (l .a) (l .b) (l .inv) _ _ (c9 .loop-test .taken) (omega (arith, c8 .if1 .left)) (c5 .if2 .left) (c .before .before .if3 .left)
-    (g .4 (l .a - 1) (omega arith)) (g .5 (l .b - 1) (omega arith))
+    let c4 = c .before .before .before .before in
+    let c6 = c4 .before .before in
+    let c7 = c6 .before in
+    let c8 = c7 .before in
+    let g = c8 .before .before .before .before .before .pre in
+    let l = c8 .loop in
+    let t = c7 .loop-test .taken in
+    seeking-more _ _ (l .a) (l .b) (l .inv) _ _ t (omega (arith, c6 .if1 .left)) (c4 .if2 .left) (c .before .before .if3 .left)
+    (g .4 (l .a - 1) (omega (arith, l .inv .fewUnit, t))) (g .5 (l .b - 1) (omega (arith, l .inv .fewPeriod, c6 .if1 .left)))
 
 returns-4 : tie.Need-returns-4 Inv-loop μ-loop
 returns-4 c = none-of-unit _ _ _ (c .before .loop .b) (c .before .loop .inv) (omega arith)
@@ -160,6 +149,14 @@ find-alike-spec =
     (tie.spec
     Inv-loop
     μ-loop
+    mul-at
+    add-at
+    add-unit
+    mul-unit
+    shared-slice-read-unit
+    add-period
+    mul-period
+    shared-slice-read-period
     mul-a
     shared-slice-read-a
     mul-b
@@ -172,11 +169,6 @@ find-alike-spec =
     add-if2-2
     mul-if2-2
     shared-slice-read-if2
-    mul-if2-3
-    add-if2-3
-    add-if2-4
-    mul-if2-4
-    shared-slice-read-if2-2
     returns-2
     sub-if3
     mul-if3
@@ -184,11 +176,6 @@ find-alike-spec =
     add-if3-2
     mul-if3-2
     shared-slice-read-if3
-    mul-if3-3
-    add-if3-3
-    add-if3-4
-    mul-if3-4
-    shared-slice-read-if3-2
     returns-3
     sub-a
     mul-a-2

@@ -17,38 +17,32 @@ abbrev μ-loop : tie.MeasureT-loop
 loop-holds : tie.Need-loop-holds Inv-loop μ-loop
 loop-holds c = (search needs, search needs, search needs, λ i h. absurd (omega arith))
 
-mul-note-price : tie.Need-mul-note-price Inv-loop μ-loop
-mul-note-price c = search needs
+mul-at : tie.Need-mul-at Inv-loop μ-loop
+mul-at c = search needs
 
 add-note-price : tie.Need-add-note-price Inv-loop μ-loop
 add-note-price c = search needs
 
-mul-note-price-2 : tie.Need-mul-note-price-2 Inv-loop μ-loop
-mul-note-price-2 c = search needs
+mul-note-price : tie.Need-mul-note-price Inv-loop μ-loop
+mul-note-price c = search needs
 
 shared-slice-read-note-price : tie.Need-shared-slice-read-note-price Inv-loop μ-loop
 shared-slice-read-note-price c = search needs
 
-mul-note-price-3 : tie.Need-mul-note-price-3 Inv-loop μ-loop
-mul-note-price-3 c = search needs
-
 add-note-price-2 : tie.Need-add-note-price-2 Inv-loop μ-loop
 add-note-price-2 c = search needs
 
-mul-note-price-4 : tie.Need-mul-note-price-4 Inv-loop μ-loop
-mul-note-price-4 c = search needs
+mul-note-price-2 : tie.Need-mul-note-price-2 Inv-loop μ-loop
+mul-note-price-2 c = search needs
 
 shared-slice-read-note-price-2 : tie.Need-shared-slice-read-note-price-2 Inv-loop μ-loop
 shared-slice-read-note-price-2 c = search needs
 
-mul-note-price-5 : tie.Need-mul-note-price-5 Inv-loop μ-loop
-mul-note-price-5 c = search needs
-
 add-note-price-3 : tie.Need-add-note-price-3 Inv-loop μ-loop
 add-note-price-3 c = search needs
 
-mul-note-price-6 : tie.Need-mul-note-price-6 Inv-loop μ-loop
-mul-note-price-6 c = search needs
+mul-note-price-3 : tie.Need-mul-note-price-3 Inv-loop μ-loop
+mul-note-price-3 c = search needs
 
 shared-slice-read-note-price-3 : tie.Need-shared-slice-read-note-price-3 Inv-loop μ-loop
 shared-slice-read-note-price-3 c = search needs
@@ -103,17 +97,15 @@ note-prices-spec =
     Inv-loop
     μ-loop
     loop-holds
-    mul-note-price
+    mul-at
     add-note-price
-    mul-note-price-2
+    mul-note-price
     shared-slice-read-note-price
-    mul-note-price-3
     add-note-price-2
-    mul-note-price-4
+    mul-note-price-2
     shared-slice-read-note-price-2
-    mul-note-price-5
     add-note-price-3
-    mul-note-price-6
+    mul-note-price-3
     shared-slice-read-note-price-3
     note-price-requires
     add-k

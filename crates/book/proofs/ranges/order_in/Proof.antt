@@ -19,13 +19,13 @@ shared-slice-read-number : tie.Need-shared-slice-read-number
 shared-slice-read-number c = search needs
 
 returns : tie.Need-returns
-returns c = order-fails _ _ (omega arith) (λ h. omega arith)
+returns c = order-fails _ _ (omega arith) (λ h. omega (arith, h, c .if1 .taken))
 
 shared-slice-read-if2 : tie.Need-shared-slice-read-if2
 shared-slice-read-if2 c = search needs
 
 returns-2 : tie.Need-returns-2
-returns-2 c = order-fails _ _ (omega arith) (λ h. omega arith)
+returns-2 c = order-fails _ _ (omega arith) (λ h. omega (arith, h, c .if2 .taken))
 
 add-unit : tie.Need-add-unit
 add-unit c = search needs
@@ -37,13 +37,13 @@ shared-slice-read-unit : tie.Need-shared-slice-read-unit
 shared-slice-read-unit c = search needs
 
 returns-3 : tie.Need-returns-3
-returns-3 c = order-fails _ _ (omega arith) (λ h. omega arith)
+returns-3 c = order-fails _ _ (omega arith) (λ h. omega (arith, h, c .if3 .taken))
 
 shared-slice-read-if4 : tie.Need-shared-slice-read-if4
 shared-slice-read-if4 c = search needs
 
 returns-4 : tie.Need-returns-4
-returns-4 c = order-fails _ _ (omega arith) (λ h. omega arith)
+returns-4 c = order-fails _ _ (omega arith) (λ h. omega (arith, h, c .if4 .taken))
 
 add-if5 : tie.Need-add-if5
 add-if5 c = search needs
@@ -55,7 +55,7 @@ shared-slice-read-if5 : tie.Need-shared-slice-read-if5
 shared-slice-read-if5 c = search needs
 
 returns-5 : tie.Need-returns-5
-returns-5 c = order-fails _ _ (omega arith) (λ h. omega arith)
+returns-5 c = order-fails _ _ (omega arith) (λ h. omega (arith, h, c .if5 .taken))
 
 shared-slice-read-if6 : tie.Need-shared-slice-read-if6
 shared-slice-read-if6 c = search needs
@@ -73,7 +73,7 @@ shared-slice-read-if6-2 : tie.Need-shared-slice-read-if6-2
 shared-slice-read-if6-2 c = search needs
 
 returns-6 : tie.Need-returns-6
-returns-6 c = order-fails _ _ (omega arith) (λ h. omega arith)
+returns-6 c = order-fails _ _ (omega arith) (λ h. omega (arith, h, c .if6 .taken))
 
 add-price : tie.Need-add-price
 add-price c = search needs
@@ -88,13 +88,13 @@ shared-slice-read-if7 : tie.Need-shared-slice-read-if7
 shared-slice-read-if7 c = search needs
 
 returns-7 : tie.Need-returns-7
-returns-7 c = order-fails _ _ (omega arith) (λ h. omega arith)
+returns-7 c = order-fails _ _ (omega arith) (λ h. omega (arith, h, c .if7 .taken))
 
 shared-slice-read-if8 : tie.Need-shared-slice-read-if8
 shared-slice-read-if8 c = search needs
 
 returns-8 : tie.Need-returns-8
-returns-8 c = order-fails _ _ (omega arith) (λ h. omega arith)
+returns-8 c = order-fails _ _ (omega arith) (λ h. omega (arith, h, c .if8 .taken))
 
 add-quantity : tie.Need-add-quantity
 add-quantity c = search needs
@@ -106,16 +106,13 @@ shared-slice-read-quantity : tie.Need-shared-slice-read-quantity
 shared-slice-read-quantity c = search needs
 
 returns-9 : tie.Need-returns-9
-returns-9 c = order-fails _ _ (omega arith) (λ h. omega arith)
+returns-9 c = order-fails _ _ (omega arith) (λ h. omega (arith, h, c .if9 .taken))
 
 returns-10 : tie.Need-returns-10
-returns-10 c = order-fails _ _ (omega arith) (λ h. omega arith)
+returns-10 c = order-fails _ _ (omega arith) (λ h. omega (arith, h, c .if10 .taken))
 
 returns-11 : tie.Need-returns-11
-returns-11 c =
-    sym
-    (order-holds _ _ (omega arith)
-    (record { number = omega arith; unit = omega arith; direction = omega arith; period = omega arith; price = omega arith; quantity = omega arith }))
+returns-11 c = sym (order-holds _ _ (omega arith) (omega arith))
 
 pub order-in-spec : {M : Type 1} → statement M
 order-in-spec =

@@ -24,23 +24,23 @@ mul-top c = search needs
 loop-holds : tie.Need-loop-holds Inv-loop μ-loop
 loop-holds c = (search needs, less-none _ _ _)
 
+mul-at : tie.Need-mul-at Inv-loop μ-loop
+mul-at c = search needs
+
+add-at : tie.Need-add-at Inv-loop μ-loop
+add-at c = search needs
+
+add-at-2 : tie.Need-add-at-2 Inv-loop μ-loop
+add-at-2 c = search needs
+
 mul-left : tie.Need-mul-left Inv-loop μ-loop
 mul-left c = search needs
-
-add-left : tie.Need-add-left Inv-loop μ-loop
-add-left c = search needs
-
-add-left-2 : tie.Need-add-left-2 Inv-loop μ-loop
-add-left-2 c = search needs
-
-mul-left-2 : tie.Need-mul-left-2 Inv-loop μ-loop
-mul-left-2 c = search needs
 
 slice-read-left : tie.Need-slice-read-left Inv-loop μ-loop
 slice-read-left c = search needs
 
-mul-left-3 : tie.Need-mul-left-3 Inv-loop μ-loop
-mul-left-3 c = search needs
+mul-left-2 : tie.Need-mul-left-2 Inv-loop μ-loop
+mul-left-2 c = search needs
 
 shared-slice-read-left : tie.Need-shared-slice-read-left Inv-loop μ-loop
 shared-slice-read-left c = search needs
@@ -55,15 +55,6 @@ sub-left c =
 
 mul-book : tie.Need-mul-book Inv-loop μ-loop
 mul-book c = search needs
-
-add-book : tie.Need-add-book Inv-loop μ-loop
-add-book c = search needs
-
-add-book-2 : tie.Need-add-book-2 Inv-loop μ-loop
-add-book-2 c = search needs
-
-mul-book-2 : tie.Need-mul-book-2 Inv-loop μ-loop
-mul-book-2 c = search needs
 
 slice-write-book : tie.Need-slice-write-book Inv-loop μ-loop
 slice-write-book c = search needs
@@ -92,18 +83,15 @@ take-off-spec =
     slice-read-top
     mul-top
     loop-holds
+    mul-at
+    add-at
+    add-at-2
     mul-left
-    add-left
-    add-left-2
-    mul-left-2
     slice-read-left
-    mul-left-3
+    mul-left-2
     shared-slice-read-left
     sub-left
     mul-book
-    add-book
-    add-book-2
-    mul-book-2
     slice-write-book
     add-p
     loop-less

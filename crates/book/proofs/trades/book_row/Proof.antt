@@ -5,59 +5,47 @@ use borrow.Author.Needs.{needs}
 use Rattle.book.proofs.trades.book_row.Statement.{statement}
 use Rattle.book.proofs.trades.book_row.Tie as tie
 
+mul-at : tie.Need-mul-at
+mul-at c = search needs
+
 mul-way : tie.Need-mul-way
 mul-way c = search needs
-
-mul-way-2 : tie.Need-mul-way-2
-mul-way-2 c = search needs
 
 shared-slice-read-way : tie.Need-shared-slice-read-way
 shared-slice-read-way c = search needs
 
-mul-period : tie.Need-mul-period
-mul-period c = search needs
-
 add-period : tie.Need-add-period
 add-period c = search needs
 
-mul-period-2 : tie.Need-mul-period-2
-mul-period-2 c = search needs
+mul-period : tie.Need-mul-period
+mul-period c = search needs
 
 shared-slice-read-period : tie.Need-shared-slice-read-period
 shared-slice-read-period c = search needs
 
-mul-seller : tie.Need-mul-seller
-mul-seller c = search needs
-
 add-seller : tie.Need-add-seller
 add-seller c = search needs
 
-mul-seller-2 : tie.Need-mul-seller-2
-mul-seller-2 c = search needs
+mul-seller : tie.Need-mul-seller
+mul-seller c = search needs
 
 shared-slice-read-seller : tie.Need-shared-slice-read-seller
 shared-slice-read-seller c = search needs
 
-mul-buyer : tie.Need-mul-buyer
-mul-buyer c = search needs
-
 add-buyer : tie.Need-add-buyer
 add-buyer c = search needs
 
-mul-buyer-2 : tie.Need-mul-buyer-2
-mul-buyer-2 c = search needs
+mul-buyer : tie.Need-mul-buyer
+mul-buyer c = search needs
 
 shared-slice-read-buyer : tie.Need-shared-slice-read-buyer
 shared-slice-read-buyer c = search needs
 
-mul-quantity : tie.Need-mul-quantity
-mul-quantity c = search needs
-
 add-quantity : tie.Need-add-quantity
 add-quantity c = search needs
 
-mul-quantity-2 : tie.Need-mul-quantity-2
-mul-quantity-2 c = search needs
+mul-quantity : tie.Need-mul-quantity
+mul-quantity c = search needs
 
 shared-slice-read-quantity : tie.Need-shared-slice-read-quantity
 shared-slice-read-quantity c = search needs
@@ -86,24 +74,20 @@ pub book-row-spec : {M : Type 1} → statement M
 book-row-spec =
     tie.close
     (tie.spec
+    mul-at
     mul-way
-    mul-way-2
     shared-slice-read-way
-    mul-period
     add-period
-    mul-period-2
+    mul-period
     shared-slice-read-period
-    mul-seller
     add-seller
-    mul-seller-2
+    mul-seller
     shared-slice-read-seller
-    mul-buyer
     add-buyer
-    mul-buyer-2
+    mul-buyer
     shared-slice-read-buyer
-    mul-quantity
     add-quantity
-    mul-quantity-2
+    mul-quantity
     shared-slice-read-quantity
     book-trade-requires
     book-trade-requires-2

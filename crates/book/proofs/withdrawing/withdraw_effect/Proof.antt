@@ -1,8 +1,8 @@
 -- `withdraw_effect`: the place found is the number's, so what moves up there is what is kept.
 use Prim.Native.Nat.{_<_}
-use mathlib.Core.Path.{_≡_, _∙_}
+use mathlib.Core.Path.{_∙_}
 use native.Mathlib.Omega.{arith}
-use lib.ListN.{length, length-set}
+use lib.ListN.{length-set}
 use Rattle.book.specs.Layout.{word}
 use Rattle.book.specs.inner.Readable.{Readable}
 use Rattle.book.proofs.laws.answer.MadeLaws.{sound-readable}
@@ -31,49 +31,32 @@ shift-amounts-requires c κs =
     (ok c5, found (c .before), ok c5 .offersTo)
 
 mul-shift : tie.Need-mul-shift
-mul-shift c =
-    let c5 = c .before .before .before .before .before in
-    let c9 = c5 .before .before .before .before in
-    let r = ok c9 in let f = found c5 in omega arith
+mul-shift c = omega (arith, ok (c .before .before .before .before .before .before .before .before .before) .offersTo, found (c .before .before .before .before .before))
 
 add-shift : tie.Need-add-shift
-add-shift c =
-    let c5 = c .before .before .before .before .before in
-    let c9 = c5 .before .before .before .before in
-    let r = ok c9 in let f = found c5 in omega arith
+add-shift c = omega (arith, ok (c .before .before .before .before .before .before .before .before .before) .offersTo, found (c .before .before .before .before .before))
 
 mul-shift-2 : tie.Need-mul-shift-2
-mul-shift-2 c =
-    let c9 = c .before .before .before .before .before .before .before .before .before in
-    let r = ok c9 in omega arith
+mul-shift-2 c = omega (arith, ok (c .before .before .before .before .before .before .before .before .before) .offersTo)
 
 add-shift-2 : tie.Need-add-shift-2
-add-shift-2 c =
-    let c9 = c .before .before .before .before .before .before .before .before .before in
-    let r = ok c9 in omega arith
+add-shift-2 c = omega (arith, ok (c .before .before .before .before .before .before .before .before .before) .offersTo)
 
 shift-requires : tie.Need-shift-requires
 shift-requires c κs =
     let c3 = c .before .before .before in
     let c5 = c3 .before .before in
-    let c9 = c5 .before .before .before .before in
-    let r = ok c9 in
-    let f = found c5 in
-    let l : length (c3 .shift-amounts .last .0) ≡ length (c9 .args .book .now) = c3 .shift-amounts .kept .0 in
-    (omega arith, omega arith)
+    let r = ok (c5 .before .before .before .before) in
+    (omega (arith, found c5), omega (arith, c3 .shift-amounts .kept .0, r .daysFrom, r .offersTo, r .long))
 
 sub-book : tie.Need-sub-book
-sub-book c =
-    let c8 = c .before .before .before .before .before .before .before .before in
-    let f = found c8 in omega arith
+sub-book c = omega (arith, found (c .before .before .before .before .before .before .before .before))
 
 slice-write-book : tie.Need-slice-write-book
 slice-write-book c =
     let c6 = c .before .before .before .before .before .before in
-    let c12 = c6 .before .before .before .before .before .before in
-    let r = ok c12 in
-    let l : length (c .before .before .shift .last .0) ≡ length (c12 .args .book .now) = c .before .before .shift .kept .0 ∙ c6 .shift-amounts .kept .0 in
-    omega arith
+    let r = ok (c6 .before .before .before .before .before .before) in
+    omega (arith, c .before .before .shift .kept .0 ∙ c6 .shift-amounts .kept .0, r .daysFrom, r .long)
 
 same-length : tie.Need-same-length
 same-length c =
@@ -84,16 +67,17 @@ returns : tie.Need-returns
 returns c =
     let c6 = c .before .before .before .before .before .before in
     let c8 = c6 .before .before in
-    let s = c .before .before .before .before .before .before .before .before .before .before .before .before in
+    let s = c8 .before .before .before .before in
     let a = s .args in
     let f = found c8 in
     let p = c8 .find-offer in
+    let e = p .ensures .number (omega (arith, f, ok s .offersTo)) in
     let u = c6 .shift-amounts in
     let w = c .before .before .shift in (
-      withdrawn (a .book .now) (u .last .0) (w .last .0) (a .number) (p .result) (s .pre .0) f (p .ensures .number (let q = ok s .offersTo in omega arith)) (u .kept .0) (w .kept .0) (u .ensures .0)
+      withdrawn (a .book .now) (u .last .0) (w .last .0) (a .number) (p .result) (s .pre .0) f e (u .kept .0) (w .kept .0) (u .ensures .0)
           (u .ensures .1) (u .ensures .2) (w .ensures .0) (w .ensures .1) (w .ensures .2) (w .ensures .3),
-      withdrawn-past (a .book .now) (u .last .0) (w .last .0) (a .number) (p .result) (s .pre .0) f (p .ensures .number (let q = ok s .offersTo in omega arith)) (u .kept .0) (w .kept .0)
-          (u .ensures .0) (u .ensures .1) (u .ensures .2) (w .ensures .0) (w .ensures .1) (w .ensures .2) (w .ensures .3),
+      withdrawn-past (a .book .now) (u .last .0) (w .last .0) (a .number) (p .result) (s .pre .0) f e (u .kept .0) (w .kept .0) (u .ensures .0)
+          (u .ensures .1) (u .ensures .2) (w .ensures .0) (w .ensures .1) (w .ensures .2) (w .ensures .3),
     )
 
 pub withdraw-effect-spec : {M : Type 1} → statement M
