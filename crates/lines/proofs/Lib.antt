@@ -1,4 +1,7 @@
 pub mod ReadingLaws
 pub mod PuttingLaws
+pub mod DaysLaws
 pub mod AnswerLaws
+pub mod StepLaws
+pub mod EveryLineHolds
 pub mod TranscriptHolds

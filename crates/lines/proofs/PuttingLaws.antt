@@ -11,7 +11,7 @@ use Rattle.matching.specs.Orders.{Row}
 use Rattle.matching.specs.Memory.{flatRow, flat, written}
 use Rattle.matching.proofs.RowLaws.{flat-length}
 use Rattle.lines.specs.Printed.{digits, decimal, spaced, printedRow, printedRows, printedOk, printedNo}
-use Rattle.lines.specs.Puts.{Put, rowsText, okText}
+use Rattle.lines.specs.inner.Puts.{Put, rowsText, okText}
 
 pub put-byte : (o : List ℕ) (at b : ℕ) → at < length o → Put o at (b ∷ []) 1 (at + 1) (set o at b)
 put-byte o at b h = record { stands = rw (add-one at) (take-suc-set o at b h); ends = omega arith; long = length-set o at b }

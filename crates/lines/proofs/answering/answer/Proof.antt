@@ -1,7 +1,7 @@
 -- `answer`: a wrong count, no letter of a call, or no book gives `no 0`; else the opening or the call answers.
 use mathlib.Core.Path.{refl, sym, _∙_}
 use borrow.Author.Tests.{not-true, not-false}
-use Rattle.lines.proofs.AnswerLaws.{turned-down, unknown-down, early-down, wrong-count, right-count, line-opening, line-call, line-other, answered-as}
+use Rattle.lines.proofs.AnswerLaws.{turned-down, unknown-down, early-down, wrong-count, right-count, line-opening, line-call, line-other, no-book, has-started, has-day, answered-as}
 use borrow.Author.Needs.{needs}
 use Rattle.lines.proofs.answering.answer.Statement.{statement}
 use Rattle.lines.proofs.answering.answer.Tie as tie
@@ -23,8 +23,14 @@ same-length-2 c = search needs
 
 returns : tie.Need-returns
 returns c =
+    let e = c .before .before .before .before in
+    let l = e .before .before .before .before .before in
+    let s = l .before .before .before .before .before .before in
+    let h = l .end-line .ensures in
+    let k = l .end-line .kept .1 .0 ∙ s .pre .0 in
     let d = c .before .before .turn-down .ensures in
-    ((λ line f. turned-down _ _ _ _ _ (unknown-down _ _ _ (wrong-count _ _ _ _ (c .before .before .before .before .before .before .before .before .before .end-line .ensures .0 line f) (c .before .before .before .before .before .before .before .before .before .end-line .ensures .1) (c .before .before .before .before .before .before .before .before .before .end-line .kept .1 .0 ∙ c .before .before .before .before .before .before .before .before .before .before .before .before .before .before .before .pre .0) (λ q. c .before .before .before .before .if1 .taken (q ∙ sym (c .before .before .before .before .before .before .count-of .ensures))))) (d .0) (d .1)), d .2)
+    let w = wrong-count _ _ _ _ (h .0) (h .1) k (λ q. e .if1 .taken (q ∙ sym (e .before .before .count-of .ensures))) in
+    (turned-down _ _ _ _ _ (unknown-down _ _ w) (d .0) (d .1), d .2)
 
 answer-opening-requires : tie.Need-answer-opening-requires
 answer-opening-requires c κs = search needs
@@ -40,8 +46,14 @@ same-length-5 c = search needs
 
 returns-2 : tie.Need-returns-2
 returns-2 c =
+    let e = c .before .before .before .before .before .before .before .before .before in
+    let l = e .before .before .before .before .before in
+    let s = l .before .before .before .before .before .before in
+    let h = l .end-line .ensures in
+    let k = l .end-line .kept .1 .0 ∙ s .pre .0 in
     let g = c .before .before .before .before .answer-opening .ensures in
-    ((λ line f. answered-as _ _ _ _ _ _ _ _ refl (right-count _ _ _ _ (c .before .before .before .before .before .before .before .before .before .before .before .before .before .before .end-line .ensures .0 line f) (c .before .before .before .before .before .before .before .before .before .before .before .before .before .before .end-line .ensures .1) (c .before .before .before .before .before .before .before .before .before .before .before .before .before .before .end-line .kept .1 .0 ∙ c .before .before .before .before .before .before .before .before .before .before .before .before .before .before .before .before .before .before .before .before .pre .0) (c .before .before .before .before .before .before .before .before .before .if1 .left ∙ c .before .before .before .before .before .before .before .before .before .before .before .count-of .ensures) ∙ line-opening _ _ (c .before .before .before .before .before .before .before .before .if2 .taken)) (g .0)), g .1)
+    let r = right-count _ _ _ _ (h .0) (h .1) k (e .if1 .left ∙ e .before .before .count-of .ensures) in
+    (answered-as _ _ _ _ _ _ _ _ refl (r ∙ line-opening _ _ (c .before .before .before .before .before .before .before .before .if2 .taken)) (g .0), g .1)
 
 is-call-requires : tie.Need-is-call-requires
 is-call-requires c κs = search needs
@@ -57,8 +69,18 @@ same-length-7 c = search needs
 
 returns-3 : tie.Need-returns-3
 returns-3 c =
+    let e = c .before .before .before .before .before .before .before in
+    let l = e .before .before .before .before .before in
+    let s = l .before .before .before .before .before .before in
+    let h = l .end-line .ensures in
+    let k = l .end-line .kept .1 .0 ∙ s .pre .0 in
     let d = c .before .before .turn-down2 .ensures in
-    ((λ line f. turned-down _ _ _ _ _ (unknown-down _ _ _ (right-count _ _ _ _ (c .before .before .before .before .before .before .before .before .before .before .before .before .end-line .ensures .0 line f) (c .before .before .before .before .before .before .before .before .before .before .before .before .end-line .ensures .1) (c .before .before .before .before .before .before .before .before .before .before .before .before .end-line .kept .1 .0 ∙ c .before .before .before .before .before .before .before .before .before .before .before .before .before .before .before .before .before .before .pre .0) (c .before .before .before .before .before .before .before .if1 .left ∙ c .before .before .before .before .before .before .before .before .before .count-of .ensures) ∙ line-other _ _ (c .before .before .before .before .before .before .if2 .left) (sym (c .before .before .before .before .before .is-call .ensures) ∙ not-true _ (c .before .before .before .before .if3 .taken)))) (d .0) (d .1)), d .2)
+    let r = right-count _ _ _ _ (h .0) (h .1) k (e .if1 .left ∙ e .before .before .count-of .ensures) in
+    let o = line-other _ _ (c .before .before .before .before .before .before .if2 .left) (sym (c .before .before .before .before .before .is-call .ensures) ∙ not-true _ (c .before .before .before .before .if3 .taken)) in
+    (turned-down _ _ _ _ _ (unknown-down _ _ (r ∙ o)) (d .0) (d .1), d .2)
+
+has-book-requires : tie.Need-has-book-requires
+has-book-requires c κs = search needs
 
 turn-down-requires-3 : tie.Need-turn-down-requires-3
 turn-down-requires-3 c κs = search needs
@@ -69,16 +91,26 @@ same-length-8 c = search needs
 same-length-9 : tie.Need-same-length-9
 same-length-9 c = search needs
 
-returns-4 : tie.Need-returns-4
-returns-4 c =
-    let d = c .before .before .turn-down3 .ensures in
-    ((λ line f. turned-down _ _ _ _ _ (early-down _ _ _ _ (not-true _ (c .before .before .before .before .if4 .taken)) (right-count _ _ _ _ (c .before .before .before .before .before .before .before .before .before .before .before .before .before .end-line .ensures .0 line f) (c .before .before .before .before .before .before .before .before .before .before .before .before .before .end-line .ensures .1) (c .before .before .before .before .before .before .before .before .before .before .before .before .before .end-line .kept .1 .0 ∙ c .before .before .before .before .before .before .before .before .before .before .before .before .before .before .before .before .before .before .before .pre .0) (c .before .before .before .before .before .before .before .before .if1 .left ∙ c .before .before .before .before .before .before .before .before .before .before .count-of .ensures) ∙ line-call _ _ (c .before .before .before .before .before .before .before .if2 .left) (sym (c .before .before .before .before .before .before .is-call .ensures) ∙ not-false _ (c .before .before .before .before .before .if3 .left)))) (d .0) (d .1)), d .2)
-
-answer-call-requires : tie.Need-answer-call-requires
-answer-call-requires c κs = search needs
-
 same-length-10 : tie.Need-same-length-10
 same-length-10 c = search needs
+
+returns-4 : tie.Need-returns-4
+returns-4 c =
+    let e = c .before .before .before .before .before .before .before .before .before .before in
+    let l = e .before .before .before .before .before in
+    let s = l .before .before .before .before .before .before in
+    let h = l .end-line .ensures in
+    let k = l .end-line .kept .1 .0 ∙ s .pre .0 in
+    let d = c .before .before .turn-down3 .ensures in
+    let r = right-count _ _ _ _ (h .0) (h .1) k (e .if1 .left ∙ e .before .before .count-of .ensures) in
+    let n = no-book (s .args .started) (s .args .book .now) (sym (c .before .before .before .before .before .has-book .ensures) ∙ not-true _ (c .before .before .before .before .if4 .taken)) in
+    (turned-down _ _ _ _ _ (early-down _ _ _ n (r ∙ line-call _ _ (c .before .before .before .before .before .before .before .before .before .if2 .left) (sym (c .before .before .before .before .before .before .before .before .is-call .ensures) ∙ not-false _ (c .before .before .before .before .before .before .before .if3 .left)))) (d .0) (d .1), d .2)
+
+answer-call-requires : tie.Need-answer-call-requires
+answer-call-requires c κs =
+    let s = c .before .before .before .before .before .before .before .before .before .before .before .before .before .before .before .before .before .before .before .before .before in
+    let d = has-day (s .args .started) (s .args .book .now) (sym (c .before .before .before .before .before .has-book .ensures) ∙ not-false _ (c .before .before .before .before .if4 .left)) in
+    search needs
 
 same-length-11 : tie.Need-same-length-11
 same-length-11 c = search needs
@@ -89,10 +121,20 @@ same-length-12 c = search needs
 same-length-13 : tie.Need-same-length-13
 same-length-13 c = search needs
 
+same-length-14 : tie.Need-same-length-14
+same-length-14 c = search needs
+
 returns-5 : tie.Need-returns-5
 returns-5 c =
+    let e = c .before .before .before .before .before .before .before .before .before .before .before .before .before .before .before .before .before in
+    let l = e .before .before .before .before .before in
+    let s = l .before .before .before .before .before .before in
+    let h = l .end-line .ensures in
+    let k = l .end-line .kept .1 .0 ∙ s .pre .0 in
     let g = c .before .before .before .before .before .before .answer-call .ensures in
-    ((λ line f. answered-as _ _ _ _ _ _ _ _ (not-false _ (c .before .before .before .before .before .before .before .before .before .before .before .if4 .left)) (right-count _ _ _ _ (c .before .before .before .before .before .before .before .before .before .before .before .before .before .before .before .before .before .before .before .before .end-line .ensures .0 line f) (c .before .before .before .before .before .before .before .before .before .before .before .before .before .before .before .before .before .before .before .before .end-line .ensures .1) (c .before .before .before .before .before .before .before .before .before .before .before .before .before .before .before .before .before .before .before .before .end-line .kept .1 .0 ∙ c .before .before .before .before .before .before .before .before .before .before .before .before .before .before .before .before .before .before .before .before .before .before .before .before .before .before .pre .0) (c .before .before .before .before .before .before .before .before .before .before .before .before .before .before .before .if1 .left ∙ c .before .before .before .before .before .before .before .before .before .before .before .before .before .before .before .before .before .count-of .ensures) ∙ line-call _ _ (c .before .before .before .before .before .before .before .before .before .before .before .before .before .before .if2 .left) (sym (c .before .before .before .before .before .before .before .before .before .before .before .before .before .is-call .ensures) ∙ not-false _ (c .before .before .before .before .before .before .before .before .before .before .before .before .if3 .left))) (g .0)), g .1)
+    let r = right-count _ _ _ _ (h .0) (h .1) k (e .if1 .left ∙ e .before .before .count-of .ensures) in
+    let t = has-started (s .args .started) (s .args .book .now) (sym (c .before .before .before .before .before .before .before .before .before .before .before .before .has-book .ensures) ∙ not-false _ (c .before .before .before .before .before .before .before .before .before .before .before .if4 .left)) in
+    (answered-as _ _ _ _ _ _ _ _ t (r ∙ line-call _ _ (c .before .before .before .before .before .before .before .before .before .before .before .before .before .before .before .before .if2 .left) (sym (c .before .before .before .before .before .before .before .before .before .before .before .before .before .before .before .is-call .ensures) ∙ not-false _ (c .before .before .before .before .before .before .before .before .before .before .before .before .before .before .if3 .left))) (g .0), g .1)
 
 pub answer-spec : {M : Type 1} → statement M
 answer-spec =
@@ -114,13 +156,15 @@ answer-spec =
     same-length-6
     same-length-7
     returns-3
+    has-book-requires
     turn-down-requires-3
     same-length-8
     same-length-9
+    same-length-10
     returns-4
     answer-call-requires
-    same-length-10
     same-length-11
     same-length-12
     same-length-13
+    same-length-14
     returns-5)

@@ -1,4 +1,4 @@
--- `answer_call`: an enrol beyond 8 units is turned down; else as the call answers.
+-- `answer_call`: an enrol beyond 8 units gives `no 0`; else the library's answer and rows are printed.
 use Prim.Native.Nat.{_*_, _≤_}
 use mathlib.Core.Path.{sym, _∙_}
 use native.Mathlib.Omega.{arith}
@@ -9,7 +9,12 @@ use Rattle.lines.proofs.answering.answer_call.Tie as tie
 
 -- the rows that came back have room
 fits : (c : tie.After-print-ok-arg2) → 6 * (c .before .before .before .before .told-by .result .count) ≤ 4464
-fits c = room _ _ _ _ _ _ (c .before .before .before .before .before .before .before .before .before .make-call .ensures) _ _ (c .before .before .before .before .told-by .ensures .0) (c .before .before .if2 .left) (c .before .before .before .before .told-by .ensures .2) (c .before .before .before .before .before .before .before .before .before .before .before .before .before .before .before .before .before .before .before .pre .2) (c .before .before .before .before .before .before .before .before .before .make-call .kept .1 .1 .1 .0)
+fits c =
+    let t = c .before .before .before .before in
+    let k = t .before .before .before .before .before in
+    let m = k .make-call in
+    room _ _ _ _ _ _ (m .ensures) _ _ (t .told-by .ensures .0) (c .before .before .if2 .left) (t .told-by .ensures .2)
+    (k .before .before .before .before .before .before .before .before .before .before .pre .0 .2) (m .kept .1 .1 .1 .0)
 
 is-beyond-requires : tie.Need-is-beyond-requires
 is-beyond-requires c κs = search needs
@@ -24,7 +29,9 @@ same-length-2 : tie.Need-same-length-2
 same-length-2 c = search needs
 
 returns : tie.Need-returns
-returns c = (turned-down _ _ _ _ _ (beyond-down _ _ _ (sym (c .before .before .before .before .before .is-beyond .ensures) ∙ c .before .before .before .before .if1 .taken)) (c .before .before .turn-down .ensures .0) (c .before .before .turn-down .ensures .1), c .before .before .turn-down .ensures .2)
+returns c =
+    let d = c .before .before .turn-down .ensures in
+    (turned-down _ _ _ _ _ (beyond-down _ (c .before .before .before .before .before .before .before .before .before .before .before .pre .1) _ _ (sym (c .before .before .before .before .before .is-beyond .ensures) ∙ c .before .before .before .before .if1 .taken)) (d .0) (d .1), d .2)
 
 make-call-requires : tie.Need-make-call-requires
 make-call-requires c κs = search needs
@@ -45,7 +52,14 @@ same-length-5 : tie.Need-same-length-5
 same-length-5 c = search needs
 
 returns-2 : tie.Need-returns-2
-returns-2 c = (call-no _ _ _ _ _ _ (c .before .before .before .before .before .before .before .before .before .before .before .make-call .ensures) (within-taken _ _ _ (sym (c .before .before .before .before .before .before .before .before .before .before .before .before .before .before .before .is-beyond .ensures) ∙ c .before .before .before .before .before .before .before .before .before .before .before .before .before .before .if1 .left)) _ _ (c .before .before .before .before .before .before .told-by .ensures .0) (c .before .before .before .before .if2 .taken) (c .before .before .print-no .ensures .0), omega arith)
+returns-2 c =
+    let t = c .before .before .before .before .before .before .told-by .ensures in
+    let s = c .before .before .before .before .before .before .before .before .before .before .before .before .before .before .before in
+    let p = s .before .before .before .before .before .before .pre in (
+      call-no _ _ _ _ _ _ (c .before .before .before .before .before .before .before .before .before .before .before .make-call .ensures) (p .1) (p .0 .1) (within-taken _ (p .1) _ _ (sym (s .is-beyond .ensures) ∙ c .before .before .before .before .before .before .before .before .before .before .before .before .before .before .if1 .left))
+          _ _ (t .0) (c .before .before .before .before .if2 .taken) (c .before .before .print-no .ensures .0),
+      omega arith,
+    )
 
 print-ok-requires : tie.Need-print-ok-requires
 print-ok-requires c κs = let w : 6 * (c .before .before .before .before .told-by .result .count) ≤ 4464 = fits c in omega arith
@@ -60,7 +74,14 @@ same-length-8 : tie.Need-same-length-8
 same-length-8 c = search needs
 
 returns-3 : tie.Need-returns-3
-returns-3 c = (call-ok _ _ _ _ _ _ (c .before .before .before .before .before .before .before .before .before .before .before .before .make-call .ensures) (within-taken _ _ _ (sym (c .before .before .before .before .before .before .before .before .before .before .before .before .before .before .before .before .is-beyond .ensures) ∙ c .before .before .before .before .before .before .before .before .before .before .before .before .before .before .before .if1 .left)) _ _ _ _ (c .before .before .before .before .before .before .before .told-by .ensures .0) (c .before .before .before .before .before .if2 .left) (c .before .before .before .before .before .before .before .told-by .ensures .1) (c .before .before .before .before .before .before .before .told-by .ensures .2) (c .before .before .print-ok .ensures .0), let w = fits (c .before .before .before) in omega arith)
+returns-3 c =
+    let t = c .before .before .before .before .before .before .before .told-by .ensures in
+    let s = c .before .before .before .before .before .before .before .before .before .before .before .before .before .before .before .before in
+    let p = s .before .before .before .before .before .before .pre in (
+      call-ok _ _ _ _ _ _ (c .before .before .before .before .before .before .before .before .before .before .before .before .make-call .ensures) (p .1) (p .0 .1) (within-taken _ (p .1) _ _ (sym (s .is-beyond .ensures) ∙ c .before .before .before .before .before .before .before .before .before .before .before .before .before .before .before .if1 .left))
+          _ _ _ _ (t .0) (c .before .before .before .before .before .if2 .left) (t .1) (t .2) (c .before .before .print-ok .ensures .0),
+      let w = fits (c .before .before .before) in omega arith,
+    )
 
 pub answer-call-spec : {M : Type 1} → statement M
 answer-call-spec =

@@ -1,4 +1,4 @@
--- `answer_opening`: days over 1 are turned down; else as opening answers.
+-- `answer_opening`: days over 1 give `no 0`; else the library's answer is printed.
 use native.Mathlib.Omega.{arith}
 use Rattle.lines.proofs.AnswerLaws.{turned-down, days-down, opening-no, opening-ok}
 use borrow.Author.Needs.{needs}
@@ -15,7 +15,9 @@ same-length : tie.Need-same-length
 same-length c = search needs
 
 returns : tie.Need-returns
-returns c = (turned-down _ _ _ _ _ (days-down _ _ _ _ _ (omega arith)) (c .before .before .turn-down .ensures .0) (c .before .before .turn-down .ensures .1), c .before .before .turn-down .ensures .2)
+returns c =
+    let d = c .before .before .turn-down .ensures in
+    (turned-down _ _ _ _ _ (days-down _ _ _ _ (omega arith)) (d .0) (d .1), d .2)
 
 shared-slice-read-open : tie.Need-shared-slice-read-open
 shared-slice-read-open c = search needs
@@ -39,7 +41,9 @@ same-length-3 : tie.Need-same-length-3
 same-length-3 c = search needs
 
 returns-2 : tie.Need-returns-2
-returns-2 c = (opening-no _ _ _ _ _ _ _ (c .before .before .before .before .before .before .before .before .before .«open» .ensures) (omega arith) _ _ (c .before .before .before .before .before .before .told-by .ensures .0) (c .before .before .before .before .if2 .taken) (c .before .before .print-no .ensures .0), omega arith)
+returns-2 c =
+    let t = c .before .before .before .before .before .before .told-by .ensures in
+    (opening-no _ _ _ _ _ _ _ (c .before .before .before .before .before .before .before .before .before .«open» .ensures) (omega arith) (omega arith) _ _ (t .0) (c .before .before .before .before .if2 .taken) (c .before .before .print-no .ensures .0), omega arith)
 
 print-ok-requires : tie.Need-print-ok-requires
 print-ok-requires c κs = search needs
@@ -51,7 +55,9 @@ same-length-5 : tie.Need-same-length-5
 same-length-5 c = search needs
 
 returns-3 : tie.Need-returns-3
-returns-3 c = (opening-ok _ _ _ _ _ _ _ (c .before .before .before .before .before .before .before .before .before .«open» .ensures) (omega arith) _ _ _ _ (c .before .before .before .before .before .before .told-by .ensures .0) (c .before .before .before .before .if2 .left) (c .before .before .before .before .before .before .told-by .ensures .1) (c .before .before .print-ok .ensures .0), omega arith)
+returns-3 c =
+    let t = c .before .before .before .before .before .before .told-by .ensures in
+    (opening-ok _ _ _ _ _ _ _ (c .before .before .before .before .before .before .before .before .before .«open» .ensures) (omega arith) (omega arith) _ _ _ _ (t .0) (c .before .before .before .before .if2 .left) (t .1) (c .before .before .print-ok .ensures .0), omega arith)
 
 pub answer-opening-spec : {M : Type 1} → statement M
 answer-opening-spec =
