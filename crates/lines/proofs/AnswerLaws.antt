@@ -1,17 +1,17 @@
 -- Laws of answering a line.
-use Prim.Native.Nat.{ℕ, zero, suc, _+_, _-_, _*_, _≤_, _<_}
+use Prim.Native.Nat.{ℕ, _+_, _-_, _*_, _≤_, _<_}
 use mathlib.Core.Path.{_≡_, refl, sym, ap, ap₂, _∙_}
-use mathlib.Core.Bool.{Bool, true, false, cond, _&&_, _||_}
-use mathlib.Core.List.{List, [], _∷_, _++_, append-nil}
+use mathlib.Core.Bool.{Bool, true, false, cond, _&&_}
+use mathlib.Core.List.{List, [], _∷_, _++_}
 use native.Mathlib.Omega.{arith}
 use native.Mathlib.Decide.{ℕ-discrete}
 use borrow.Author.Tests.{eq-eqb, ne-eqb, eqb-true, lt-ltb, le-ltb, le-leb}
-use lib.Dec.{eqb, leb, ltb}
+use lib.Dec.{eqb, leb}
 use lib.ListN.{length, getD, take, drop, length-append, length-take, length-drop}
 use lib.Seq.{take-all, getD-take}
 use Rattle.measures.proofs.ListLaws.{table-length}
 use Rattle.matching.specs.Orders.{Row}
-use Rattle.matching.specs.Memory.{flatRow, flat, written}
+use Rattle.matching.specs.Memory.{flat, written}
 use Rattle.matching.proofs.RowLaws.{flat-length, written-none}
 use Rattle.book.specs.Book.{Book}
 use Rattle.book.specs.Refusals.{Outcome}
@@ -22,9 +22,9 @@ use Rattle.book.specs.Calls.{Call, enrol, offer, take as callTake, withdraw, or
 use Rattle.book.specs.Contract.{Told, Made, Opened, toldBy, outcomeOn}
 use Rattle.book.proofs.OpeningLaws.{no-such-days}
 use Rattle.lines.specs.Lines.{Line, unknown, opening, calling, countOf, isCall, callOf, lineOf, called}
-use Rattle.lines.specs.Printed.{spaced, printedRows, printedOk, printedNo}
+use Rattle.lines.specs.Printed.{printedRows, printedOk, printedNo}
 use Rattle.lines.specs.inner.Puts.{rowsText, okText}
-use Rattle.lines.specs.Answers.{Stands, noBook, standing, Said, refuses, accepts, isEnrol, given, openingSaid, callSaid, saidTo, after, printed}
+use Rattle.lines.specs.Answers.{Stands, noBook, standing, refuses, accepts, isEnrol, given, openingSaid, callSaid, saidTo, after, printed}
 use Rattle.lines.specs.Stepping.{standsIn, Answered}
 use Rattle.lines.proofs.PuttingLaws.{rows-printed}
 use Rattle.lines.proofs.DaysLaws.{days-stay}
@@ -83,7 +83,13 @@ module _ (l n : ℕ) (ns : List ℕ) (e : n ≡ countOf l) (long : length ns ≡
       → f (getD (take n ns) 0 0) (getD (take n ns) 1 0) (getD (take n ns) 2 0) (getD (take n ns) 3 0) (getD (take n ns) 4 0)
       ≡ f (getD ns 0 0) (getD ns 1 0) (getD ns 2 0) (getD ns 3 0) (getD ns 4 0)
   five-kept f h =
-      rw (number-kept 5 0 h (omega arith), number-kept 5 1 h (omega arith), number-kept 5 2 h (omega arith), number-kept 5 3 h (omega arith), number-kept 5 4 h (omega arith))
+      rw (
+        number-kept 5 0 h (omega arith),
+        number-kept 5 1 h (omega arith),
+        number-kept 5 2 h (omega arith),
+        number-kept 5 3 h (omega arith),
+        number-kept 5 4 h (omega arith),
+      )
 
   counts : (k : ℕ) → eqb l k ≡ true → countOf l ≡ countOf k
   counts k h = ap countOf (eqb-true l k h)
@@ -142,7 +148,8 @@ count-none l a b c d e f g = rw (ne-eqb l 79 a, ne-eqb l 69 b, ne-eqb l 76 c, ne
 pub call-is : (l k : ℕ) → l ≡ k → isCall k ≡ isCall l
 call-is l k e = ap isCall (sym e)
 
-pub call-none : (l : ℕ) → (l ≡ 69 → ⊥) → (l ≡ 76 → ⊥) → (l ≡ 84 → ⊥) → (l ≡ 87 → ⊥) → (l ≡ 82 → ⊥) → (l ≡ 88 → ⊥) → (l ≡ 67 → ⊥) → (l ≡ 68 → ⊥) → false ≡ isCall l
+pub call-none : (l : ℕ) → (l ≡ 69 → ⊥) → (l ≡ 76 → ⊥) → (l ≡ 84 → ⊥) → (l ≡ 87 → ⊥) → (l ≡ 82 → ⊥) → (l ≡ 88 → ⊥) → (l ≡ 67 → ⊥) → (l ≡ 68 → ⊥)
+    → false ≡ isCall l
 unfolding isCall
 call-none l a b c d e f g h = rw (ne-eqb l 69 a, ne-eqb l 76 b, ne-eqb l 84 c, ne-eqb l 87 d, ne-eqb l 82 e, ne-eqb l 88 f, ne-eqb l 67 g, ne-eqb l 68 h)
 
@@ -152,7 +159,8 @@ module _ (l : ℕ) (ns m rows : List ℕ) (a : Answer) (m′ : List ℕ) where
   unfolding callOf
   made-enrol e f = rw (eq-eqb l 69 e) (made-beside m rows _ a m′ f)
 
-  pub made-offer : (amounts : List ℕ) → l ≡ 76 → amounts ≡ drop 3 ns → Made m [] (offer (getD ns 0 0) (getD ns 1 0) (getD ns 2 0) amounts) a m′ [] → Made m rows (callOf l ns) a m′ rows
+  pub made-offer : (amounts : List ℕ) → l ≡ 76 → amounts ≡ drop 3 ns → Made m [] (offer (getD ns 0 0) (getD ns 1 0) (getD ns 2 0) amounts) a m′ []
+      → Made m rows (callOf l ns) a m′ rows
   unfolding callOf
   made-offer amounts e d f = rw e (made-beside m rows _ a m′ (rw d at f))
 
@@ -164,7 +172,8 @@ module _ (l : ℕ) (ns m rows : List ℕ) (a : Answer) (m′ : List ℕ) where
   unfolding callOf
   made-cancel e f = rw e (made-beside m rows _ a m′ f)
 
-  pub made-close : (l ≡ 69 → ⊥) → (l ≡ 76 → ⊥) → (l ≡ 84 → ⊥) → (l ≡ 87 → ⊥) → (l ≡ 82 → ⊥) → (l ≡ 88 → ⊥) → (l ≡ 67 → ⊥) → Made m [] close a m′ [] → Made m rows (callOf l ns) a m′ rows
+  pub made-close : (l ≡ 69 → ⊥) → (l ≡ 76 → ⊥) → (l ≡ 84 → ⊥) → (l ≡ 87 → ⊥) → (l ≡ 82 → ⊥) → (l ≡ 88 → ⊥) → (l ≡ 67 → ⊥) → Made m [] close a m′ []
+      → Made m rows (callOf l ns) a m′ rows
   unfolding callOf
   made-close e₁ e₂ e₃ e₄ e₅ e₆ e₇ f =
       rw (ne-eqb l 69 e₁, ne-eqb l 76 e₂, ne-eqb l 84 e₃, ne-eqb l 87 e₄, ne-eqb l 82 e₅, ne-eqb l 88 e₆, ne-eqb l 67 e₇) (made-beside m rows close a m′ f)
@@ -174,7 +183,8 @@ module _ (l : ℕ) (ns m rows : List ℕ) (a : Answer) (m′ : List ℕ) where
     unfolding callOf
     made-take e f = rw e (rw lent at f)
 
-    pub made-order : l ≡ 82 → Made m rows (order (getD ns 0 0) (getD ns 1 0) (getD ns 2 0) (getD ns 3 0) (getD ns 4 0) (length rows)) a m′ rows′ → Made m rows (callOf l ns) a m′ rows′
+    pub made-order : l ≡ 82 → Made m rows (order (getD ns 0 0) (getD ns 1 0) (getD ns 2 0) (getD ns 3 0) (getD ns 4 0) (length rows)) a m′ rows′
+        → Made m rows (callOf l ns) a m′ rows′
     unfolding callOf
     made-order e f = rw e (rw lent at f)
 

@@ -1,10 +1,9 @@
 -- Every line of the input is answered once and in order: each step keeps what is printed in step with the definition.
-use Prim.Native.Nat.{ℕ, zero, suc, _+_, _≤_, _<_}
+use Prim.Native.Nat.{ℕ, suc, _+_}
 use mathlib.Core.Path.{_≡_, refl, sym, ap, ap₂, _∙_}
 use mathlib.Core.Bool.{Bool, true, false, cond, _||_}
 use mathlib.Core.List.{List, [], _∷_, _++_, append-assoc, append-nil}
 use native.Mathlib.Omega.{arith}
-use native.Mathlib.Numerals.{add-one}
 use borrow.Author.Tests.{lt-ltb}
 use lib.Dec.{eqb, ltb}
 use lib.ListN.{length, take}
@@ -12,13 +11,12 @@ use lib.Seq.{take-all}
 use Rattle.measures.proofs.ListLaws.{both-ways}
 use Rattle.lines.specs.declared.reading.Reading.the-variants.{Start}
 use Rattle.lines.specs.Lines.{parse}
-use Rattle.lines.specs.Answers.{Stands, noBook, saidTo, after, printed}
+use Rattle.lines.specs.Answers.{Stands}
 use Rattle.lines.specs.Rehearsed.{lastLine, linesFrom, answersTo, rehearsed}
 use Rattle.lines.specs.Readings.{restOf, begun, ReadsOn}
-use Rattle.lines.specs.Stepping.{State, state, freshDesk, standsIn, Answered, untilEnd, endsIn, RunsOn, LineEnds, Stepped, Ended}
-use Rattle.lines.specs.EveryLine.{Steps, noStep, nextStep, Run, EveryLineAnswered}
-use Rattle.lines.proofs.ReadingLaws.{reads-none, reads-both}
-use Rattle.lines.proofs.StepLaws.{runs-on}
+use Rattle.lines.specs.Stepping.{State, standsIn, Answered, untilEnd, endsIn, RunsOn, LineEnds, Stepped, Ended}
+use Rattle.lines.specs.EveryLine.{Steps, noStep, nextStep, EveryLineAnswered}
+use Rattle.lines.proofs.ReadingLaws.{reads-both}
 
 -- bytes with no line end go on the line
 lines-on : (line bs rest : List ℕ) → endsIn bs ≡ false → linesFrom line (bs ++ rest) ≡ linesFrom (line ++ bs) rest
@@ -39,7 +37,8 @@ lines-end line [] rest e = both-ways (sym e)
 lines-end line (b ∷ bs) rest e = go (eqb b 10) refl e (λ h. lines-end (line ++ (b ∷ [])) bs rest h)
   where
     go : (t : Bool) → eqb b 10 ≡ t → (t || endsIn bs) ≡ true
-        → (endsIn bs ≡ true → linesFrom (line ++ (b ∷ [])) (take (length (untilEnd bs) + 1) bs ++ rest) ≡ ((line ++ (b ∷ [])) ++ untilEnd bs) ∷ linesFrom [] rest)
+        → (endsIn bs ≡ true
+        → linesFrom (line ++ (b ∷ [])) (take (length (untilEnd bs) + 1) bs ++ rest) ≡ ((line ++ (b ∷ [])) ++ untilEnd bs) ∷ linesFrom [] rest)
         → linesFrom line (take (length (cond t [] (b ∷ untilEnd bs)) + 1) (b ∷ bs) ++ rest) ≡ (line ++ cond t [] (b ∷ untilEnd bs)) ∷ linesFrom [] rest
     go true q h ih = rw (q, append-nil line)
     go false q h ih =

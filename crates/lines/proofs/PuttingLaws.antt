@@ -1,23 +1,23 @@
 -- Laws of text put into lent bytes.
-use Prim.Native.Nat.{ℕ, zero, suc, _+_, _-_, _*_, _/_, _%_, _≤_, _<_}
+use Prim.Native.Nat.{ℕ, suc, _+_, _-_, _*_, _/_, _%_, _≤_, _<_}
 use mathlib.Core.Path.{_≡_, refl, sym, ap, _∙_}
 use mathlib.Core.List.{List, [], _∷_, _++_, append-assoc, append-nil}
 use native.Mathlib.Omega.{arith}
 use native.Mathlib.Numerals.{add-one}
 use borrow.Author.Tests.{lt-ltb, le-ltb}
-use lib.ListN.{length, getD, take, drop, set, length-set, length-append, length-take, length-drop, drop-of-length-le}
-use lib.Seq.{take-suc, take-suc-set, drop-cons, drop-set-lt, getD-set-same, take-all, take-append-le, drop-drop, take-at, drop-at, drop-append-add}
+use lib.ListN.{length, getD, take, drop, set, length-set, length-take, length-drop, drop-of-length-le}
+use lib.Seq.{take-suc, take-suc-set, drop-cons, drop-set-lt, getD-set-same, take-all, drop-drop}
 use Rattle.matching.specs.Orders.{Row}
-use Rattle.matching.specs.Memory.{flatRow, flat, written}
-use Rattle.matching.proofs.RowLaws.{flat-length}
-use Rattle.lines.specs.Printed.{digits, decimal, spaced, printedRow, printedRows, printedOk, printedNo}
+use Rattle.matching.specs.Memory.{flatRow, flat}
+use Rattle.lines.specs.Printed.{digits, decimal, spaced, printedRow, printedRows, printedNo}
 use Rattle.lines.specs.inner.Puts.{Put, rowsText, okText}
 
 pub put-byte : (o : List ℕ) (at b : ℕ) → at < length o → Put o at (b ∷ []) 1 (at + 1) (set o at b)
 put-byte o at b h = record { stands = rw (add-one at) (take-suc-set o at b h); ends = omega arith; long = length-set o at b }
 
 -- one text behind another
-pub put-both : (o : List ℕ) (at : ℕ) (s t : List ℕ) (most more q r : ℕ) (o₁ o₂ : List ℕ) → Put o at s most q o₁ → Put o₁ q t more r o₂ → Put o at (s ++ t) (most + more) r o₂
+pub put-both : (o : List ℕ) (at : ℕ) (s t : List ℕ) (most more q r : ℕ) (o₁ o₂ : List ℕ) → Put o at s most q o₁ → Put o₁ q t more r o₂
+    → Put o at (s ++ t) (most + more) r o₂
 put-both o at s t most more q r o₁ o₂ f g =
     record {
       stands = g .stands ∙ ap (λ (x : List ℕ). x ++ t) (f .stands) ∙ append-assoc (take at o) s t;
@@ -27,7 +27,8 @@ put-both o at s t most more q r o₁ o₂ f g =
 
 -- the same text, and room for more
 pub put-as : (o : List ℕ) (at : ℕ) (s t : List ℕ) (most more r : ℕ) (o′ : List ℕ) → s ≡ t → most ≤ more → Put o at s most r o′ → Put o at t more r o′
-put-as o at s t most more r o′ e h p = record { stands = p .stands ∙ ap (λ (x : List ℕ). take at o ++ x) e; ends = let a = p .ends in omega arith; long = p .long }
+put-as o at s t most more r o′ e h p =
+    record { stands = p .stands ∙ ap (λ (x : List ℕ). take at o ++ x) e; ends = let a = p .ends in omega arith; long = p .long }
 
 -- copying: the first i bytes of a text stand
 pub record Copied (o : List ℕ) (at : ℕ) (text : List ℕ) (o′ : List ℕ) (i : ℕ) : Type 0 where
@@ -41,13 +42,15 @@ copied-none o at text = record { stands = rw z (sym (append-nil (take at o))); u
     z : at + 0 ≡ at
     z = omega arith
 
-pub copied-more : (o : List ℕ) (at : ℕ) (text o′ : List ℕ) (i : ℕ) → at + length text ≤ length o → i < length text → Copied o at text o′ i → Copied o at text (set o′ (at + i) (getD text i 0)) (i + 1)
+pub copied-more : (o : List ℕ) (at : ℕ) (text o′ : List ℕ) (i : ℕ) → at + length text ≤ length o → i < length text → Copied o at text o′ i
+    → Copied o at text (set o′ (at + i) (getD text i 0)) (i + 1)
 copied-more o at text o′ i room h p =
     let l = p .long in
     let fits : at + i < length o′ = omega arith in
     let e : at + (i + 1) ≡ suc (at + i) = omega arith in
     record {
-      stands = rw (e, take-suc-set o′ (at + i) (getD text i 0) fits, p .stands, add-one i, take-suc text i 0 h) (append-assoc (take at o) (take i text) (getD text i 0 ∷ []));
+      stands = rw (e, take-suc-set o′ (at + i) (getD text i 0) fits, p .stands, add-one i, take-suc text i 0 h)
+          (append-assoc (take at o) (take i text) (getD text i 0 ∷ []));
       up = omega arith;
       long = length-set o′ (at + i) (getD text i 0) ∙ l;
     }
@@ -101,7 +104,9 @@ module _ (n : ℕ) (text : List ℕ) (rest i j : ℕ) (e : i ≡ suc j) (s : Spe
       let u = s .up in
       let l = s .long in
       record {
-        digits = rw (drop-put text i j (48 + rest % 10) e (omega arith)) (sym (append-assoc (digits j (rest / 10)) ((48 + rest % 10) ∷ []) (drop i text)) ∙ ap (λ (x : List ℕ). x ++ drop i text) (sym (ap (λ (k : ℕ). digits k rest) e ∙ digits-more j rest h)) ∙ s .digits);
+        digits = rw (drop-put text i j (48 + rest % 10) e (omega arith))
+            (sym (append-assoc (digits j (rest / 10)) ((48 + rest % 10) ∷ []) (drop i text))
+            ∙ ap (λ (x : List ℕ). x ++ drop i text) (sym (ap (λ (k : ℕ). digits k rest) e ∙ digits-more j rest h)) ∙ s .digits);
         up = omega arith;
         long = length-set text j (48 + rest % 10) ∙ l;
       }
@@ -124,7 +129,8 @@ pub record Fielded (o : List ℕ) (at : ℕ) (ns o′ : List ℕ) (end i : ℕ) 
 pub fielded-none : (o : List ℕ) (at : ℕ) (ns : List ℕ) → Fielded o at ns o at 0
 fielded-none o at ns = record { stands = refl; ends = omega arith; up = omega arith; long = refl }
 
-pub fielded-more : (o : List ℕ) (at : ℕ) (ns o′ : List ℕ) (end i r : ℕ) (o″ : List ℕ) → i < length ns → Fielded o at ns o′ end i → Put o′ end (spaced (getD ns i 0 ∷ [])) 21 r o″ → Fielded o at ns o″ r (i + 1)
+pub fielded-more : (o : List ℕ) (at : ℕ) (ns o′ : List ℕ) (end i r : ℕ) (o″ : List ℕ) → i < length ns → Fielded o at ns o′ end i
+    → Put o′ end (spaced (getD ns i 0 ∷ [])) 21 r o″ → Fielded o at ns o″ r (i + 1)
 fielded-more o at ns o′ end i r o″ h f p =
     let a = f .ends in
     let b = p .ends in
@@ -165,7 +171,8 @@ unfolding rowsText
 rows-next n k ws e = rw e
 
 pub rowed-more : (o : List ℕ) (at : ℕ) (ws : List ℕ) (count : ℕ) (o′ : List ℕ) (end k : ℕ) (row : List ℕ) (r : ℕ) (o″ : List ℕ)
-    → k < count → row ≡ take 6 (drop (6 * k) ws) → Rowed o at ws count o′ end k → Put o′ end (116 ∷ (spaced row ++ (10 ∷ []))) 128 r o″ → Rowed o at ws count o″ r (k + 1)
+    → k < count → row ≡ take 6 (drop (6 * k) ws) → Rowed o at ws count o′ end k → Put o′ end (116 ∷ (spaced row ++ (10 ∷ []))) 128 r o″
+    → Rowed o at ws count o″ r (k + 1)
 rowed-more o at ws count o′ end k row r o″ h e f p =
     let a = f .ends in
     let b = p .ends in
@@ -187,7 +194,8 @@ rowed-more o at ws count o′ end k row r o″ h e f p =
       long = p .long ∙ f .long;
     }
 
-pub rowed-all : (o : List ℕ) (at : ℕ) (ws : List ℕ) (count : ℕ) (o′ : List ℕ) (end k : ℕ) → count ≤ k → Rowed o at ws count o′ end k → Put o at (rowsText count ws) (128 * count) end o′
+pub rowed-all : (o : List ℕ) (at : ℕ) (ws : List ℕ) (count : ℕ) (o′ : List ℕ) (end k : ℕ) → count ≤ k → Rowed o at ws count o′ end k
+    → Put o at (rowsText count ws) (128 * count) end o′
 unfolding rowsText
 rowed-all o at ws count o′ end k h f =
     let u = f .up in
@@ -211,21 +219,26 @@ pub put-number : (o : List ℕ) (at : ℕ) (text : List ℕ) (n first r : ℕ) (
 put-number o at text n first r o′ l e p =
     let d = length-drop first text in
     let f : take (20 - first) (drop first text) ≡ drop first text = take-all (20 - first) (drop first text) (omega arith) in
-    put-as o at (take (20 - first) (drop first text)) (decimal n) (length (take (20 - first) (drop first text))) 20 r o′ (f ∙ e) (omega (arith, length-take (20 - first) (drop first text))) p
+    put-as o at (take (20 - first) (drop first text)) (decimal n) (length (take (20 - first) (drop first text))) 20 r o′ (f ∙ e)
+    (omega (arith, length-take (20 - first) (drop first text))) p
 
 pub put-field : (o : List ℕ) (at n q r : ℕ) (o₁ o₂ : List ℕ) → Put o at (32 ∷ []) 1 q o₁ → Put o₁ q (decimal n) 20 r o₂ → Put o at (spaced (n ∷ [])) 21 r o₂
 unfolding spaced
 put-field o at n q r o₁ o₂ f g =
-    put-as o at ((32 ∷ []) ++ decimal n) (spaced (n ∷ [])) 21 21 r o₂ (ap (λ (x : List ℕ). 32 ∷ x) (sym (append-nil (decimal n)))) (omega arith) (put-both o at (32 ∷ []) (decimal n) 1 20 q r o₁ o₂ f g)
+    put-as o at ((32 ∷ []) ++ decimal n) (spaced (n ∷ [])) 21 21 r o₂ (ap (λ (x : List ℕ). 32 ∷ x) (sym (append-nil (decimal n)))) (omega arith)
+    (put-both o at (32 ∷ []) (decimal n) 1 20 q r o₁ o₂ f g)
 
 pub put-row : (o : List ℕ) (at : ℕ) (row : List ℕ) (p q r : ℕ) (o₁ o₂ o₃ : List ℕ) → length row ≡ 6
-    → Put o at (116 ∷ []) 1 p o₁ → Put o₁ p (spaced row) (21 * length row) q o₂ → Put o₂ q (10 ∷ []) 1 r o₃ → Put o at (116 ∷ (spaced row ++ (10 ∷ []))) 128 r o₃
+    → Put o at (116 ∷ []) 1 p o₁ → Put o₁ p (spaced row) (21 * length row) q o₂ → Put o₂ q (10 ∷ []) 1 r o₃
+    → Put o at (116 ∷ (spaced row ++ (10 ∷ []))) 128 r o₃
 put-row o at row p q r o₁ o₂ o₃ e f g h =
     put-as o at _ (116 ∷ (spaced row ++ (10 ∷ []))) _ 128 r o₃ refl (omega arith)
-    (put-both o at (116 ∷ []) (spaced row ++ (10 ∷ [])) 1 (21 * length row + 1) p r o₁ o₃ f (put-both o₁ p (spaced row) (10 ∷ []) (21 * length row) 1 q r o₂ o₃ g h))
+    (put-both o at (116 ∷ []) (spaced row ++ (10 ∷ [])) 1 (21 * length row + 1) p r o₁ o₃ f
+    (put-both o₁ p (spaced row) (10 ∷ []) (21 * length row) 1 q r o₂ o₃ g h))
 
 pub put-head : (o : List ℕ) (a b n p q r s : ℕ) (o₁ o₂ o₃ o₄ : List ℕ)
-    → Put o 0 (a ∷ []) 1 p o₁ → Put o₁ p (b ∷ []) 1 q o₂ → Put o₂ q (spaced (n ∷ [])) 21 r o₃ → Put o₃ r (10 ∷ []) 1 s o₄ → Put o 0 (a ∷ b ∷ (spaced (n ∷ []) ++ (10 ∷ []))) 24 s o₄
+    → Put o 0 (a ∷ []) 1 p o₁ → Put o₁ p (b ∷ []) 1 q o₂ → Put o₂ q (spaced (n ∷ [])) 21 r o₃ → Put o₃ r (10 ∷ []) 1 s o₄
+    → Put o 0 (a ∷ b ∷ (spaced (n ∷ []) ++ (10 ∷ []))) 24 s o₄
 put-head o a b n p q r s o₁ o₂ o₃ o₄ f g h k =
     put-both o 0 (a ∷ []) (b ∷ (spaced (n ∷ []) ++ (10 ∷ []))) 1 23 p s o₁ o₄ f
     (put-both o₁ p (b ∷ []) (spaced (n ∷ []) ++ (10 ∷ [])) 1 22 q s o₂ o₄ g
@@ -236,12 +249,16 @@ pub no-printed : (o : List ℕ) (n r : ℕ) (o′ : List ℕ) → Put o 0 (110 �
 unfolding printedNo
 no-printed o n r o′ p = (p .stands, p .ends)
 
-pub ok-printed : (o : List ℕ) (n k : ℕ) (ws : List ℕ) (q r : ℕ) (o₁ o₂ : List ℕ) → Put o 0 (111 ∷ 107 ∷ (spaced (n ∷ []) ++ (10 ∷ []))) 24 q o₁ → Put o₁ q (rowsText k ws) (128 * k) r o₂ → (take r o₂ ≡ okText n k ws) × (r ≤ 24 + 128 * k)
+pub ok-printed : (o : List ℕ) (n k : ℕ) (ws : List ℕ) (q r : ℕ) (o₁ o₂ : List ℕ) → Put o 0 (111 ∷ 107 ∷ (spaced (n ∷ []) ++ (10 ∷ []))) 24 q o₁
+    → Put o₁ q (rowsText k ws) (128 * k) r o₂ → (take r o₂ ≡ okText n k ws) × (r ≤ 24 + 128 * k)
 unfolding okText
 ok-printed o n k ws q r o₁ o₂ f g =
     let a = f .ends in
-    let b = g .ends in
-    (g .stands ∙ ap (λ (x : List ℕ). x ++ rowsText k ws) (f .stands) ∙ ap (λ (x : List ℕ). 111 ∷ 107 ∷ x) (append-assoc (spaced (n ∷ [])) (10 ∷ []) (rowsText k ws)), omega arith)
+    let b = g .ends in (
+      g .stands ∙ ap (λ (x : List ℕ). x ++ rowsText k ws) (f .stands)
+          ∙ ap (λ (x : List ℕ). 111 ∷ 107 ∷ x) (append-assoc (spaced (n ∷ [])) (10 ∷ []) (rowsText k ws)),
+      omega arith,
+    )
 
 -- six numbers from 6 * k on
 pub part-six : (k : ℕ) (ws : List ℕ) → take (6 * k + 6 - 6 * k) (drop (6 * k) ws) ≡ take 6 (drop (6 * k) ws)

@@ -1,6 +1,6 @@
 -- Laws of reading a line byte by byte.
-use Prim.Native.Nat.{ℕ, zero, suc, _+_, _-_, _*_, _≤_, _<_}
-use mathlib.Core.Path.{_≡_, refl, sym, ap, _∙_}
+use Prim.Native.Nat.{ℕ, suc, _+_, _-_, _*_, _≤_, _<_}
+use mathlib.Core.Path.{_≡_, refl, ap, _∙_}
 use mathlib.Core.Bool.{Bool, true, false, cond, _&&_, _||_}
 use mathlib.Core.List.{List, [], _∷_, _++_, append-assoc, append-nil}
 use native.Mathlib.Omega.{arith}
@@ -11,12 +11,12 @@ use borrow.Author.Tests.{eq-eqb, ne-eqb, lt-ltb, le-ltb, le-leb, lt-leb}
 use lib.Dec.{eqb, leb, ltb}
 use lib.ListN.{length, getD, take, drop, set, length-append, length-take, drop-of-length-le}
 use lib.Seq.{take-suc, take-suc-set, take-all, drop-cons}
-use Rattle.measures.specs.Ranges.{between}
 use Rattle.measures.specs.Lists.{every}
-use Rattle.measures.proofs.ListLaws.{and-true, and-left-false, and-right-false, cond-case}
+use Rattle.measures.proofs.ListLaws.{and-true, and-left-false, and-right-false}
 use Rattle.lines.specs.declared.reading.Reading.{Reading}
 use Rattle.lines.specs.declared.reading.Reading.the-variants.{Start, Letter, Space, Digits, Lost}
-use Rattle.lines.specs.Lines.{Line, unknown, firstField, otherFields, isDigit, valueFrom, goesOn, isNumber, values, countOf, isCall, lineOf, called, numbered, lettered, parse}
+use Rattle.lines.specs.Lines.{Line, unknown, firstField, otherFields, isDigit, valueFrom, goesOn, isNumber, values, countOf, isCall, lineOf, called}
+use Rattle.lines.specs.Lines.{numbered, lettered, parse}
 use Rattle.lines.specs.Readings.{restOf, begun, ReadsOn}
 use Rattle.lines.specs.Stepping.{untilEnd}
 
@@ -55,7 +55,15 @@ digit-high b h = and-right-false (leb 48 b) (leb b 57) (lt-leb b 57 h)
 -- no letter has more than 27 numbers
 count-most : (l : ℕ) → countOf l ≤ 27
 unfolding countOf
-count-most l = below (eqb l 79) _ _ (omega arith) (below (eqb l 69) _ _ (omega arith) (below (eqb l 76) _ _ (omega arith) (below (eqb l 84) _ _ (omega arith) (below (eqb l 87) _ _ (omega arith) (below (eqb l 82) _ _ (omega arith) (below (eqb l 88) _ _ (omega arith) (omega arith)))))))
+count-most l =
+    below (eqb l 79) _ _ (omega arith)
+    (below (eqb l 69) _ _ (omega arith)
+    (below (eqb l 76) _ _ (omega arith)
+    (below (eqb l 84) _ _ (omega arith)
+    (below (eqb l 87) _ _ (omega arith)
+    (below (eqb l 82) _ _ (omega arith)
+    (below (eqb l 88) _ _ (omega arith)
+    (omega arith)))))))
   where
     below : (t : Bool) (x y : ℕ) → x ≤ 27 → y ≤ 27 → cond t x y ≤ 27
     below true x y h k = h
@@ -143,7 +151,12 @@ module _ (ns : List ℕ) (l n v : ℕ) where
   unfolding restOf firstField otherFields numbered goesOn valueFrom values
   number-ends h f k =
       record {
-        rest = λ more. rw (lt-ltb v 4_294_967_296 f, add-one n, take-suc-set ns n v k, append-assoc (take n ns) (v ∷ []) (values (firstField more ∷ otherFields more)));
+        rest = λ more. rw (
+          lt-ltb v 4_294_967_296 f,
+          add-one n,
+          take-suc-set ns n v k,
+          append-assoc (take n ns) (v ∷ []) (values (firstField more ∷ otherFields more)),
+        );
         begins = refl;
       }
 
@@ -255,7 +268,8 @@ going-more piece r₀ ns₀ i r ns r′ ns′ g h f e =
       reads = rw (add-one i, take-suc piece i 0 h) (reads-both r₀ ns₀ (take i piece) r ns (getD piece i 0 ∷ []) r′ ns′ (g .reads) f);
     }
 
-pub going-all : (piece : List ℕ) (r₀ : Reading) (ns₀ : List ℕ) (i : ℕ) (r : Reading) (ns : List ℕ) → Going piece r₀ ns₀ i r ns → length piece ≤ i → ReadsOn r₀ ns₀ piece r ns
+pub going-all : (piece : List ℕ) (r₀ : Reading) (ns₀ : List ℕ) (i : ℕ) (r : Reading) (ns : List ℕ) → Going piece r₀ ns₀ i r ns → length piece ≤ i
+    → ReadsOn r₀ ns₀ piece r ns
 going-all piece r₀ ns₀ i r ns g h = rw (take-all i piece h) at (g .reads)
 
 -- looking for the line end: none stands before i

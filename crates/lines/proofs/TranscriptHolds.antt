@@ -1,5 +1,5 @@
 -- The paper's transcript holds: the definitions compute it.
-use mathlib.Core.Path.{_≡_, refl}
+use mathlib.Core.Path.{refl}
 use Rattle.measures.specs.Lists.{holds, sum, all}
 use Rattle.limits.specs.Limits.{hourLimit, termLimit, volumeLimit}
 use Rattle.matching.specs.Orders.{rising, lessen, bidAhead, askAhead, insert, laid}
@@ -14,7 +14,8 @@ use Rattle.book.specs.Enrol.{enrolRefusal, enrolment}
 use Rattle.book.specs.Order.{orderRefusal, waiting, ordering}
 use Rattle.book.specs.Clear.{clearRefusal, clearFrom, clearing}
 use Rattle.book.specs.Close.{closing}
-use Rattle.lines.specs.Lines.{firstField, otherFields, valueFrom, goesOn, isNumber, values, countOf, isCall, callOf, lineOf, called, numbered, lettered, parse}
+use Rattle.lines.specs.Lines.{firstField, otherFields, valueFrom, goesOn, isNumber, values, countOf, isCall, callOf, lineOf, called, numbered}
+use Rattle.lines.specs.Lines.{lettered, parse}
 use Rattle.lines.specs.Printed.{digits, decimal, spaced, printedRow, printedRows, printedOk, printedNo}
 use Rattle.lines.specs.Answers.{given, openingSaid, callSaid, saidTo, after, printed}
 use Rattle.lines.specs.Rehearsed.{lastLine, linesFrom, answersTo, rehearsed}

@@ -9,7 +9,7 @@ use Rattle.book.specs.Layout.{word, decode}
 use Rattle.lines.specs.declared.reading.Reading.the-variants.{Start}
 use Rattle.lines.specs.declared.steps.Desk.{Desk}
 use Rattle.lines.specs.Lines.{Line}
-use Rattle.lines.specs.Answers.{Stands, noBook, standing, Said, refuses, accepts, saidTo, after, printed}
+use Rattle.lines.specs.Answers.{Stands, noBook, standing, refuses, saidTo, after, printed}
 use Rattle.lines.specs.Readings.{restOf, begun, ReadsOn}
 
 -- where the program stands: its desk, the numbers of the running line, and the memory of the book

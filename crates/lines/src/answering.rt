@@ -2,6 +2,7 @@
 use crate::printing::print_no;
 use crate::printing::print_ok;
 use crate::reading::Reading;
+use crate::steps::Printed;
 use book::Answer;
 use book::calls::cancel;
 use book::calls::clear;
@@ -36,12 +37,6 @@ struct Told {
     refusal: u64,
     number: u64,
     count: usize,
-}
-
-// What a line leaves: whether an O was accepted, and how many bytes are printed.
-pub struct Printed {
-    pub started: bool,
-    pub length: usize,
 }
 
 // What a line says at its end.
@@ -192,7 +187,9 @@ fn turn_down(started: bool, out: &mut [u8]) -> Printed
 
 fn answer_opening(started: bool, numbers: &[u64], book: &mut [u64], out: &mut [u8]) -> Printed
     requires { ⌜ (length (now numbers) ≡ 27) × (length (now book) ≡ 9648) × (length (now out) ≡ 95256) ⌝ }
-    ensures { λ r. ⌜ Answered started (now (book .entry)) (opening (getD (now (numbers .entry)) 0 0) (getD (now (numbers .entry)) 1 0) (getD (now (numbers .entry)) 2 0)) (r .started) (now (book .exit)) (take (r .length) (now (out .exit))) ⌝ }
+    ensures { λ r. ⌜ Answered started (now (book .entry))
+        (opening (getD (now (numbers .entry)) 0 0) (getD (now (numbers .entry)) 1 0) (getD (now (numbers .entry)) 2 0))
+        (r .started) (now (book .exit)) (take (r .length) (now (out .exit))) ⌝ }
     ensures { λ r. ⌜ r .length ≤ 95256 ⌝ }
 {
     let days = numbers[0];
@@ -220,7 +217,8 @@ fn answer_call(
 ) -> Printed
     requires { ⌜ (length (now numbers) ≡ 27) × (length (now book) ≡ 9648) × (length (now rows) ≡ 4464) × (length (now out) ≡ 95256) ⌝ }
     requires { ⌜ word (now book) 0 ≡ 1 ⌝ }
-    ensures { λ r. ⌜ Answered true (now (book .entry)) (calling (callOf letter (now (numbers .entry)))) (r .started) (now (book .exit)) (take (r .length) (now (out .exit))) ⌝ }
+    ensures { λ r. ⌜ Answered true (now (book .entry)) (calling (callOf letter (now (numbers .entry))))
+        (r .started) (now (book .exit)) (take (r .length) (now (out .exit))) ⌝ }
     ensures { λ r. ⌜ r .length ≤ 95256 ⌝ }
 {
     if is_beyond(letter, book) {
@@ -251,7 +249,8 @@ pub(crate) fn answer(
     out: &mut [u8],
 ) -> Printed
     requires { ⌜ (length (now numbers) ≡ 27) × (length (now book) ≡ 9648) × (length (now rows) ≡ 4464) × (length (now out) ≡ 95256) ⌝ }
-    ensures { λ r. ⌜ Answered started (now (book .entry)) (restOf reading (now (numbers .entry)) []) (r .started) (now (book .exit)) (take (r .length) (now (out .exit))) ⌝ }
+    ensures { λ r. ⌜ Answered started (now (book .entry)) (restOf reading (now (numbers .entry)) [])
+        (r .started) (now (book .exit)) (take (r .length) (now (out .exit))) ⌝ }
     ensures { λ r. ⌜ r .length ≤ 95256 ⌝ }
 {
     let heard = end_line(reading, numbers);

@@ -1,5 +1,4 @@
 // The steps of `rehearse`: over bytes of the input, and at its end.
-use crate::answering::Printed;
 use crate::answering::answer;
 use crate::reading::Reading;
 use crate::reading::has_begun;
@@ -24,6 +23,12 @@ pub type Text = [u8; 95256];
 pub struct Desk {
     reading: Reading,
     started: bool,
+}
+
+// What the end of the input leaves: whether an O was accepted, and how many bytes are printed to the start of `out`.
+pub struct Printed {
+    pub started: bool,
+    pub length: usize,
 }
 
 // What a step leaves: the desk, how many bytes it read, and how many it printed to the start of `out`.
@@ -52,7 +57,8 @@ pub fn step(
     rows: &mut RowMemory,
     out: &mut Text,
 ) -> Progress
-    ensures { λ r. ⌜ Stepped (state desk (now (numbers .entry)) (now (book .entry))) (now (bytes .entry)) (state (r .desk) (now (numbers .exit)) (now (book .exit))) (r .used) (take (r .length) (now (out .exit))) ⌝ }
+    ensures { λ r. ⌜ Stepped (state desk (now (numbers .entry)) (now (book .entry))) (now (bytes .entry))
+        (state (r .desk) (now (numbers .exit)) (now (book .exit))) (r .used) (take (r .length) (now (out .exit))) ⌝ }
     ensures { λ r. ⌜ r .length ≤ 95256 ⌝ }
 {
     let end = line_end(bytes);
@@ -85,7 +91,8 @@ pub fn end(
     rows: &mut RowMemory,
     out: &mut Text,
 ) -> Printed
-    ensures { λ r. ⌜ Ended (state desk (now (numbers .entry)) (now (book .entry))) (r .started) (now (book .exit)) (take (r .length) (now (out .exit))) ⌝ }
+    ensures { λ r. ⌜ Ended (state desk (now (numbers .entry)) (now (book .entry)))
+        (r .started) (now (book .exit)) (take (r .length) (now (out .exit))) ⌝ }
     ensures { λ r. ⌜ r .length ≤ 95256 ⌝ }
 {
     let reading = desk.reading;

@@ -93,6 +93,7 @@ fn answer_all(numbers: &mut Numbers, book: &mut BookMemory, rows: &mut RowMemory
     io::write_all(STDOUT_FILENO, first(out, length));
 }
 
+// What it leaves is what `answer_all` ensures: an entry function takes no clause.
 fn main() {
     let mut numbers = [0u64; 27];
     let mut book = [0u64; 9648];

@@ -41,7 +41,10 @@ write-all-requires : tie.Need-write-all-requires Inv-loop μ-loop
 write-all-requires c κs = search needs
 
 returns : tie.Need-returns Inv-loop μ-loop
-returns c = read-all _ _ _ _ _ _ (c .before .before .before .before .before .before .before .before .before .before .loop .inv) (c .before .before .before .before .«end» .ensures .0)
+returns c =
+    let c4 = c .before .before .before .before in
+    let c10 = c4 .before .before .before .before .before .before in
+    read-all _ _ _ _ _ _ (c10 .loop .inv) (c4 .«end» .ensures .0)
 
 pub answer-all-spec : {M : Type 1} → statement M
 answer-all-spec =

@@ -1,5 +1,5 @@
 -- `answer_piece`: each step goes on where the last one stopped, until the piece is passed.
-use Prim.Native.Nat.{_+_, _-_, _≤_, _<_}
+use Prim.Native.Nat.{_-_}
 use native.Mathlib.Omega.{arith}
 use lib.ListN.{length}
 use Rattle.lines.specs.Stepping.{state}
@@ -13,11 +13,6 @@ Inv-loop piece numbers₀ book₀ rows₀ out₀ held₀ from₀ numbers book ro
 
 abbrev μ-loop : tie.MeasureT-loop
 μ-loop piece numbers₀ book₀ rows₀ out₀ held₀ from₀ numbers book rows out held from = length piece - from
-
--- a step reads something, and no more than is left
-reads-some : (c : tie.After-struct-known Inv-loop μ-loop)
-    → (0 < c .before .before .before .before .before .before .step .result .used) × (c .before .before .before .before .before .before .before .before .before .before .before .before .before .loop .from + c .before .before .before .before .before .before .step .result .used ≤ length (c .before .before .before .before .before .before .before .before .before .before .before .before .before .before .before .args .piece .now))
-reads-some c = step-used (c .before .before .before .before .before .before .before .before .before .before .before .before .before .before .before .args .piece .now) (c .before .before .before .before .before .before .before .before .before .before .before .before .before .loop .from) _ _ (c .before .before .before .before .before .before .step .result .used) _ (omega arith) (c .before .before .before .before .before .before .step .ensures .0)
 
 loop-holds : tie.Need-loop-holds Inv-loop μ-loop
 loop-holds c = passing-none _ _
@@ -41,13 +36,27 @@ write-all-requires : tie.Need-write-all-requires Inv-loop μ-loop
 write-all-requires c κs = search needs
 
 add-from : tie.Need-add-from Inv-loop μ-loop
-add-from c = let u = reads-some c in omega arith
+add-from c =
+    let piece = c .before .before .before .before .before .before .before .before .before .before .before .before .before .before .before .args .piece .now in
+    let some = c .before .before .before .before .before .before .before .before .before .before .before .before .loop-test .taken in
+    let p = c .before .before .before .before .before .before .step .ensures .0 in
+    let u = step-used piece _ _ _ (c .before .before .before .before .before .before .step .result .used) _ some p in
+    omega arith
 
 loop-less : tie.Need-loop-less Inv-loop μ-loop
-loop-less c = let u = reads-some c in omega arith
+loop-less c =
+    let piece = c .before .before .before .before .before .before .before .before .before .before .before .before .before .before .before .args .piece .now in
+    let some = c .before .before .before .before .before .before .before .before .before .before .before .before .loop-test .taken in
+    let p = c .before .before .before .before .before .before .step .ensures .0 in
+    let u = step-used piece _ _ _ (c .before .before .before .before .before .before .step .result .used) _ some p in
+    omega arith
 
 loop-again : tie.Need-loop-again Inv-loop μ-loop
-loop-again c = passing-more _ _ _ _ _ _ _ _ (c .before .before .before .before .before .before .before .before .before .before .before .before .before .loop .inv) (lent (c .before .before .before .before .before .before .before .before .before .before .before .before .before .before .before .args .piece .now) (c .before .before .before .before .before .before .before .before .before .before .before .before .before .loop .from)) (c .before .before .before .before .before .before .step .ensures .0)
+loop-again c =
+    let c6 = c .before .before .before .before .before .before in
+    let c13 = c6 .before .before .before .before .before .before .before in
+    let c15 = c13 .before .before in
+    passing-more _ _ _ _ _ _ _ _ (c13 .loop .inv) (lent (c15 .args .piece .now) (c13 .loop .from)) (c6 .step .ensures .0)
 
 returns : tie.Need-returns Inv-loop μ-loop
 returns c = passing-all _ _ _ _ (c .before .loop .inv) (omega arith)

@@ -30,8 +30,11 @@ same-length-2 c = search needs
 
 returns : tie.Need-returns
 returns c =
+    let i = c .before .before .before .before in
+    let s = i .before .before .before .before .before .before .before in
+    let w = beyond-down _ (s .pre .1) _ _ (sym (i .before .is-beyond .ensures) ∙ i .if1 .taken) in
     let d = c .before .before .turn-down .ensures in
-    (turned-down _ _ _ _ _ (beyond-down _ (c .before .before .before .before .before .before .before .before .before .before .before .pre .1) _ _ (sym (c .before .before .before .before .before .is-beyond .ensures) ∙ c .before .before .before .before .if1 .taken)) (d .0) (d .1), d .2)
+    (turned-down _ _ _ _ _ w (d .0) (d .1), d .2)
 
 make-call-requires : tie.Need-make-call-requires
 make-call-requires c κs = search needs
@@ -53,13 +56,14 @@ same-length-5 c = search needs
 
 returns-2 : tie.Need-returns-2
 returns-2 c =
-    let t = c .before .before .before .before .before .before .told-by .ensures in
-    let s = c .before .before .before .before .before .before .before .before .before .before .before .before .before .before .before in
-    let p = s .before .before .before .before .before .before .pre in (
-      call-no _ _ _ _ _ _ (c .before .before .before .before .before .before .before .before .before .before .before .make-call .ensures) (p .1) (p .0 .1) (within-taken _ (p .1) _ _ (sym (s .is-beyond .ensures) ∙ c .before .before .before .before .before .before .before .before .before .before .before .before .before .before .if1 .left))
-          _ _ (t .0) (c .before .before .before .before .if2 .taken) (c .before .before .print-no .ensures .0),
-      omega arith,
-    )
+    let j = c .before .before .before .before in
+    let t = j .before .before .told-by .ensures in
+    let k = j .before .before .before .before .before .before .before in
+    let i = k .before .before .before in
+    let p = i .before .before .before .before .before .before .before .pre in
+    let w = within-taken _ (p .1) _ _ (sym (i .before .is-beyond .ensures) ∙ i .if1 .left) in
+    let n = c .before .before .print-no .ensures in
+    (call-no _ _ _ _ _ _ (k .make-call .ensures) (p .1) (p .0 .1) w _ _ (t .0) (j .if2 .taken) (n .0), omega arith)
 
 print-ok-requires : tie.Need-print-ok-requires
 print-ok-requires c κs = let w : 6 * (c .before .before .before .before .told-by .result .count) ≤ 4464 = fits c in omega arith
@@ -75,13 +79,15 @@ same-length-8 c = search needs
 
 returns-3 : tie.Need-returns-3
 returns-3 c =
-    let t = c .before .before .before .before .before .before .before .told-by .ensures in
-    let s = c .before .before .before .before .before .before .before .before .before .before .before .before .before .before .before .before in
-    let p = s .before .before .before .before .before .before .pre in (
-      call-ok _ _ _ _ _ _ (c .before .before .before .before .before .before .before .before .before .before .before .before .make-call .ensures) (p .1) (p .0 .1) (within-taken _ (p .1) _ _ (sym (s .is-beyond .ensures) ∙ c .before .before .before .before .before .before .before .before .before .before .before .before .before .before .before .if1 .left))
-          _ _ _ _ (t .0) (c .before .before .before .before .before .if2 .left) (t .1) (t .2) (c .before .before .print-ok .ensures .0),
-      let w = fits (c .before .before .before) in omega arith,
-    )
+    let j = c .before .before .before .before .before in
+    let t = j .before .before .told-by .ensures in
+    let k = j .before .before .before .before .before .before .before in
+    let i = k .before .before .before in
+    let p = i .before .before .before .before .before .before .before .pre in
+    let w = within-taken _ (p .1) _ _ (sym (i .before .is-beyond .ensures) ∙ i .if1 .left) in
+    let n = c .before .before .print-ok .ensures in
+    let f = fits (c .before .before .before) in
+    (call-ok _ _ _ _ _ _ (k .make-call .ensures) (p .1) (p .0 .1) w _ _ _ _ (t .0) (j .if2 .left) (t .1) (t .2) (n .0), omega arith)
 
 pub answer-call-spec : {M : Type 1} → statement M
 answer-call-spec =

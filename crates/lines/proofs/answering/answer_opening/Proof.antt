@@ -43,7 +43,10 @@ same-length-3 c = search needs
 returns-2 : tie.Need-returns-2
 returns-2 c =
     let t = c .before .before .before .before .before .before .told-by .ensures in
-    (opening-no _ _ _ _ _ _ _ (c .before .before .before .before .before .before .before .before .before .«open» .ensures) (omega arith) (omega arith) _ _ (t .0) (c .before .before .before .before .if2 .taken) (c .before .before .print-no .ensures .0), omega arith)
+    let i = c .before .before .before .before .if2 .taken in
+    let o = c .before .before .before .before .before .before .before .before .before .«open» .ensures in
+    let p = c .before .before .print-no .ensures in
+    (opening-no _ _ _ _ _ _ _ o (omega arith) (omega arith) _ _ (t .0) i (p .0), omega arith)
 
 print-ok-requires : tie.Need-print-ok-requires
 print-ok-requires c κs = search needs
@@ -57,7 +60,10 @@ same-length-5 c = search needs
 returns-3 : tie.Need-returns-3
 returns-3 c =
     let t = c .before .before .before .before .before .before .told-by .ensures in
-    (opening-ok _ _ _ _ _ _ _ (c .before .before .before .before .before .before .before .before .before .«open» .ensures) (omega arith) (omega arith) _ _ _ _ (t .0) (c .before .before .before .before .if2 .left) (t .1) (c .before .before .print-ok .ensures .0), omega arith)
+    let i = c .before .before .before .before .if2 .left in
+    let o = c .before .before .before .before .before .before .before .before .before .«open» .ensures in
+    let p = c .before .before .print-ok .ensures in
+    (opening-ok _ _ _ _ _ _ _ o (omega arith) (omega arith) _ _ _ _ (t .0) i (t .1) (p .0), omega arith)
 
 pub answer-opening-spec : {M : Type 1} → statement M
 answer-opening-spec =

@@ -101,7 +101,10 @@ same-length-2 : tie.Need-same-length-2
 same-length-2 c = search needs
 
 returns-2 : tie.Need-returns-2
-returns-2 c = made-offer _ _ _ _ _ _ _ (c .before .before .before .before .before .before .before .before .match .keys2) (amounts-behind (c .before .before .before .before .before .before .before .before .before .before .before .before .args .numbers .now) (c .before .before .before .before .before .before .before .before .before .before .before .before .pre .0)) (c .before .before .offer .ensures)
+returns-2 c =
+    let c8 = c .before .before .before .before .before .before .before .before in
+    let c12 = c8 .before .before .before .before in
+    made-offer _ _ _ _ _ _ _ (c8 .match .keys2) (amounts-behind (c12 .args .numbers .now) (c12 .pre .0)) (c .before .before .offer .ensures)
 
 same-length-3 : tie.Need-same-length-3
 same-length-3 c = search needs
@@ -110,7 +113,11 @@ same-length-4 : tie.Need-same-length-4
 same-length-4 c = search needs
 
 returns-3 : tie.Need-returns-3
-returns-3 c = made-take _ _ _ _ _ _ _ (c .before .before .before .before .before .before .before .before .before .before .before .before .before .before .pre .1) (c .before .before .before .before .before .before .before .before .before .before .match .keys3) (c .before .before .before .before .take .ensures)
+returns-3 c =
+    let c4 = c .before .before .before .before in
+    let c10 = c4 .before .before .before .before .before .before in
+    let c14 = c10 .before .before .before .before in
+    made-take _ _ _ _ _ _ _ (c14 .pre .1) (c10 .match .keys3) (c4 .take .ensures)
 
 same-length-5 : tie.Need-same-length-5
 same-length-5 c = search needs
@@ -125,7 +132,11 @@ same-length-7 : tie.Need-same-length-7
 same-length-7 c = search needs
 
 returns-5 : tie.Need-returns-5
-returns-5 c = made-order _ _ _ _ _ _ _ (c .before .before .before .before .before .before .before .before .before .before .before .before .before .before .before .before .pre .1) (c .before .before .before .before .before .before .before .before .before .before .before .before .match .keys5) (c .before .before .before .before .order .ensures)
+returns-5 c =
+    let c4 = c .before .before .before .before in
+    let c12 = c4 .before .before .before .before .before .before .before .before in
+    let c16 = c12 .before .before .before .before in
+    made-order _ _ _ _ _ _ _ (c16 .pre .1) (c12 .match .keys5) (c4 .order .ensures)
 
 same-length-8 : tie.Need-same-length-8
 same-length-8 c = search needs
@@ -140,13 +151,21 @@ same-length-10 : tie.Need-same-length-10
 same-length-10 c = search needs
 
 returns-7 : tie.Need-returns-7
-returns-7 c = made-clear _ _ _ _ _ _ _ (c .before .before .before .before .before .before .before .before .before .before .before .pre .1) (c .before .before .before .before .before .before .before .match .keys7) (c .before .before .before .before .clear .ensures)
+returns-7 c =
+    let c4 = c .before .before .before .before in
+    let c7 = c4 .before .before .before in
+    let c11 = c7 .before .before .before .before in
+    made-clear _ _ _ _ _ _ _ (c11 .pre .1) (c7 .match .keys7) (c4 .clear .ensures)
 
 same-length-11 : tie.Need-same-length-11
 same-length-11 c = search needs
 
 returns-8 : tie.Need-returns-8
-returns-8 c = let r = c .before .before .before .before .match .rest in made-close _ _ _ _ _ _ (r .0 .0 .0 .0 .0 .0 .1) (r .0 .0 .0 .0 .0 .1) (r .0 .0 .0 .0 .1) (r .0 .0 .0 .1) (r .0 .0 .1) (r .0 .1) (r .1) (c .before .before .close .ensures)
+returns-8 c =
+    let c4 = c .before .before .before .before in
+    let r = c4 .match .rest in
+    made-close _ _ _ _ _ _ (r .0 .0 .0 .0 .0 .0 .1) (r .0 .0 .0 .0 .0 .1) (r .0 .0 .0 .0 .1) (r .0 .0 .0 .1) (r .0 .0 .1) (r .0 .1) (r .1)
+    (c .before .before .close .ensures)
 
 pub make-call-spec : {M : Type 1} → statement M
 make-call-spec =

@@ -20,7 +20,12 @@ same-length : tie.Need-same-length
 same-length c = search needs
 
 returns : tie.Need-returns
-returns c = no-printed _ _ _ _ (put-head _ _ _ _ _ _ _ _ _ _ _ _ (c .before .before .before .before .before .before .before .before .before .before .before .before .before .before .put-byte .ensures) (c .before .before .before .before .before .before .before .before .before .before .put-byte2 .ensures) (c .before .before .before .before .before .before .put-field .ensures) (c .before .before .put-byte3 .ensures))
+returns c =
+    let c6 = c .before .before .before .before .before .before in
+    let c10 = c6 .before .before .before .before in
+    let c14 = c10 .before .before .before .before in
+    no-printed _ _ _ _ (put-head _ _ _ _ _ _ _ _ _ _ _ _ (c14 .put-byte .ensures) (c10 .put-byte2 .ensures) (c6 .put-field .ensures)
+    (c .before .before .put-byte3 .ensures))
 
 pub print-no-spec : {M : Type 1} → statement M
 print-no-spec =

@@ -23,7 +23,13 @@ same-length : tie.Need-same-length
 same-length c = search needs
 
 returns : tie.Need-returns
-returns c = ok-printed _ _ _ _ _ _ _ _ (put-head _ _ _ _ _ _ _ _ _ _ _ _ (c .before .before .before .before .before .before .before .before .before .before .before .before .before .before .before .before .before .before .put-byte .ensures) (c .before .before .before .before .before .before .before .before .before .before .before .before .before .before .put-byte2 .ensures) (c .before .before .before .before .before .before .before .before .before .before .put-field .ensures) (c .before .before .before .before .before .before .put-byte3 .ensures)) (c .before .before .put-rows .ensures)
+returns c =
+    let c6 = c .before .before .before .before .before .before in
+    let c10 = c6 .before .before .before .before in
+    let c14 = c10 .before .before .before .before in
+    let c18 = c14 .before .before .before .before in
+    ok-printed _ _ _ _ _ _ _ _ (put-head _ _ _ _ _ _ _ _ _ _ _ _ (c18 .put-byte .ensures) (c14 .put-byte2 .ensures) (c10 .put-field .ensures)
+    (c6 .put-byte3 .ensures)) (c .before .before .put-rows .ensures)
 
 pub print-ok-spec : {M : Type 1} → statement M
 print-ok-spec =

@@ -26,7 +26,9 @@ same-length : tie.Need-same-length
 same-length c = search needs
 
 returns : tie.Need-returns
-returns c = put-number _ _ (c .before .before .before .before .before .before .before .spell .last .1 .0) _ (c .before .before .before .before .before .before .before .spell .result) _ _ (c .before .before .before .before .before .before .before .spell .kept .1 .0) (c .before .before .before .before .before .before .before .spell .ensures .0) (c .before .before .put-text .ensures)
+returns c =
+    let c7 = c .before .before .before .before .before .before .before in
+    put-number _ _ (c7 .spell .last .1 .0) _ (c7 .spell .result) _ _ (c7 .spell .kept .1 .0) (c7 .spell .ensures .0) (c .before .before .put-text .ensures)
 
 pub put-number-spec : {M : Type 1} → statement M
 put-number-spec =

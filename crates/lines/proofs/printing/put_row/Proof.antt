@@ -17,7 +17,11 @@ same-length : tie.Need-same-length
 same-length c = search needs
 
 returns : tie.Need-returns
-returns c = put-row _ _ _ _ _ _ _ _ _ (c .before .before .before .before .before .before .before .before .before .before .before .before .before .before .pre .1) (c .before .before .before .before .before .before .before .before .before .before .put-byte .ensures) (c .before .before .before .before .before .before .put-fields .ensures) (c .before .before .put-byte2 .ensures)
+returns c =
+    let c6 = c .before .before .before .before .before .before in
+    let c10 = c6 .before .before .before .before in
+    let c14 = c10 .before .before .before .before in
+    put-row _ _ _ _ _ _ _ _ _ (c14 .pre .1) (c10 .put-byte .ensures) (c6 .put-fields .ensures) (c .before .before .put-byte2 .ensures)
 
 pub put-row-spec : {M : Type 1} → statement M
 put-row-spec =

@@ -43,7 +43,12 @@ loop-less : tie.Need-loop-less Inv-loop μ-loop
 loop-less c = search needs
 
 loop-again : tie.Need-loop-again Inv-loop μ-loop
-loop-again c = rowed-more _ _ _ _ _ _ _ _ _ _ (c .before .before .before .before .before .loop-test .taken) (part-six (c .before .before .before .before .before .before .loop .k) (c .before .before .before .before .before .before .before .before .before .args .rows .now)) (c .before .before .before .before .before .before .loop .inv) (c .before .before .put-row .ensures)
+loop-again c =
+    let c5 = c .before .before .before .before .before in
+    let c6 = c5 .before in
+    let c9 = c6 .before .before .before in
+    rowed-more _ _ _ _ _ _ _ _ _ _ (c5 .loop-test .taken) (part-six (c6 .loop .k) (c9 .args .rows .now)) (c6 .loop .inv)
+    (c .before .before .put-row .ensures)
 
 same-length : tie.Need-same-length Inv-loop μ-loop
 same-length c = search needs

@@ -32,7 +32,10 @@ same-length : tie.Need-same-length
 same-length c = search needs
 
 returns : tie.Need-returns
-returns c = rw (c .before .before .before .before .before .before .reading3 .given .1, c .before .before .before .before .if1 .taken) (c .before .before .after-number .ensures)
+returns c =
+    let c4 = c .before .before .before .before in
+    let c6 = c4 .before .before in
+    rw (c6 .reading3 .given .1, c4 .if1 .taken) (c .before .before .after-number .ensures)
 
 after-digit-requires : tie.Need-after-digit-requires
 after-digit-requires c κs = search needs

@@ -29,7 +29,10 @@ loop-less : tie.Need-loop-less Inv-loop μ-loop
 loop-less c = search needs
 
 loop-again : tie.Need-loop-again Inv-loop μ-loop
-loop-again c = going-more _ _ _ _ _ _ _ _ (c .before .before .before .before .before .before .loop .inv) (c .before .before .before .before .before .loop-test .taken) (c .before .before .read-byte .ensures) (c .before .before .read-byte .kept .1 .1 .0)
+loop-again c =
+    let c5 = c .before .before .before .before .before in
+    let c6 = c5 .before in
+    going-more _ _ _ _ _ _ _ _ (c6 .loop .inv) (c5 .loop-test .taken) (c .before .before .read-byte .ensures) (c .before .before .read-byte .kept .1 .1 .0)
 
 same-length : tie.Need-same-length Inv-loop μ-loop
 same-length c = search needs

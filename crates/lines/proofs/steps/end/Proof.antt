@@ -18,8 +18,9 @@ answer-requires c κs = search needs
 
 returns-2 : tie.Need-returns-2
 returns-2 c =
+    let i = c .before .before .before .before .before in
     let a = c .answer .ensures in
-    (ended-last _ _ _ _ _ _ (sym (c .before .before .before .before .before .before .has-begun .ensures) ∙ not-false _ (c .before .before .before .before .before .if1 .left)) (a .0), a .1)
+    (ended-last _ _ _ _ _ _ (sym (i .before .has-begun .ensures) ∙ not-false _ (i .if1 .left)) (a .0), a .1)
 
 pub end-spec : {M : Type 1} → statement M
 end-spec = tie.close (tie.spec has-begun-requires returns answer-requires returns-2)

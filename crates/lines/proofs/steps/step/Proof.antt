@@ -30,9 +30,11 @@ add-t16 c = let w = until-within (c .before .before .before .before .before .bef
 
 returns-2 : tie.Need-returns-2
 returns-2 c =
-    let e = c .before .before .before .before .before .before .before .before .before .line-end .ensures in
+    let i = c .before .before .before .before .before in
+    let r = i .before .read-bytes .ensures in
+    let e = i .before .before .before .before .line-end .ensures in
     let a = c .answer .ensures in
-    (stepped-line _ _ _ _ _ _ _ e (c .before .before .before .before .before .before .read-bytes .ensures) _ _ _ _ (c .before .before .before .before .before .if1 .left) (a .0), a .1)
+    (stepped-line _ _ _ _ _ _ _ e r _ _ _ _ (i .if1 .left) (a .0), a .1)
 
 pub step-spec : {M : Type 1} → statement M
 step-spec =
