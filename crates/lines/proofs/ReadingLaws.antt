@@ -201,6 +201,27 @@ module _ (ns : List ℕ) (l n v : ℕ) where
   unfolding restOf firstField otherFields numbered isNumber
   space-unknown = refl
 
+-- a count or a value that no line yields says nothing that is understood, whatever follows
+module _ (l n v : ℕ) (ns more : List ℕ) where
+  pub space-beyond : 27 ≤ n → length ns ≡ 27 → restOf (Space l n) ns more ≡ unknown
+  unfolding restOf numbered values
+  space-beyond h e =
+      let k = length-take n ns in
+      many ns l n v (every isNumber (firstField more ∷ otherFields more)) (valueFrom 0 (firstField more) ∷ values (otherFields more)) (omega arith)
+
+  pub digits-beyond : 27 ≤ n → length ns ≡ 27 → restOf (Digits l n v) ns more ≡ unknown
+  unfolding restOf
+  digits-beyond h e =
+      let k = length-take n ns in
+      many ns l n v (goesOn v (firstField more) && every isNumber (otherFields more)) (valueFrom v (firstField more) ∷ values (otherFields more)) (omega arith)
+
+  pub value-beyond : 4_294_967_296 ≤ v → restOf (Digits l n v) ns more ≡ unknown
+  unfolding restOf goesOn
+  value-beyond h =
+      let g = value-grows v (firstField more) in
+      broken ns 0 l n v (firstField more) (otherFields more)
+      (and-right-false (every isDigit (firstField more)) _ (le-ltb (valueFrom v (firstField more)) 4_294_967_296 (omega arith)))
+
 pub lost-stays : (ns : List ℕ) (b : ℕ) → ReadsOn Lost ns (b ∷ []) Lost ns
 unfolding restOf
 lost-stays ns b = record { rest = λ more. refl; begins = refl }

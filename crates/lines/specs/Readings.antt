@@ -11,7 +11,7 @@ use Rattle.lines.specs.declared.reading.Reading.the-variants.{Start, Let
 use Rattle.lines.specs.Lines.{Line, unknown, firstField, otherFields, valueFrom, goesOn, isNumber, values, called, numbered, lettered, parse}
 
 -- what the line says if `more` follows; the first numbers of ns are those of the line. A count of 27 or more, or a value of
--- 2^32 or more, which no line yields, says nothing that is understood.
+-- 2^32 or more, which no line yields, says nothing that is understood (laws `space-beyond`, `digits-beyond`, `value-beyond`).
 unfoldable pub restOf : Reading → List ℕ → List ℕ → Line
 restOf Start ns more = parse more
 restOf (Letter l) ns more = lettered (l ∷ firstField more) (otherFields more)
