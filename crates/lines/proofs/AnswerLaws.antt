@@ -1,29 +1,33 @@
 -- Laws of answering a line.
-use Prim.Native.Nat.{ℕ, zero, suc, _+_, _-_, _*_, _≤_, _<_}
-use mathlib.Core.Path.{_≡_, refl, sym, ap, _∙_}
-use mathlib.Core.Bool.{Bool, true, false, cond, _&&_, _||_}
-use mathlib.Core.List.{List, [], _∷_, _++_, append-nil}
+use Prim.Native.Nat.{ℕ, _+_, _-_, _*_, _≤_, _<_}
+use mathlib.Core.Path.{_≡_, refl, sym, ap, ap₂, _∙_}
+use mathlib.Core.Bool.{Bool, true, false, cond, _&&_}
+use mathlib.Core.List.{List, [], _∷_, _++_}
 use native.Mathlib.Omega.{arith}
-use borrow.Author.Tests.{eq-eqb, ne-eqb, eqb-true, lt-ltb, le-ltb}
-use lib.Dec.{eqb, leb, ltb}
+use native.Mathlib.Decide.{ℕ-discrete}
+use borrow.Author.Tests.{eq-eqb, ne-eqb, eqb-true, lt-ltb, le-ltb, le-leb}
+use lib.Dec.{eqb, leb}
 use lib.ListN.{length, getD, take, drop, length-append, length-take, length-drop}
 use lib.Seq.{take-all, getD-take}
-use Rattle.measures.proofs.ListLaws.{both-ways, table-length}
+use Rattle.measures.proofs.ListLaws.{table-length}
 use Rattle.matching.specs.Orders.{Row}
-use Rattle.matching.specs.Memory.{flatRow, flat, written}
-use Rattle.matching.proofs.laws.orders.RowLaws.{flat-length, written-none}
-use Rattle.book.specs.Book.{rulesOf, Book}
+use Rattle.matching.specs.Memory.{flat, written}
+use Rattle.matching.proofs.RowLaws.{flat-length, written-none}
+use Rattle.book.specs.Book.{Rules, rulesOf, Book}
 use Rattle.book.specs.Refusals.{Outcome}
 use Rattle.book.specs.declared.Answer.{Answer}
-use Rattle.book.specs.Layout.{decode}
-use Rattle.book.specs.Opening.{fresh, openingRefusal}
-use Rattle.book.specs.Calls.{Call, callEnrol, callOffer, callTake, callWithdraw, callOrder, callCancel, callClear, callClose}
+use Rattle.book.specs.Layout.{word, decode}
+use Rattle.book.specs.Opening.{bookWords, fresh, openingRefusal}
+use Rattle.book.specs.Calls.{Call, callEnrol, callOffer, callTake, callWithdraw, callOrder, callCancel, callClear, callClose, outcome}
 use Rattle.book.specs.Contract.{Told, Made, Opened, toldBy, outcomeOn}
+use Rattle.book.proofs.OpeningLaws.{no-such-days}
 use Rattle.lines.specs.Lines.{Line, unknown, opening, calling, countOf, isCall, callOf, lineOf, called}
-use Rattle.lines.specs.Printed.{spaced, printedRows, printedOk, printedNo}
-use Rattle.lines.specs.Puts.{rowsText, okText}
-use Rattle.lines.specs.Answers.{Said, notTaken, said, isEnrol, openedOn, saidTo, printed, accepts, bookAfter, Answered}
+use Rattle.lines.specs.Printed.{printedRows, printedOk, printedNo}
+use Rattle.lines.specs.inner.Puts.{rowsText, okText}
+use Rattle.lines.specs.Answers.{Stands, noBook, standing, refuses, accepts, isEnrol, given, openingSaid, callSaid, saidTo, after, printed}
+use Rattle.lines.specs.Stepping.{standsIn, Answered}
 use Rattle.lines.proofs.PuttingLaws.{rows-printed}
+use Rattle.book.proofs.laws.answer.RulesLaws.{rules-stay}
 
 -- a call that hands back no rows leaves lent rows as they are
 flat-none : (rs : List Row) (d : List ℕ) → [] ≡ flat rs ++ d → rs ≡ []
@@ -84,8 +88,7 @@ module _ (l n : ℕ) (ns : List ℕ) (e : n ≡ countOf l) (long : length ns ≡
         number-kept 5 1 h (omega arith),
         number-kept 5 2 h (omega arith),
         number-kept 5 3 h (omega arith),
-        number-kept 5
-            4 h (omega arith),
+        number-kept 5 4 h (omega arith),
       )
 
   counts : (k : ℕ) → eqb l k ≡ true → countOf l ≡ countOf k
@@ -145,8 +148,8 @@ count-none l a b c d e f g = rw (ne-eqb l 79 a, ne-eqb l 69 b, ne-eqb l 76 c, ne
 pub call-is : (l k : ℕ) → l ≡ k → isCall k ≡ isCall l
 call-is l k e = ap isCall (sym e)
 
-pub call-none : (l : ℕ) → (l ≡ 69 → ⊥) → (l ≡ 76 → ⊥) → (l ≡ 84 → ⊥) → (l ≡ 87 → ⊥) → (l ≡ 82 → ⊥) → (l ≡ 88 → ⊥) → (l ≡ 67 → ⊥) → (l ≡ 68 → ⊥) → false
-    ≡ isCall l
+pub call-none : (l : ℕ) → (l ≡ 69 → ⊥) → (l ≡ 76 → ⊥) → (l ≡ 84 → ⊥) → (l ≡ 87 → ⊥) → (l ≡ 82 → ⊥) → (l ≡ 88 → ⊥) → (l ≡ 67 → ⊥) → (l ≡ 68 → ⊥)
+    → false ≡ isCall l
 unfolding isCall
 call-none l a b c d e f g h = rw (ne-eqb l 69 a, ne-eqb l 76 b, ne-eqb l 84 c, ne-eqb l 87 d, ne-eqb l 82 e, ne-eqb l 88 f, ne-eqb l 67 g, ne-eqb l 68 h)
 
@@ -176,8 +179,7 @@ module _ (l : ℕ) (ns m rows : List ℕ) (a : Answer) (m′ : List ℕ) where
       rw (ne-eqb l 69 e₁, ne-eqb l 76 e₂, ne-eqb l 84 e₃, ne-eqb l 87 e₄, ne-eqb l 82 e₅, ne-eqb l 88 e₆, ne-eqb l 67 e₇) (made-beside m rows callClose a m′ f)
 
   module _ (rows′ : List ℕ) (lent : length rows ≡ 4_464) where
-    pub made-take : l ≡ 84 → Made m rows (callTake (getD ns 0 0) (getD ns 1 0) (getD ns 2 0) (length rows)) a m′ rows′
-        → Made m rows (callOf l ns) a m′ rows′
+    pub made-take : l ≡ 84 → Made m rows (callTake (getD ns 0 0) (getD ns 1 0) (getD ns 2 0) (length rows)) a m′ rows′ → Made m rows (callOf l ns) a m′ rows′
     unfolding callOf
     made-take e f = rw e (rw lent at f)
 
@@ -220,70 +222,117 @@ enrol-letter l ns =
     (other-call (eqb l 88) _ _ refl
     (other-call (eqb l 67) _ _ refl refl))))))
 
+-- which book stands
+pub has-none : (started : Bool) (m : List ℕ) → started ≡ false → false ≡ (started && eqb (word m 0) 1)
+has-none started m e = rw e
+
+pub has-one : (started : Bool) (m : List ℕ) → started ≡ true → eqb (word m 0) 1 ≡ (started && eqb (word m 0) 1)
+has-one started m e = rw e
+
+pub no-book : (started : Bool) (m : List ℕ) → (started && eqb (word m 0) 1) ≡ false → standsIn started m ≡ noBook
+unfolding standsIn
+no-book started m e = rw e
+
+both-true : (a b : Bool) → (a && b) ≡ true → (a ≡ true) × (b ≡ true)
+both-true true b e = (refl, e)
+both-true false b e = let z : _≡_ {A = ℕ} 0 1 = cc in absurd (omega arith)
+
+pub has-started : (started : Bool) (m : List ℕ) → (started && eqb (word m 0) 1) ≡ true → started ≡ true
+has-started started m e = both-true started (eqb (word m 0) 1) e .0
+
+pub has-day : (started : Bool) (m : List ℕ) → (started && eqb (word m 0) 1) ≡ true → word m 0 ≡ 1
+has-day started m e = eqb-true (word m 0) 1 (both-true started (eqb (word m 0) 1) e .1)
+
+pub a-book : (m : List ℕ) → word m 0 ≡ 1 → standsIn true m ≡ standing (decode m)
+unfolding standsIn
+a-book m e = rw (eq-eqb (word m 0) 1 e)
+
+days-held : (m : List ℕ) → word m 0 ≡ decode m .rules .days
+unfolding decode
+days-held m = refl
+
+-- the book after an accepted line has one day
+book-held : (m : List ℕ) (b : Book) → decode m ≡ b → b .rules .days ≡ 1 → standsIn true m ≡ standing b
+book-held m b e d = a-book m (days-held m ∙ ap (λ (x : Book). x .rules .days) e ∙ d) ∙ ap standing e
+
 -- what a line is told
-module _ (started : Bool) (m : List ℕ) where
-  pub unknown-down : (line : Line) → line ≡ unknown → saidTo started m line ≡ notTaken
+module _ (s : Stands) where
+  pub unknown-down : (line : Line) → line ≡ unknown → saidTo s line ≡ refuses 0
   unfolding saidTo
   unknown-down line e = rw e
 
-  pub days-down : (days floor ceiling : ℕ) → 1 < days → saidTo started m (opening days floor ceiling) ≡ notTaken
-  unfolding saidTo
+  pub days-down : (days floor ceiling : ℕ) → 1 < days → saidTo s (opening days floor ceiling) ≡ refuses 0
+  unfolding saidTo openingSaid
   days-down days floor ceiling h = rw (lt-ltb 1 days h)
 
-  pub days-taken : (days floor ceiling : ℕ) → days ≤ 1 → saidTo started m (opening days floor ceiling) ≡ said (openedOn m days floor ceiling)
-  unfolding saidTo
-  days-taken days floor ceiling h = rw (le-ltb 1 days h)
+  module _ (days floor ceiling : ℕ) (up : days ≤ 1) where
+    opening-refuses : (openingRefusal (bookWords 1) (rulesOf days floor ceiling) ≡ 0 → ⊥)
+        → saidTo s (opening days floor ceiling) ≡ refuses (openingRefusal (bookWords 1) (rulesOf days floor ceiling))
+    unfolding saidTo openingSaid
+    opening-refuses ne = rw (le-ltb 1 days up) (rw (ne-eqb (openingRefusal (bookWords 1) (rulesOf days floor ceiling)) 0 ne))
 
-pub early-down : (started : Bool) (m : List ℕ) (line : Line) (c : Call) → started ≡ false → line ≡ calling c → saidTo started m line ≡ notTaken
-unfolding saidTo
-early-down started m line c s e = rw (s, e)
+    opening-accepts : openingRefusal (bookWords 1) (rulesOf days floor ceiling) ≡ 0
+        → saidTo s (opening days floor ceiling) ≡ accepts 0 [] (fresh (rulesOf days floor ceiling))
+    unfolding saidTo openingSaid
+    opening-accepts e = rw (le-ltb 1 days up) (rw (eq-eqb (openingRefusal (bookWords 1) (rulesOf days floor ceiling)) 0 e))
 
-module _ (m : List ℕ) (l : ℕ) (ns : List ℕ) where
-  pub beyond-down : (eqb l 69 && leb 8 (length (decode m .units))) ≡ true → saidTo true m (calling (callOf l ns)) ≡ notTaken
-  unfolding saidTo
-  beyond-down h = rw (enrol-letter l ns, h)
+pub early-down : (s : Stands) (line : Line) (c : Call) → s ≡ noBook → line ≡ calling c → saidTo s line ≡ refuses 0
+unfolding saidTo callSaid
+early-down s line c n e = rw (n, e)
 
-  pub within-taken : (eqb l 69 && leb 8 (length (decode m .units))) ≡ false → saidTo true m (calling (callOf l ns)) ≡ said (outcomeOn m (callOf l ns))
-  unfolding saidTo
-  within-taken h = rw (enrol-letter l ns, h)
+module _ (m : List ℕ) (day : word m 0 ≡ 1) (l : ℕ) (ns : List ℕ) where
+  pub beyond-down : (eqb l 69 && leb 8 (length (decode m .units))) ≡ true → saidTo (standsIn true m) (calling (callOf l ns)) ≡ refuses 0
+  unfolding saidTo callSaid
+  beyond-down h = rw (a-book m day) (rw (enrol-letter l ns, h))
 
--- the answer's promise, case by case
-pub turned-down : (started : Bool) (m : List ℕ) (line : Line) (started′ : Bool) (text : List ℕ) → saidTo started m line ≡ notTaken → started′ ≡ started
-    → text ≡ printedNo 0 → Answered started m line started′ m text
-unfolding printed accepts
-turned-down started m line started′ text e s t =
-    record {
-      prints = t ∙ sym (ap printed e);
-      refused = λ h. (refl, s);
-      accepted = λ h. both-ways (sym (sym (ap accepts e) ∙ h));
-    }
+  pub within-taken : (eqb l 69 && leb 8 (length (decode m .units))) ≡ false
+      → saidTo (standsIn true m) (calling (callOf l ns)) ≡ given (outcome (decode m) (callOf l ns))
+  unfolding saidTo callSaid
+  within-taken h = rw (a-book m day) (rw (enrol-letter l ns, h))
 
-module _ (started : Bool) (m : List ℕ) (line : Line) (o : Outcome) (e : saidTo started m line ≡ said o) (m′ text : List ℕ) where
-  pub said-no : (started′ : Bool) → started′ ≡ started → (o .refusal ≡ 0 → ⊥) → m′ ≡ m → text ≡ printedNo (o .refusal)
+-- the answer's promise, for `no` and for `ok`
+module _ (started : Bool) (m : List ℕ) (line : Line) (started′ : Bool) (m′ text : List ℕ) where
+  pub answered-no : (r : ℕ) → saidTo (standsIn started m) line ≡ refuses r → started′ ≡ started → m′ ≡ m → text ≡ printedNo r
       → Answered started m line started′ m′ text
-  unfolding printed accepts
-  said-no started′ s ne k t =
-      let z : eqb (o .refusal) 0 ≡ false = ne-eqb (o .refusal) 0 ne in
+  unfolding printed after
+  answered-no r e s k t =
       record {
-        prints = t ∙ sym (ap printed e ∙ rw z);
-        refused = λ h. (k, s);
-        accepted = λ h. both-ways (sym (sym (ap accepts e ∙ z) ∙ h));
+        prints = t ∙ sym (ap printed e);
+        leaves = ap₂ standsIn s k ∙ sym (ap (after (standsIn started m)) e);
+        refused = λ q h. (k, s);
       }
 
-  pub said-ok : o .refusal ≡ 0 → decode m′ ≡ o .book → text ≡ printedOk (o .number) (o .rows) → Answered started m line true m′ text
-  unfolding printed accepts bookAfter
-  said-ok y k t =
-      let z : eqb (o .refusal) 0 ≡ true = eq-eqb (o .refusal) 0 y in
+  answered-ok : (n : ℕ) (rs : List Row) (b : Book) → saidTo (standsIn started m) line ≡ accepts n rs b → standsIn started′ m′ ≡ standing b
+      → text ≡ printedOk n rs → Answered started m line started′ m′ text
+  unfolding printed after
+  answered-ok n rs b e k t =
       record {
-        prints = t ∙ sym (ap printed e ∙ rw z);
-        refused = λ h. both-ways (sym (ap accepts e ∙ z) ∙ h);
-        accepted = λ h. (k ∙ sym (ap (bookAfter (decode m)) e), refl);
+        prints = t ∙ sym (ap printed e);
+        leaves = k ∙ sym (ap (after (standsIn started m)) e);
+        refused = λ q h. let z : _≡_ {A = ℕ} 0 1 = cc in absurd (omega arith);
       }
+
+pub turned-down : (started : Bool) (m : List ℕ) (line : Line) (started′ : Bool) (text : List ℕ)
+    → saidTo (standsIn started m) line ≡ refuses 0 → started′ ≡ started → text ≡ printedNo 0 → Answered started m line started′ m text
+turned-down started m line started′ text e s t = answered-no started m line started′ m text 0 e s refl t
+
+given-no : (o : Outcome) → (o .refusal ≡ 0 → ⊥) → given o ≡ refuses (o .refusal)
+unfolding given
+given-no o ne = rw (ne-eqb (o .refusal) 0 ne)
+
+given-ok : (o : Outcome) → o .refusal ≡ 0 → given o ≡ accepts (o .number) (o .rows) (o .book)
+unfolding given
+given-ok o e = rw (eq-eqb (o .refusal) 0 e)
 
 -- rows in memory print as the outcome's rows
 ok-rows : (n k : ℕ) (rows ws : List ℕ) (rs : List Row) → k ≡ length rs → ws ≡ written rows rs → okText n k ws ≡ printedOk n rs
 unfolding okText printedOk written
 ok-rows n k rows ws rs e w = rw (e, w, rows-printed rs (drop (6 * length rs) rows))
+
+-- memory of one day is long enough
+on-book : (m : List ℕ) (c : Call) → word m 0 ≡ 1 → length m ≡ 9_648 → outcomeOn m c ≡ outcome (decode m) c
+unfolding outcomeOn
+on-book m c d l = rw (le-leb (bookWords (word m 0)) (length m) (omega arith))
 
 module _ (m rows : List ℕ) (c : Call) (a : Answer) (m′ rows′ : List ℕ) (f : Made m rows c a m′ rows′) where
   told-refusal : toldBy a .refusal ≡ outcomeOn m c .refusal
@@ -301,46 +350,65 @@ module _ (m rows : List ℕ) (c : Call) (a : Answer) (m′ rows′ : List ℕ) (
       let w = rows-fit rows (outcomeOn m c .rows) rows′ (f .handed (sym told-refusal ∙ sym e ∙ z)) same in
       omega arith
 
-  pub call-no : saidTo true m (calling c) ≡ said (outcomeOn m c) → (r : ℕ) (text : List ℕ) → r ≡ toldBy a .refusal → (r ≡ 0 → ⊥) → text ≡ printedNo r
-      → Answered true m (calling c) true m′ text
-  call-no s r text e ne t =
-      let ne′ : outcomeOn m c .refusal ≡ 0 → ⊥ = λ z. ne (e ∙ told-refusal ∙ z) in
-      said-no true m (calling c) (outcomeOn m c) s m′ text true refl ne′ (f .refused ne′ .0) (t ∙ ap printedNo (e ∙ told-refusal))
+  module _ (day : word m 0 ≡ 1) (long : length m ≡ 9_648) (s : saidTo (standsIn true m) (calling c) ≡ given (outcome (decode m) c)) where
+    said-on : saidTo (standsIn true m) (calling c) ≡ given (outcomeOn m c)
+    said-on = s ∙ ap given (sym (on-book m c day long))
 
-  pub call-ok : saidTo true m (calling c) ≡ said (outcomeOn m c) → (r n k : ℕ) (text : List ℕ) → r ≡ toldBy a .refusal → r ≡ 0 → n ≡ toldBy a .number → k
-      ≡ toldBy a .count → text ≡ okText n k rows′ → Answered true m (calling c) true m′ text
-  call-ok s r n k text e z en ek t =
-      let y : outcomeOn m c .refusal ≡ 0 = sym told-refusal ∙ sym e ∙ z in
-      said-ok true m (calling c) (outcomeOn m c) s m′ text y (f .accepted y)
-      (t ∙ ok-rows n k rows rows′ (outcomeOn m c .rows) (ek ∙ told-count) (f .handed y)
-      ∙ ap (λ (x : ℕ). printedOk x (outcomeOn m c .rows)) (en ∙ told-number))
+    after-day : outcomeOn m c .book .rules .days ≡ 1
+    after-day = ap (λ (o : Outcome). o .book .rules .days) (on-book m c day long) ∙ ap (λ (r : Rules). r .days) (rules-stay (decode m) c) ∙ sym (days-held m) ∙ day
 
-module _ (started : Bool) (m : List ℕ) (days floor ceiling : ℕ) (a : Answer) (m′ : List ℕ) (f : Opened m (rulesOf days floor ceiling) a m′) (up : days ≤ 1) where
-  opened-refusal : toldBy a .refusal ≡ openingRefusal (length m) (rulesOf days floor ceiling)
-  opened-refusal = ap (λ (t : Told). t .refusal) (f .answer)
+    pub call-no : (r : ℕ) (text : List ℕ) → r ≡ toldBy a .refusal → (r ≡ 0 → ⊥) → text ≡ printedNo r → Answered true m (calling c) true m′ text
+    call-no r text e ne t =
+        let ne′ : outcomeOn m c .refusal ≡ 0 → ⊥ = λ z. ne (e ∙ told-refusal ∙ z) in
+        answered-no true m (calling c) true m′ text (outcomeOn m c .refusal) (said-on ∙ given-no (outcomeOn m c) ne′) refl (f .refused ne′ .0)
+        (t ∙ ap printedNo (e ∙ told-refusal))
+
+    pub call-ok : (r n k : ℕ) (text : List ℕ) → r ≡ toldBy a .refusal → r ≡ 0 → n ≡ toldBy a .number → k ≡ toldBy a .count → text ≡ okText n k rows′
+        → Answered true m (calling c) true m′ text
+    call-ok r n k text e z en ek t =
+        let y : outcomeOn m c .refusal ≡ 0 = sym told-refusal ∙ sym e ∙ z in
+        let rs = outcomeOn m c .rows in
+        answered-ok true m (calling c) true m′ text (outcomeOn m c .number) rs (outcomeOn m c .book) (said-on ∙ given-ok (outcomeOn m c) y)
+        (book-held m′ (outcomeOn m c .book) (f .accepted y) after-day)
+        (t ∙ ok-rows n k rows rows′ rs (ek ∙ told-count) (f .handed y) ∙ ap (λ (x : ℕ). printedOk x rs) (en ∙ told-number))
+
+-- an accepted opening is of one day
+one-day : (days floor ceiling : ℕ) → days ≤ 1 → openingRefusal (bookWords 1) (rulesOf days floor ceiling) ≡ 0 → days ≡ 1
+one-day days floor ceiling up e = go (ℕ-discrete days 1)
+  where
+    go : Dec (days ≡ 1) → days ≡ 1
+    go (yes d) = d
+    go (no d) = let z = no-such-days (bookWords 1) days floor ceiling (λ i. omega arith) in absurd (omega arith)
+
+module _ (started : Bool) (m : List ℕ) (days floor ceiling : ℕ) (a : Answer) (m′ : List ℕ) (f : Opened m (rulesOf days floor ceiling) a m′)
+    (up : days ≤ 1) (long : length m ≡ 9_648) where
+  abbrev refusal : ℕ
+  refusal = openingRefusal (bookWords 1) (rulesOf days floor ceiling)
+
+  same-refusal : openingRefusal (length m) (rulesOf days floor ceiling) ≡ refusal
+  same-refusal = ap (λ (k : ℕ). openingRefusal k (rulesOf days floor ceiling)) long
+
+  opened-refusal : toldBy a .refusal ≡ refusal
+  opened-refusal = ap (λ (t : Told). t .refusal) (f .answer) ∙ same-refusal
 
   opened-number : toldBy a .number ≡ 0
   opened-number = ap (λ (t : Told). t .number) (f .answer)
 
   pub opening-no : (r : ℕ) (text : List ℕ) → r ≡ toldBy a .refusal → (r ≡ 0 → ⊥) → text ≡ printedNo r
       → Answered started m (opening days floor ceiling) started m′ text
-  unfolding openedOn
   opening-no r text e ne t =
-      let q : r ≡ openingRefusal (length m) (rulesOf days floor ceiling) = e ∙ opened-refusal in
-      let ne′ : openingRefusal (length m) (rulesOf days floor ceiling) ≡ 0 → ⊥ = λ z. ne (q ∙ z) in
-      let d : openedOn m days floor ceiling ≡ record { refusal = openingRefusal (length m) (rulesOf days floor ceiling); number = 0; rows = []; book = decode m } = rw
-      (ne-eqb (openingRefusal (length m) (rulesOf days floor ceiling)) 0 ne′) in
-      said-no started m (opening days floor ceiling) _ (days-taken started m days floor ceiling up ∙ ap said d) m′ text started refl ne′ (f .refused ne′) (t
-      ∙ ap printedNo q)
+      let q : r ≡ refusal = e ∙ opened-refusal in
+      answered-no started m (opening days floor ceiling) started m′ text refusal
+      (opening-refuses (standsIn started m) days floor ceiling up (λ z. ne (q ∙ z))) refl (f .refused (λ z. ne (q ∙ sym same-refusal ∙ z))) (t ∙ ap printedNo q)
 
   pub opening-ok : (r n : ℕ) (ws text : List ℕ) → r ≡ toldBy a .refusal → r ≡ 0 → n ≡ toldBy a .number → text ≡ okText n 0 ws
       → Answered started m (opening days floor ceiling) true m′ text
-  unfolding openedOn okText rowsText printedOk printedRows
+  unfolding okText rowsText printedOk printedRows
   opening-ok r n ws text e z en t =
-      let y : openingRefusal (length m) (rulesOf days floor ceiling) ≡ 0 = sym opened-refusal ∙ sym e ∙ z in
-      let d : openedOn m days floor ceiling ≡ record { refusal = 0; number = 0; rows = []; book = fresh (rulesOf days floor ceiling) } = rw
-      (eq-eqb (openingRefusal (length m) (rulesOf days floor ceiling)) 0 y) in
-      said-ok started m (opening days floor ceiling) _ (days-taken started m days floor ceiling up ∙ ap said d) m′ text refl (f .accepted y)
+      let y : refusal ≡ 0 = sym opened-refusal ∙ sym e ∙ z in
+      answered-ok started m (opening days floor ceiling) true m′ text 0 [] (fresh (rulesOf days floor ceiling))
+      (opening-accepts (standsIn started m) days floor ceiling up y)
+      (book-held m′ (fresh (rulesOf days floor ceiling)) (f .accepted (same-refusal ∙ y)) (one-day days floor ceiling up y))
       (t ∙ ap (λ (x : ℕ). printedOk x []) (en ∙ opened-number))
 
 -- the amounts behind the first three numbers
@@ -348,6 +416,6 @@ pub amounts-behind : (ns : List ℕ) → length ns ≡ 27 → take (length ns - 
 amounts-behind ns e = take-all (length ns - 3) (drop 3 ns) (omega (arith, length-drop 3 ns))
 
 -- the same line, said otherwise
-pub answered-as : (started known : Bool) (m : List ℕ) (line same : Line) (started′ : Bool) (m′ text : List ℕ) → started ≡ known → line ≡ same
-    → Answered known m same started′ m′ text → Answered started m line started′ m′ text
+pub answered-as : (started known : Bool) (m : List ℕ) (line same : Line) (started′ : Bool) (m′ text : List ℕ)
+    → started ≡ known → line ≡ same → Answered known m same started′ m′ text → Answered started m line started′ m′ text
 answered-as started known m line same started′ m′ text s e f = rw (s, e) f

@@ -1,17 +1,16 @@
 -- Laws of text put into lent bytes.
-use Prim.Native.Nat.{ℕ, zero, suc, _+_, _-_, _*_, _/_, _%_, _≤_, _<_}
+use Prim.Native.Nat.{ℕ, suc, _+_, _-_, _*_, _/_, _%_, _≤_, _<_}
 use mathlib.Core.Path.{_≡_, refl, sym, ap, _∙_}
 use mathlib.Core.List.{List, [], _∷_, _++_, append-assoc, append-nil}
 use native.Mathlib.Omega.{arith}
 use native.Mathlib.Numerals.{add-one}
 use borrow.Author.Tests.{lt-ltb, le-ltb}
-use lib.ListN.{length, getD, take, drop, set, length-set, length-append, length-take, length-drop, drop-of-length-le}
-use lib.Seq.{take-suc, take-suc-set, drop-cons, drop-set-lt, getD-set-same, take-all, take-append-le, drop-drop, take-at, drop-at, drop-append-add}
+use lib.ListN.{length, getD, take, drop, set, length-set, length-take, length-drop, drop-of-length-le}
+use lib.Seq.{take-suc, take-suc-set, drop-cons, drop-set-lt, getD-set-same, take-all, drop-drop}
 use Rattle.matching.specs.Orders.{Row}
-use Rattle.matching.specs.Memory.{flatRow, flat, written}
-use Rattle.matching.proofs.laws.orders.RowLaws.{flat-length}
-use Rattle.lines.specs.Printed.{digits, decimal, spaced, printedRow, printedRows, printedOk, printedNo}
-use Rattle.lines.specs.Puts.{Put, rowsText, okText}
+use Rattle.matching.specs.Memory.{flatRow, flat}
+use Rattle.lines.specs.Printed.{digits, decimal, spaced, printedRow, printedRows, printedNo}
+use Rattle.lines.specs.inner.Puts.{Put, rowsText, okText}
 
 pub put-byte : (o : List ℕ) (at b : ℕ) → at < length o → Put o at (b ∷ []) 1 (at + 1) (set o at b)
 put-byte o at b h = record { stands = rw (add-one at) (take-suc-set o at b h); ends = omega arith; long = length-set o at b }
@@ -28,12 +27,8 @@ put-both o at s t most more q r o₁ o₂ f g =
 
 -- the same text, and room for more
 pub put-as : (o : List ℕ) (at : ℕ) (s t : List ℕ) (most more r : ℕ) (o′ : List ℕ) → s ≡ t → most ≤ more → Put o at s most r o′ → Put o at t more r o′
-put-as o at s t most more r o′ e h p = record {
-  stands = p .stands
-      ∙ ap (λ (x : List ℕ). take at o ++ x) e;
-  ends = let a = p .ends in omega arith;
-  long = p .long;
-}
+put-as o at s t most more r o′ e h p =
+    record { stands = p .stands ∙ ap (λ (x : List ℕ). take at o ++ x) e; ends = let a = p .ends in omega arith; long = p .long }
 
 -- copying: the first i bytes of a text stand
 pub record Copied (o : List ℕ) (at : ℕ) (text : List ℕ) (o′ : List ℕ) (i : ℕ) : Type 0 where
@@ -60,8 +55,7 @@ copied-more o at text o′ i room h p =
       long = length-set o′ (at + i) (getD text i 0) ∙ l;
     }
 
-pub copied-all : (o : List ℕ) (at : ℕ) (text o′ : List ℕ) (i : ℕ) → length text ≤ i → Copied o at text o′ i
-    → Put o at text (length text) (at + length text) o′
+pub copied-all : (o : List ℕ) (at : ℕ) (text o′ : List ℕ) (i : ℕ) → length text ≤ i → Copied o at text o′ i → Put o at text (length text) (at + length text) o′
 copied-all o at text o′ i h p =
     let u = p .up in
     let e : i ≡ length text = omega arith in
@@ -110,7 +104,8 @@ module _ (n : ℕ) (text : List ℕ) (rest i j : ℕ) (e : i ≡ suc j) (s : Spe
       let u = s .up in
       let l = s .long in
       record {
-        digits = rw (drop-put text i j (48 + rest % 10) e (omega arith)) (sym (append-assoc (digits j (rest / 10)) ((48 + rest % 10) ∷ []) (drop i text))
+        digits = rw (drop-put text i j (48 + rest % 10) e (omega arith))
+            (sym (append-assoc (digits j (rest / 10)) ((48 + rest % 10) ∷ []) (drop i text))
             ∙ ap (λ (x : List ℕ). x ++ drop i text) (sym (ap (λ (k : ℕ). digits k rest) e ∙ digits-more j rest h)) ∙ s .digits);
         up = omega arith;
         long = length-set text j (48 + rest % 10) ∙ l;
@@ -143,16 +138,14 @@ fielded-more o at ns o′ end i r o″ h f p =
       stands =
           ap (λ (x : List ℕ). x ++ spaced (drop (i + 1) ns)) (p .stands)
           ∙ append-assoc (take end o′) (spaced (getD ns i 0 ∷ [])) (spaced (drop (i + 1) ns))
-          ∙ ap (λ (x : List ℕ). take end o′ ++ x) (sym (spaced-more (getD ns i 0) (drop (i + 1) ns))
-          ∙ sym (rw (add-one i) (ap spaced (drop-cons ns i 0 h))))
+          ∙ ap (λ (x : List ℕ). take end o′ ++ x) (sym (spaced-more (getD ns i 0) (drop (i + 1) ns)) ∙ sym (rw (add-one i) (ap spaced (drop-cons ns i 0 h))))
           ∙ f .stands;
       ends = omega arith;
       up = omega arith;
       long = p .long ∙ f .long;
     }
 
-pub fielded-all : (o : List ℕ) (at : ℕ) (ns o′ : List ℕ) (end i : ℕ) → length ns ≤ i → Fielded o at ns o′ end i
-    → Put o at (spaced ns) (21 * length ns) end o′
+pub fielded-all : (o : List ℕ) (at : ℕ) (ns o′ : List ℕ) (end i : ℕ) → length ns ≤ i → Fielded o at ns o′ end i → Put o at (spaced ns) (21 * length ns) end o′
 unfolding spaced
 fielded-all o at ns o′ end i h f =
     let u = f .up in
@@ -226,8 +219,8 @@ pub put-number : (o : List ℕ) (at : ℕ) (text : List ℕ) (n first r : ℕ) (
 put-number o at text n first r o′ l e p =
     let d = length-drop first text in
     let f : take (20 - first) (drop first text) ≡ drop first text = take-all (20 - first) (drop first text) (omega arith) in
-    put-as o at (take (20 - first) (drop first text)) (decimal n) (length (take (20 - first) (drop first text))) 20 r o′ (f
-    ∙ e) (omega (arith, length-take (20 - first) (drop first text))) p
+    put-as o at (take (20 - first) (drop first text)) (decimal n) (length (take (20 - first) (drop first text))) 20 r o′ (f ∙ e)
+    (omega (arith, length-take (20 - first) (drop first text))) p
 
 pub put-field : (o : List ℕ) (at n q r : ℕ) (o₁ o₂ : List ℕ) → Put o at (32 ∷ []) 1 q o₁ → Put o₁ q (decimal n) 20 r o₂ → Put o at (spaced (n ∷ [])) 21 r o₂
 unfolding spaced
@@ -240,8 +233,8 @@ pub put-row : (o : List ℕ) (at : ℕ) (row : List ℕ) (p q r : ℕ) (o₁ o�
     → Put o at (116 ∷ (spaced row ++ (10 ∷ []))) 128 r o₃
 put-row o at row p q r o₁ o₂ o₃ e f g h =
     put-as o at _ (116 ∷ (spaced row ++ (10 ∷ []))) _ 128 r o₃ refl (omega arith)
-    (put-both o at (116 ∷ []) (spaced row ++ (10 ∷ [])) 1 (21 * length row + 1) p r o₁ o₃ f (put-both o₁ p (spaced row) (10
-    ∷ []) (21 * length row) 1 q r o₂ o₃ g h))
+    (put-both o at (116 ∷ []) (spaced row ++ (10 ∷ [])) 1 (21 * length row + 1) p r o₁ o₃ f
+    (put-both o₁ p (spaced row) (10 ∷ []) (21 * length row) 1 q r o₂ o₃ g h))
 
 pub put-head : (o : List ℕ) (a b n p q r s : ℕ) (o₁ o₂ o₃ o₄ : List ℕ)
     → Put o 0 (a ∷ []) 1 p o₁ → Put o₁ p (b ∷ []) 1 q o₂ → Put o₂ q (spaced (n ∷ [])) 21 r o₃ → Put o₃ r (10 ∷ []) 1 s o₄

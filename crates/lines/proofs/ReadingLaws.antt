@@ -1,7 +1,7 @@
 -- Laws of reading a line byte by byte.
-use Prim.Native.Nat.{ℕ, zero, suc, _+_, _-_, _*_, _≤_, _<_}
-use mathlib.Core.Path.{_≡_, refl, sym, ap, _∙_}
-use mathlib.Core.Bool.{Bool, true, false, cond, _&&_}
+use Prim.Native.Nat.{ℕ, suc, _+_, _-_, _*_, _≤_, _<_}
+use mathlib.Core.Path.{_≡_, refl, ap, _∙_}
+use mathlib.Core.Bool.{Bool, true, false, cond, _&&_, _||_}
 use mathlib.Core.List.{List, [], _∷_, _++_, append-assoc, append-nil}
 use native.Mathlib.Omega.{arith}
 use native.Mathlib.Nat.{zero-add}
@@ -9,49 +9,33 @@ use native.Mathlib.Numerals.{add-one}
 use native.Mathlib.Decide.{ℕ-discrete}
 use borrow.Author.Tests.{eq-eqb, ne-eqb, lt-ltb, le-ltb, le-leb, lt-leb}
 use lib.Dec.{eqb, leb, ltb}
-use lib.ListN.{length, getD, take, drop, set, length-append, length-take}
-use lib.Seq.{take-suc, take-suc-set, take-all}
-use Rattle.measures.specs.Ranges.{between}
+use lib.ListN.{length, getD, take, drop, set, length-append, length-take, drop-of-length-le}
+use lib.Seq.{take-suc, take-suc-set, take-all, drop-cons}
 use Rattle.measures.specs.Lists.{every}
-use Rattle.measures.proofs.ListLaws.{and-true, and-left-false, and-right-false, cond-case}
+use Rattle.measures.proofs.ListLaws.{and-true, and-left-false, and-right-false}
 use Rattle.lines.specs.declared.reading.Reading.{Reading}
 use Rattle.lines.specs.declared.reading.Reading.the-variants.{Start, Letter, Space, Digits, Lost}
-use Rattle.lines.specs.Lines.{
-  Line,
-  unknown,
-  firstField,
-  otherFields,
-  isDigit,
-  valueFrom,
-  goesOn,
-  isNumber,
-  values,
-  countOf,
-  isCall,
-  lineOf,
-  called,
-  numbered,
-  lettered,
-  parse,
-}
-use Rattle.lines.specs.Readings.{restOf, InRange, begun, Reads, Follows, EndsAt}
+use Rattle.lines.specs.Lines.{Line, unknown, firstField, otherFields, isDigit, valueFrom, goesOn, isNumber, values, countOf, isCall, lineOf, called}
+use Rattle.lines.specs.Lines.{numbered, lettered, parse}
+use Rattle.lines.specs.Readings.{restOf, begun, ReadsOn}
+use Rattle.lines.specs.Stepping.{untilEnd}
 
 module _ (ns : List ℕ) (b : ℕ) where
-  pub start-space : b ≡ 32 → Follows Start ns b Lost ns
+  pub start-space : b ≡ 32 → ReadsOn Start ns (b ∷ []) Lost ns
   unfolding restOf parse firstField otherFields lettered
-  start-space e = record { within = λ w. tt; rest = λ w more. rw (eq-eqb b 32 e); begins = refl }
+  start-space e = record { rest = λ more. rw (eq-eqb b 32 e); begins = refl }
 
-  pub start-letter : (b ≡ 32 → ⊥) → Follows Start ns b (Letter b) ns
+  pub start-letter : (b ≡ 32 → ⊥) → ReadsOn Start ns (b ∷ []) (Letter b) ns
   unfolding restOf parse firstField otherFields
-  start-letter e = record { within = λ w. tt; rest = λ w more. rw (ne-eqb b 32 e); begins = refl }
+  start-letter e = record { rest = λ more. rw (ne-eqb b 32 e); begins = refl }
 
-  pub letter-space : (l : ℕ) → b ≡ 32 → Follows (Letter l) ns b (Space l 0) ns
+  pub letter-space : (l : ℕ) → b ≡ 32 → ReadsOn (Letter l) ns (b ∷ []) (Space l 0) ns
   unfolding restOf firstField otherFields lettered
-  letter-space l e = record { within = λ w. omega arith; rest = λ w more. rw (eq-eqb b 32 e); begins = refl }
+  letter-space l e = record { rest = λ more. rw (eq-eqb b 32 e); begins = refl }
 
-  pub letter-lost : (l : ℕ) → (b ≡ 32 → ⊥) → Follows (Letter l) ns b Lost ns
+  pub letter-lost : (l : ℕ) → (b ≡ 32 → ⊥) → ReadsOn (Letter l) ns (b ∷ []) Lost ns
   unfolding restOf firstField otherFields lettered
-  letter-lost l e = record { within = λ w. tt; rest = λ w more. rw (ne-eqb b 32 e); begins = refl }
+  letter-lost l e = record { rest = λ more. rw (ne-eqb b 32 e); begins = refl }
 
 -- digits only make a value larger
 pub value-grows : (v : ℕ) (bs : List ℕ) → v ≤ valueFrom v bs
@@ -71,9 +55,15 @@ digit-high b h = and-right-false (leb 48 b) (leb b 57) (lt-leb b 57 h)
 -- no letter has more than 27 numbers
 count-most : (l : ℕ) → countOf l ≤ 27
 unfolding countOf
-count-most l = below (eqb l 79) _ _ (omega arith) (below (eqb l 69) _ _ (omega arith)
-    (below (eqb l 76) _ _ (omega arith) (below (eqb l 84) _ _ (omega arith)
-    (below (eqb l 87) _ _ (omega arith) (below (eqb l 82) _ _ (omega arith) (below (eqb l 88) _ _ (omega arith) (omega arith)))))))
+count-most l =
+    below (eqb l 79) _ _ (omega arith)
+    (below (eqb l 69) _ _ (omega arith)
+    (below (eqb l 76) _ _ (omega arith)
+    (below (eqb l 84) _ _ (omega arith)
+    (below (eqb l 87) _ _ (omega arith)
+    (below (eqb l 82) _ _ (omega arith)
+    (below (eqb l 88) _ _ (omega arith)
+    (omega arith)))))))
   where
     below : (t : Bool) (x y : ℕ) → x ≤ 27 → y ≤ 27 → cond t x y ≤ 27
     below true x y h k = h
@@ -88,12 +78,11 @@ unfolding valueFrom
 first-digit b f = ap (λ (v : ℕ). valueFrom v f) (zero-add (b - 48))
 
 module _ (ns : List ℕ) (b l n : ℕ) where
-  pub space-digit : 48 ≤ b → b ≤ 57 → Follows (Space l n) ns b (Digits l n (b - 48)) ns
+  pub space-digit : 48 ≤ b → b ≤ 57 → ReadsOn (Space l n) ns (b ∷ []) (Digits l n (b - 48)) ns
   unfolding restOf firstField otherFields numbered isNumber goesOn values
   space-digit h k =
       record {
-        within = λ w. (w, omega arith);
-        rest = λ w more. rw (ne-eqb b 32 (omega arith)) (rw (digit-is b h k, first-digit b (firstField more)));
+        rest = λ more. rw (ne-eqb b 32 (omega arith)) (rw (digit-is b h k, first-digit b (firstField more)));
         begins = refl;
       }
 
@@ -101,37 +90,31 @@ module _ (ns : List ℕ) (b l n : ℕ) where
   unfolding numbered
   space-field f fs e = rw e
 
-  space-other : isDigit b ≡ false → (b ≡ 32 → ⊥) → Follows (Space l n) ns b Lost ns
+  space-other : isDigit b ≡ false → (b ≡ 32 → ⊥) → ReadsOn (Space l n) ns (b ∷ []) Lost ns
   unfolding restOf firstField otherFields isNumber goesOn
-  space-other e ne = record {
-    within = λ w. tt;
-    rest = λ w more. rw (ne-eqb b 32 ne) (space-field (b ∷ firstField more) (otherFields more) (rw e));
-    begins =
-        refl;
-  }
+  space-other e ne = record { rest = λ more. rw (ne-eqb b 32 ne) (space-field (b ∷ firstField more) (otherFields more) (rw e)); begins = refl }
 
-  space-space : b ≡ 32 → Follows (Space l n) ns b Lost ns
+  space-space : b ≡ 32 → ReadsOn (Space l n) ns (b ∷ []) Lost ns
   unfolding restOf firstField otherFields isNumber
-  space-space e = record { within = λ w. tt; rest = λ w more. rw (eq-eqb b 32 e) (space-field [] (firstField more ∷ otherFields more) refl); begins = refl }
+  space-space e = record { rest = λ more. rw (eq-eqb b 32 e) (space-field [] (firstField more ∷ otherFields more) refl); begins = refl }
 
-  pub space-low : b < 48 → Follows (Space l n) ns b Lost ns
+  pub space-low : b < 48 → ReadsOn (Space l n) ns (b ∷ []) Lost ns
   space-low h = go (ℕ-discrete b 32)
     where
-      go : Dec (b ≡ 32) → Follows (Space l n) ns b Lost ns
+      go : Dec (b ≡ 32) → ReadsOn (Space l n) ns (b ∷ []) Lost ns
       go (yes e) = space-space e
       go (no e) = space-other (digit-low b h) e
 
-  pub space-high : 57 < b → Follows (Space l n) ns b Lost ns
+  pub space-high : 57 < b → ReadsOn (Space l n) ns (b ∷ []) Lost ns
   space-high h = space-other (digit-high b h) (omega arith)
 
 -- a number goes on, or not
 module _ (ns : List ℕ) (b l n v : ℕ) where
-  pub digit-more : (w : ℕ) → 48 ≤ b → b ≤ 57 → w ≡ v * 10 + (b - 48) → w < 4_294_967_296 → Follows (Digits l n v) ns b (Digits l n w) ns
+  pub digit-more : (w : ℕ) → 48 ≤ b → b ≤ 57 → w ≡ v * 10 + (b - 48) → w < 4_294_967_296 → ReadsOn (Digits l n v) ns (b ∷ []) (Digits l n w) ns
   unfolding restOf firstField otherFields goesOn valueFrom
   digit-more w h k e f =
       record {
-        within = λ z. (z .0, f);
-        rest = λ z more. rw e (rw (ne-eqb b 32 (omega arith)) (rw (digit-is b h k)));
+        rest = λ more. rw e (rw (ne-eqb b 32 (omega arith)) (rw (digit-is b h k)));
         begins = refl;
       }
 
@@ -140,15 +123,15 @@ module _ (ns : List ℕ) (b l n v : ℕ) where
       → cond (goesOn v f && every isNumber fs) (called l (take n ns ++ (valueFrom v f ∷ values fs))) unknown ≡ unknown
   broken f fs e = rw e
 
-  pub digit-other : (b ≡ 32 → ⊥) → isDigit b ≡ false → Follows (Digits l n v) ns b Lost ns
+  pub digit-other : (b ≡ 32 → ⊥) → isDigit b ≡ false → ReadsOn (Digits l n v) ns (b ∷ []) Lost ns
   unfolding restOf firstField otherFields goesOn
   digit-other ne e =
-      record { within = λ w. tt; rest = λ w more. rw (ne-eqb b 32 ne) (broken (b ∷ firstField more) (otherFields more) (rw e)); begins = refl }
+      record { rest = λ more. rw (ne-eqb b 32 ne) (broken (b ∷ firstField more) (otherFields more) (rw e)); begins = refl }
 
-  pub digit-low-lost : (b ≡ 32 → ⊥) → b < 48 → Follows (Digits l n v) ns b Lost ns
+  pub digit-low-lost : (b ≡ 32 → ⊥) → b < 48 → ReadsOn (Digits l n v) ns (b ∷ []) Lost ns
   digit-low-lost ne h = digit-other ne (digit-low b h)
 
-  pub digit-high-lost : 57 < b → Follows (Digits l n v) ns b Lost ns
+  pub digit-high-lost : 57 < b → ReadsOn (Digits l n v) ns (b ∷ []) Lost ns
   digit-high-lost h = digit-other (omega arith) (digit-high b h)
 
   too-large : (f : List ℕ) → 4_294_967_296 ≤ v * 10 + (b - 48) → goesOn v (b ∷ f) ≡ false
@@ -157,144 +140,194 @@ module _ (ns : List ℕ) (b l n v : ℕ) where
       let g = value-grows (v * 10 + (b - 48)) f in
       and-right-false (every isDigit (b ∷ f)) _ (le-ltb (valueFrom (v * 10 + (b - 48)) f) 4_294_967_296 (omega arith))
 
-  pub digit-large : (b ≡ 32 → ⊥) → 4_294_967_296 ≤ v * 10 + (b - 48) → Follows (Digits l n v) ns b Lost ns
+  pub digit-large : (b ≡ 32 → ⊥) → 4_294_967_296 ≤ v * 10 + (b - 48) → ReadsOn (Digits l n v) ns (b ∷ []) Lost ns
   unfolding restOf firstField otherFields
   digit-large ne h =
-      record {
-        within = λ w. tt;
-        rest = λ w more. rw (ne-eqb b 32 ne) (broken (b ∷ firstField more) (otherFields more) (too-large (firstField more) h));
-        begins = refl;
-      }
+      record { rest = λ more. rw (ne-eqb b 32 ne) (broken (b ∷ firstField more) (otherFields more) (too-large (firstField more) h)); begins = refl }
 
 -- a number ends
 module _ (ns : List ℕ) (l n v : ℕ) where
-  pub number-ends : n < 26 → n < length ns → Follows (Digits l n v) ns 32 (Space l (n + 1)) (set ns n v)
+  pub number-ends : n < 26 → v < 4_294_967_296 → n < length ns → ReadsOn (Digits l n v) ns (32 ∷ []) (Space l (n + 1)) (set ns n v)
   unfolding restOf firstField otherFields numbered goesOn valueFrom values
-  number-ends h k =
+  number-ends h f k =
       record {
-        within = λ w. omega arith;
-        rest = λ w more. rw (
-          lt-ltb v 4_294_967_296 (w .1),
+        rest = λ more. rw (
+          lt-ltb v 4_294_967_296 f,
           add-one n,
           take-suc-set ns n v k,
-          append-assoc (take n ns) (v
-              ∷ []) (values (firstField more ∷ otherFields more)),
+          append-assoc (take n ns) (v ∷ []) (values (firstField more ∷ otherFields more)),
         );
         begins = refl;
       }
 
-  pub number-many : 26 ≤ n → length ns ≡ 27 → Follows (Digits l n v) ns 32 Lost ns
+  -- one number too many
+  many : (t : Bool) (vs : List ℕ) → 28 ≤ length (take n ns) + length vs → cond t (called l (take n ns ++ vs)) unknown ≡ unknown
+  many true vs h = let a = length-append (take n ns) vs in many-unknown l (take n ns ++ vs) (omega arith)
+  many false vs h = refl
+
+  pub number-many : 26 ≤ n → length ns ≡ 27 → ReadsOn (Digits l n v) ns (32 ∷ []) Lost ns
   unfolding restOf firstField otherFields values
   number-many h e =
+      let k = length-take n ns in
       record {
-        within = λ w. tt;
-        rest = λ w more. go (goesOn v [] && every isNumber (firstField more ∷ otherFields more)) (valueFrom 0 (firstField more)
-            ∷ values (otherFields more)) (omega arith) (w .0) (omega arith);
+        rest =
+            λ more. many (goesOn v [] && every isNumber (firstField more ∷ otherFields more))
+            (valueFrom v [] ∷ valueFrom 0 (firstField more) ∷ values (otherFields more)) (omega arith);
         begins = refl;
       }
-    where
-      go : (t : Bool) (vs : List ℕ) → 1 ≤ length vs → n ≤ 26 → 26 ≤ n → cond t (called l (take n ns ++ (valueFrom v [] ∷ vs))) unknown ≡ unknown
-      go true vs some up down =
-          let a = length-append (take n ns) (valueFrom v [] ∷ vs) in
-          let b = length-take n ns in
-          many-unknown l (take n ns ++ (valueFrom v [] ∷ vs)) (omega arith)
-      go false vs some up down = refl
 
-pub lost-stays : (ns : List ℕ) (b : ℕ) → Follows Lost ns b Lost ns
+  large : 4_294_967_296 ≤ v → goesOn v [] ≡ false
+  unfolding goesOn valueFrom
+  large h = le-ltb v 4_294_967_296 h
+
+  pub number-large : 4_294_967_296 ≤ v → ReadsOn (Digits l n v) ns (32 ∷ []) Lost ns
+  unfolding restOf firstField otherFields
+  number-large h = record { rest = λ more. rw (large h); begins = refl }
+
+  -- at the end of a line
+  pub end-number : v < 4_294_967_296 → n < length ns → restOf (Digits l n v) ns [] ≡ called l (take (n + 1) (set ns n v))
+  unfolding restOf firstField otherFields goesOn valueFrom values
+  end-number f h = rw (lt-ltb v 4_294_967_296 f, add-one n, take-suc-set ns n v h)
+
+  end-many : 27 ≤ n → length ns ≡ 27 → restOf (Digits l n v) ns [] ≡ unknown
+  unfolding restOf firstField otherFields values
+  end-many h e = let k = length-take n ns in many (goesOn v [] && every isNumber []) (valueFrom v [] ∷ []) (omega arith)
+
+  end-large : 4_294_967_296 ≤ v → restOf (Digits l n v) ns [] ≡ unknown
+  unfolding restOf firstField otherFields
+  end-large h = rw (large h)
+
+  space-unknown : restOf (Space l n) ns [] ≡ unknown
+  unfolding restOf firstField otherFields numbered isNumber
+  space-unknown = refl
+
+-- a count or a value that no line yields says nothing that is understood, whatever follows
+module _ (l n v : ℕ) (ns more : List ℕ) where
+  pub space-beyond : 27 ≤ n → length ns ≡ 27 → restOf (Space l n) ns more ≡ unknown
+  unfolding restOf numbered values
+  space-beyond h e =
+      let k = length-take n ns in
+      many ns l n v (every isNumber (firstField more ∷ otherFields more)) (valueFrom 0 (firstField more) ∷ values (otherFields more)) (omega arith)
+
+  pub digits-beyond : 27 ≤ n → length ns ≡ 27 → restOf (Digits l n v) ns more ≡ unknown
+  unfolding restOf
+  digits-beyond h e =
+      let k = length-take n ns in
+      many ns l n v (goesOn v (firstField more) && every isNumber (otherFields more)) (valueFrom v (firstField more) ∷ values (otherFields more)) (omega arith)
+
+  pub value-beyond : 4_294_967_296 ≤ v → restOf (Digits l n v) ns more ≡ unknown
+  unfolding restOf goesOn
+  value-beyond h =
+      let g = value-grows v (firstField more) in
+      broken ns 0 l n v (firstField more) (otherFields more)
+      (and-right-false (every isDigit (firstField more)) _ (le-ltb (valueFrom v (firstField more)) 4_294_967_296 (omega arith)))
+
+pub lost-stays : (ns : List ℕ) (b : ℕ) → ReadsOn Lost ns (b ∷ []) Lost ns
 unfolding restOf
-lost-stays ns b = record { within = λ w. tt; rest = λ w more. refl; begins = refl }
+lost-stays ns b = record { rest = λ more. refl; begins = refl }
 
--- a line of no byte, and a byte more
-pub reads-none : (ns : List ℕ) → Reads [] Start ns
-unfolding restOf
-reads-none ns = record { within = tt; rest = λ more. refl; begins = refl }
-
-pub reads-more : (line : List ℕ) (r : Reading) (ns : List ℕ) (b : ℕ) (r′ : Reading) (ns′ : List ℕ) → Reads line r ns → Follows r ns b r′ ns′
-    → Reads (line ++ (b ∷ [])) r′ ns′
-reads-more line r ns b r′ ns′ f g =
-    let l = length-append line (b ∷ []) in
-    record {
-      within = g .within (f .within);
-      rest = λ more. ap parse (append-assoc line (b ∷ []) more) ∙ f .rest (b ∷ more) ∙ g .rest (f .within) more;
-      begins = g .begins ∙ sym (lt-ltb 0 (length (line ++ (b ∷ []))) (omega arith));
-    }
-
--- the end of a line
-ended : (line : List ℕ) (r : Reading) (ns : List ℕ) → Reads line r ns → parse line ≡ restOf r ns []
-ended line r ns f = ap parse (sym (append-nil line)) ∙ f .rest []
-
-pub end-unknown : (line : List ℕ) (r : Reading) (ns ns′ : List ℕ) → restOf r ns [] ≡ unknown → Reads line r ns → parse line ≡ called 0 (take 0 ns′)
+-- the end of a line that is not understood
+said-nothing : (line : Line) (ns : List ℕ) → line ≡ unknown → line ≡ called 0 (take 0 ns)
 unfolding called countOf lineOf isCall
-end-unknown line r ns ns′ e f = ended line r ns f ∙ e
+said-nothing line ns e = e
 
-pub start-unknown : (ns : List ℕ) → restOf Start ns [] ≡ unknown
-unfolding restOf parse firstField otherFields lettered
-start-unknown ns = refl
+module _ (ns : List ℕ) where
+  pub end-letter : (l : ℕ) → restOf (Letter l) ns [] ≡ called l (take 0 ns)
+  unfolding restOf firstField otherFields lettered numbered values
+  end-letter l = refl
 
-pub space-unknown : (l n : ℕ) (ns : List ℕ) → restOf (Space l n) ns [] ≡ unknown
-unfolding restOf firstField otherFields numbered isNumber
-space-unknown l n ns = refl
+  pub start-says : restOf Start ns [] ≡ called 0 (take 0 ns)
+  unfolding restOf parse firstField otherFields lettered
+  start-says = said-nothing (restOf Start ns []) ns refl
 
-pub lost-unknown : (ns : List ℕ) → restOf Lost ns [] ≡ unknown
-unfolding restOf
-lost-unknown ns = refl
+  pub lost-says : restOf Lost ns [] ≡ called 0 (take 0 ns)
+  unfolding restOf
+  lost-says = said-nothing (restOf Lost ns []) ns refl
 
-pub end-letter : (line : List ℕ) (l : ℕ) (ns : List ℕ) → Reads line (Letter l) ns → parse line ≡ called l (take 0 ns)
-unfolding restOf firstField otherFields lettered numbered values
-end-letter line l ns f = ended line (Letter l) ns f
+  pub space-says : (l n : ℕ) → restOf (Space l n) ns [] ≡ called 0 (take 0 ns)
+  space-says l n = said-nothing (restOf (Space l n) ns []) ns (space-unknown ns l n 0)
 
-pub end-number : (line : List ℕ) (l n v : ℕ) (ns : List ℕ) → n < length ns → Reads line (Digits l n v) ns → parse line
-    ≡ called l (take (n + 1) (set ns n v))
-unfolding restOf firstField otherFields goesOn valueFrom values
-end-number line l n v ns h f =
-    ended line (Digits l n v) ns f ∙ rw (lt-ltb v 4_294_967_296 (f .within .1), add-one n, take-suc-set ns n v h)
+  pub many-says : (l n v : ℕ) → 27 ≤ n → length ns ≡ 27 → restOf (Digits l n v) ns [] ≡ called 0 (take 0 ns)
+  many-says l n v h e = said-nothing (restOf (Digits l n v) ns []) ns (end-many ns l n v h e)
+
+  pub large-says : (l n v : ℕ) → 4_294_967_296 ≤ v → restOf (Digits l n v) ns [] ≡ called 0 (take 0 ns)
+  large-says l n v h = said-nothing (restOf (Digits l n v) ns []) ns (end-large ns l n v h)
+
+-- no bytes, and more bytes
+pub reads-none : (r : Reading) (ns : List ℕ) → ReadsOn r ns [] r ns
+reads-none r ns = record { rest = λ more. refl; begins = refl }
+
+some-read : (a b : List ℕ) (t : Bool) → (ltb 0 (length b) || (ltb 0 (length a) || t)) ≡ (ltb 0 (length (a ++ b)) || t)
+some-read [] b t = refl
+some-read (x ∷ a) [] t = rw (append-nil a)
+some-read (x ∷ a) (y ∷ b) t = rw (lt-ltb 0 (length (y ∷ b)) (omega arith), lt-ltb 0 (length (x ∷ (a ++ (y ∷ b)))) (omega arith))
+
+pub reads-both : (r : Reading) (ns a : List ℕ) (r₁ : Reading) (ns₁ b : List ℕ) (r₂ : Reading) (ns₂ : List ℕ)
+    → ReadsOn r ns a r₁ ns₁ → ReadsOn r₁ ns₁ b r₂ ns₂ → ReadsOn r ns (a ++ b) r₂ ns₂
+reads-both r ns a r₁ ns₁ b r₂ ns₂ f g =
+    record {
+      rest = λ more. ap (restOf r ns) (append-assoc a b more) ∙ f .rest (b ++ more) ∙ g .rest more;
+      begins = g .begins ∙ ap (λ (t : Bool). ltb 0 (length b) || t) (f .begins) ∙ some-read a b (begun r);
+    }
 
 -- reading a piece: its first i bytes are read
 pub record Going (piece : List ℕ) (r₀ : Reading) (ns₀ : List ℕ) (i : ℕ) (r : Reading) (ns : List ℕ) : Type 0 where
   pub up : i ≤ length piece
   pub long : length ns ≡ 27
-  pub reads : (line : List ℕ) → Reads line r₀ ns₀ → Reads (line ++ take i piece) r ns
+  pub reads : ReadsOn r₀ ns₀ (take i piece) r ns
 
 pub going-none : (piece : List ℕ) (r : Reading) (ns : List ℕ) → length ns ≡ 27 → Going piece r ns 0 r ns
-going-none piece r ns e = record { up = omega arith; long = e; reads = λ line f. rw (append-nil line) f }
+going-none piece r ns e = record { up = omega arith; long = e; reads = reads-none r ns }
 
 pub going-more : (piece : List ℕ) (r₀ : Reading) (ns₀ : List ℕ) (i : ℕ) (r : Reading) (ns : List ℕ) (r′ : Reading) (ns′ : List ℕ)
-    → Going piece r₀ ns₀ i r ns → i < length piece → Follows r ns (getD piece i 0) r′ ns′ → length ns′ ≡ length ns → Going piece r₀ ns₀ (i + 1) r′ ns′
+    → Going piece r₀ ns₀ i r ns → i < length piece → ReadsOn r ns (getD piece i 0 ∷ []) r′ ns′ → length ns′ ≡ length ns
+    → Going piece r₀ ns₀ (i + 1) r′ ns′
 going-more piece r₀ ns₀ i r ns r′ ns′ g h f e =
     record {
       up = omega arith;
       long = e ∙ g .long;
-      reads = λ line s. rw (add-one i, take-suc piece i 0 h, ← append-assoc line (take i piece) (getD piece i 0 ∷ [])) (reads-more (line
-          ++ take i piece) r ns (getD piece i 0) r′ ns′ (g .reads line s) f);
+      reads = rw (add-one i, take-suc piece i 0 h) (reads-both r₀ ns₀ (take i piece) r ns (getD piece i 0 ∷ []) r′ ns′ (g .reads) f);
     }
 
 pub going-all : (piece : List ℕ) (r₀ : Reading) (ns₀ : List ℕ) (i : ℕ) (r : Reading) (ns : List ℕ) → Going piece r₀ ns₀ i r ns → length piece ≤ i
-    → (line : List ℕ) → Reads line r₀ ns₀ → Reads (line ++ piece) r ns
-going-all piece r₀ ns₀ i r ns g h line s = rw (take-all i piece h) at (g .reads line s)
+    → ReadsOn r₀ ns₀ piece r ns
+going-all piece r₀ ns₀ i r ns g h = rw (take-all i piece h) at (g .reads)
 
--- looking for the next line end: none stands from `from` to i
-pub record Seeking (piece : List ℕ) (from i : ℕ) : Type 0 where
-  pub after : from ≤ i
-  pub none : (k : ℕ) → from ≤ k → k < i → getD piece k 0 ≡ 10 → ⊥
-  pub within : from ≤ length piece → i ≤ length piece
+-- looking for the line end: none stands before i
+pub record Seeking (bytes : List ℕ) (i : ℕ) : Type 0 where
+  pub up : i ≤ length bytes
+  pub left : i + length (untilEnd (drop i bytes)) ≡ length (untilEnd bytes)
 
-pub seeking-none : (piece : List ℕ) (from : ℕ) → Seeking piece from from
-seeking-none piece from = record { after = omega arith; none = λ k h l e. omega arith; within = λ h. h }
+pub seeking-none : (bytes : List ℕ) → Seeking bytes 0
+seeking-none bytes = record { up = omega arith; left = zero-add (length (untilEnd bytes)) }
 
-pub seeking-more : (piece : List ℕ) (from i : ℕ) → i < length piece → (getD piece i 0 ≡ 10 → ⊥) → Seeking piece from i → Seeking piece from (i + 1)
-seeking-more piece from i h ne s = record {
-  after = let a = s .after in omega arith;
-  none = λ k a l e. go k a e (ℕ-discrete k i) l;
-  within = λ w. omega
-      arith;
-}
-  where
-    go : (k : ℕ) → from ≤ k → getD piece k 0 ≡ 10 → Dec (k ≡ i) → k < i + 1 → ⊥
-    go k a e (yes q) l = ne (rw q at e)
-    go k a e (no q) l = s .none k a (omega arith) e
+until-more : (b : ℕ) (bs : List ℕ) → (b ≡ 10 → ⊥) → length (untilEnd (b ∷ bs)) ≡ suc (length (untilEnd bs))
+unfolding untilEnd
+until-more b bs ne = rw (ne-eqb b 10 ne)
 
-pub line-found : (piece : List ℕ) (from i : ℕ) → i < length piece → getD piece i 0 ≡ 10 → Seeking piece from i → EndsAt piece from i
-line-found piece from i h e s = record { after = s .after; within = omega arith; none = s .none; found = λ l. e }
+until-none : (b : ℕ) (bs : List ℕ) → b ≡ 10 → length (untilEnd (b ∷ bs)) ≡ 0
+unfolding untilEnd
+until-none b bs e = rw (eq-eqb b 10 e)
 
-pub line-open : (piece : List ℕ) (from i : ℕ) → length piece ≤ i → Seeking piece from i → from ≤ length piece → EndsAt piece from i
-line-open piece from i h s w = record { after = s .after; within = s .within w; none = s .none; found = λ l. absurd (omega arith) }
+until-nothing : length (untilEnd []) ≡ 0
+unfolding untilEnd
+until-nothing = refl
+
+module _ (bytes : List ℕ) (i : ℕ) (s : Seeking bytes i) where
+  pub seeking-more : i < length bytes → (getD bytes i 0 ≡ 10 → ⊥) → Seeking bytes (i + 1)
+  seeking-more h ne =
+      let e = ap (λ (l : List ℕ). length (untilEnd l)) (drop-cons bytes i 0 h) ∙ until-more (getD bytes i 0) (drop (suc i) bytes) ne in
+      let l = s .left in
+      record { up = omega arith; left = rw (add-one i) (omega arith) }
+
+  pub line-found : i < length bytes → getD bytes i 0 ≡ 10 → i ≡ length (untilEnd bytes)
+  line-found h e =
+      let z = ap (λ (l : List ℕ). length (untilEnd l)) (drop-cons bytes i 0 h) ∙ until-none (getD bytes i 0) (drop (suc i) bytes) e in
+      let l = s .left in
+      omega arith
+
+  pub line-open : length bytes ≤ i → i ≡ length (untilEnd bytes)
+  line-open h =
+      let z = ap (λ (l : List ℕ). length (untilEnd l)) (drop-of-length-le bytes h) ∙ until-nothing in
+      let l = s .left in
+      omega arith

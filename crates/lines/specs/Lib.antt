@@ -1,6 +1,10 @@
 pub mod Lines
-pub mod Readings
 pub mod Printed
-pub mod Puts
 pub mod Answers
+pub mod Rehearsed
+pub mod Texts
 pub mod Transcript
+pub mod Readings
+pub mod Stepping
+pub mod EveryLine
+pub mod inner

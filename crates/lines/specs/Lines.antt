@@ -1,8 +1,8 @@
 -- What a line of `rehearse` means (paper 01, "Program `rehearse`"). A line is the list of its bytes, in ASCII, without
 -- the line end.
 use Prim.Native.Nat.{ℕ, _+_, _-_, _*_}
-use mathlib.Core.Bool.{Bool, true, false, cond, _&&_, _||_}
-use mathlib.Core.List.{List, [], _∷_, _++_, map}
+use mathlib.Core.Bool.{Bool, false, cond, _&&_, _||_}
+use mathlib.Core.List.{List, [], _∷_, _++_}
 use lib.ListN.{length, getD, drop}
 use lib.Dec.{eqb, ltb}
 use Rattle.measures.specs.Ranges.{between}

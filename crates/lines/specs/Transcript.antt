@@ -1,39 +1,44 @@
--- The paper's transcript (paper 01, "Program `rehearse`"): what its lines say, and what its sixth line prints.
-use Prim.Native.Nat.{ℕ}
+-- The paper's transcript (paper 01, "Program `rehearse`"): line by line, and as a whole.
+use Prim.Native.String.{String}
 use mathlib.Core.Path.{_≡_}
 use mathlib.Core.List.{List, [], _∷_}
-use Rattle.matching.specs.Orders.{Row}
 use Rattle.book.specs.Calls.{callEnrol, callOrder, callClear, callClose}
 use Rattle.lines.specs.Lines.{Line, opening, calling, parse}
-use Rattle.lines.specs.Printed.{printedOk, printedNo}
+use Rattle.lines.specs.Answers.{Stands, noBook, saidTo, after, printed}
+use Rattle.lines.specs.Rehearsed.{rehearsed}
+use Rattle.lines.specs.Texts.{bytes}
 
-pub record Figure : Type 0 where
-  pub line : List ℕ
+-- a line, what it says, and what is printed for it
+pub record Exchange : Type 0 where
+  pub line : String
   pub says : Line
+  pub prints : String
 
--- O 1 0 1000000, E 2 100 0, E 3 100 0, C, R 1 0 8 455000 5, R 2 1 8 460000 7, D
-abbrev pub transcript : List Figure
+abbrev pub transcript : List Exchange
 transcript =
-    record { line = 79 ∷ 32 ∷ 49 ∷ 32 ∷ 48 ∷ 32 ∷ 49 ∷ 48 ∷ 48 ∷ 48 ∷ 48 ∷ 48 ∷ 48 ∷ []; says = opening 1 0 1_000_000 }
-    ∷ record { line = 69 ∷ 32 ∷ 50 ∷ 32 ∷ 49 ∷ 48 ∷ 48 ∷ 32 ∷ 48 ∷ []; says = calling (callEnrol 2 100 0) }
-    ∷ record { line = 69 ∷ 32 ∷ 51 ∷ 32 ∷ 49 ∷ 48 ∷ 48 ∷ 32 ∷ 48 ∷ []; says = calling (callEnrol 3 100 0) }
-    ∷ record { line = 67 ∷ []; says = calling (callClear 4_464) }
-    ∷ record { line = 82 ∷ 32 ∷ 49 ∷ 32 ∷ 48 ∷ 32 ∷ 56 ∷ 32 ∷ 52 ∷ 53 ∷ 53 ∷ 48 ∷ 48 ∷ 48 ∷ 32 ∷ 53 ∷ []; says = calling (callOrder 1 0 8 455_000 5 4_464) }
-    ∷ record { line = 82 ∷ 32 ∷ 50 ∷ 32 ∷ 49 ∷ 32 ∷ 56 ∷ 32 ∷ 52 ∷ 54 ∷ 48 ∷ 48 ∷ 48 ∷ 48 ∷ 32 ∷ 55 ∷ []; says = calling (callOrder 2 1 8 460_000 7 4_464) }
-    ∷ record { line = 68 ∷ []; says = calling callClose }
+    record { line = "O 1 0 1000000"; says = opening 1 0 1_000_000; prints = "ok 0\n" }
+    ∷ record { line = "E 2 100 0"; says = calling (callEnrol 2 100 0); prints = "ok 1\n" }
+    ∷ record { line = "E 3 100 0"; says = calling (callEnrol 3 100 0); prints = "ok 2\n" }
+    ∷ record { line = "C"; says = calling (callClear 4_464); prints = "ok 0\n" }
+    ∷ record { line = "R 1 0 8 455000 5"; says = calling (callOrder 1 0 8 455_000 5 4_464); prints = "ok 1\n" }
+    ∷ record { line = "R 2 1 8 460000 7"; says = calling (callOrder 2 1 8 460_000 7 4_464); prints = "ok 2\nt 4 8 1 2 5 455000\n" }
+    ∷ record { line = "D"; says = calling callClose; prints = "ok 0\n" }
     ∷ []
 
-abbrev pub Hold : List Figure → Type 0
-Hold [] = Unit {0}
-Hold (f ∷ fs) = (parse (f .line) ≡ f .says) × Hold fs
+-- each line on the book that the lines before it leave
+abbrev pub Holds : Stands → List Exchange → Type 0
+Holds s [] = Unit {0}
+Holds s (x ∷ xs) =
+    (parse (bytes (x .line)) ≡ x .says)
+    × (printed (saidTo s (x .says)) ≡ bytes (x .prints))
+    × Holds (after s (saidTo s (x .says))) xs
 
-abbrev pub sixthRow : Row
-sixthRow = record { way = 4; period = 8; seller = 1; buyer = 2; quantity = 5; price = 455_000 }
+-- "Input .. prints"
+abbrev pub input : String
+input = "O 1 0 1000000\nE 2 100 0\nE 3 100 0\nC\nR 1 0 8 455000 5\nR 2 1 8 460000 7\nD\n"
 
--- ok 2, t 4 8 1 2 5 455000
-abbrev pub sixthAnswer : List ℕ
-sixthAnswer = 111 ∷ 107 ∷ 32 ∷ 50 ∷ 10 ∷ 116 ∷ 32 ∷ 52 ∷ 32 ∷ 56 ∷ 32 ∷ 49 ∷ 32 ∷ 50 ∷ 32 ∷ 53 ∷ 32 ∷ 52 ∷ 53 ∷ 53 ∷ 48 ∷ 48 ∷ 48 ∷ 10 ∷ []
+abbrev pub output : String
+output = "ok 0\nok 1\nok 2\nok 0\nok 1\nok 2\nt 4 8 1 2 5 455000\nok 0\n"
 
--- no 19
-abbrev pub refusal19 : List ℕ
-refusal19 = 110 ∷ 111 ∷ 32 ∷ 49 ∷ 57 ∷ 10 ∷ []
+abbrev pub Transcript : Type 0
+Transcript = Holds noBook transcript × (rehearsed (bytes input) ≡ bytes output)

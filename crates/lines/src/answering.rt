@@ -1,8 +1,8 @@
 // Answering a line on a book.
 use crate::printing::print_no;
 use crate::printing::print_ok;
-use crate::reading::Numbers;
 use crate::reading::Reading;
+use crate::steps::Printed;
 use book::Answer;
 use book::calls::cancel;
 use book::calls::clear;
@@ -15,24 +15,16 @@ use book::calls::withdraw;
 use book::opening::open;
 ghost use mathlib.Core.Path.{_≡_};
 ghost use mathlib.Core.Bool.{true, _&&_};
-ghost use Prim.Native.Nat.{ℕ, _≤_};
-ghost use mathlib.Core.List.{List};
+ghost use Prim.Native.Nat.{_≤_};
+ghost use mathlib.Core.List.{[]};
 ghost use lib.ListN.{length, getD, take};
 ghost use lib.Dec.{eqb, leb};
-ghost use Rattle.book.specs.Layout.{decode};
+ghost use Rattle.book.specs.Layout.{word, decode};
 ghost use Rattle.book.specs.Contract.{Made, toldBy};
-ghost use Rattle.lines.specs.Lines.{countOf, isCall, callOf, called, opening, calling, parse};
-ghost use Rattle.lines.specs.Readings.{Reads};
+ghost use Rattle.lines.specs.Lines.{countOf, isCall, callOf, called, opening, calling};
 ghost use Rattle.lines.specs.Printed.{printedNo};
-ghost use Rattle.lines.specs.Answers.{Answered};
-
-// What the program lends: a book of one day, 744 rows of six numbers, and room for the longest answer, which is `ok` with
-// a number in 24 bytes and a row in 128.
-pub type BookMemory = [u64; 9648];
-
-pub type RowMemory = [u64; 4464];
-
-pub type Text = [u8; 95256];
+ghost use Rattle.lines.specs.Readings.{restOf};
+ghost use Rattle.lines.specs.Stepping.{Answered};
 
 // A line's letter and its count of numbers; no letter where the line is not understood.
 struct Heard {
@@ -47,17 +39,10 @@ struct Told {
     count: usize,
 }
 
-// What a line leaves: whether an O was accepted, and how many bytes are printed.
-pub struct Printed {
-    pub started: bool,
-    pub length: usize,
-}
-
 // What a line says at its end.
 fn end_line(reading: Reading, numbers: &mut [u64]) -> Heard
     requires { ⌜ length (now numbers) ≡ 27 ⌝ }
-    ensures { λ r. ⌜ ((line : List ℕ) → Reads line reading (now (numbers .entry)) → parse line
-        ≡ called (r .letter) (take (r .count) (now (numbers .exit)))) ⌝ }
+    ensures { λ r. ⌜ restOf reading (now (numbers .entry)) [] ≡ called (r .letter) (take (r .count) (now (numbers .exit))) ⌝ }
     ensures { λ r. ⌜ r .count ≤ 27 ⌝ }
 {
     match reading {
@@ -72,6 +57,12 @@ fn end_line(reading: Reading, numbers: &mut [u64]) -> Heard
         },
         Reading::Digits(letter, count, value) => {
             if 27 <= count {
+                return Heard {
+                    letter: 0,
+                    count: 0,
+                };
+            }
+            if 4_294_967_295 < value {
                 return Heard {
                     letter: 0,
                     count: 0,
@@ -139,6 +130,17 @@ fn is_call(letter: u8) -> bool
     }
 }
 
+// Whether a book stands: an O was accepted, and the memory holds a book of one day.
+fn has_book(started: bool, book: &[u64]) -> bool
+    requires { ⌜ 1 ≤ length (now book) ⌝ }
+    ensures { λ r. ⌜ r ≡ (started && eqb (word (now (book .entry)) 0) 1) ⌝ }
+{
+    if !started {
+        return false;
+    }
+    book[0] == 1
+}
+
 // Whether an enrol comes when 8 units stand. The book's sixth word counts its units.
 fn is_beyond(letter: u8, book: &[u64]) -> bool
     requires { ⌜ 6 ≤ length (now book) ⌝ }
@@ -184,9 +186,10 @@ fn turn_down(started: bool, out: &mut [u8]) -> Printed
 }
 
 fn answer_opening(started: bool, numbers: &[u64], book: &mut [u64], out: &mut [u8]) -> Printed
-    requires { ⌜ (length (now numbers) ≡ 27) × (24 ≤ length (now out)) ⌝ }
-    ensures { λ r. ⌜ Answered started (now (book .entry)) (opening (getD (now (numbers .entry)) 0 0) (getD (now (numbers .entry)) 1 0)
-        (getD (now (numbers .entry)) 2 0)) (r .started) (now (book .exit)) (take (r .length) (now (out .exit))) ⌝ }
+    requires { ⌜ (length (now numbers) ≡ 27) × (length (now book) ≡ 9648) × (length (now out) ≡ 95256) ⌝ }
+    ensures { λ r. ⌜ Answered started (now (book .entry))
+        (opening (getD (now (numbers .entry)) 0 0) (getD (now (numbers .entry)) 1 0) (getD (now (numbers .entry)) 2 0))
+        (r .started) (now (book .exit)) (take (r .length) (now (out .exit))) ⌝ }
     ensures { λ r. ⌜ r .length ≤ 95256 ⌝ }
 {
     let days = numbers[0];
@@ -212,9 +215,10 @@ fn answer_call(
     rows: &mut [u64],
     out: &mut [u8],
 ) -> Printed
-    requires { ⌜ (length (now numbers) ≡ 27) × (6 ≤ length (now book)) × (length (now rows) ≡ 4464) × (95256 ≤ length (now out)) ⌝ }
-    ensures { λ r. ⌜ Answered true (now (book .entry)) (calling (callOf letter (now (numbers .entry)))) (r .started) (now (book .exit))
-        (take (r .length) (now (out .exit))) ⌝ }
+    requires { ⌜ (length (now numbers) ≡ 27) × (length (now book) ≡ 9648) × (length (now rows) ≡ 4464) × (length (now out) ≡ 95256) ⌝ }
+    requires { ⌜ word (now book) 0 ≡ 1 ⌝ }
+    ensures { λ r. ⌜ Answered true (now (book .entry)) (calling (callOf letter (now (numbers .entry))))
+        (r .started) (now (book .exit)) (take (r .length) (now (out .exit))) ⌝ }
     ensures { λ r. ⌜ r .length ≤ 95256 ⌝ }
 {
     if is_beyond(letter, book) {
@@ -235,7 +239,8 @@ fn answer_call(
     }
 }
 
-fn answer(
+// Answers a line at its end: prints to the start of `out`.
+pub(crate) fn answer(
     reading: Reading,
     numbers: &mut [u64],
     started: bool,
@@ -243,9 +248,9 @@ fn answer(
     rows: &mut [u64],
     out: &mut [u8],
 ) -> Printed
-    requires { ⌜ (length (now numbers) ≡ 27) × (6 ≤ length (now book)) × (length (now rows) ≡ 4464) × (95256 ≤ length (now out)) ⌝ }
-    ensures { λ r. ⌜ ((line : List ℕ) → Reads line reading (now (numbers .entry))
-        → Answered started (now (book .entry)) (parse line) (r .started) (now (book .exit)) (take (r .length) (now (out .exit)))) ⌝ }
+    requires { ⌜ (length (now numbers) ≡ 27) × (length (now book) ≡ 9648) × (length (now rows) ≡ 4464) × (length (now out) ≡ 95256) ⌝ }
+    ensures { λ r. ⌜ Answered started (now (book .entry)) (restOf reading (now (numbers .entry)) [])
+        (r .started) (now (book .exit)) (take (r .length) (now (out .exit))) ⌝ }
     ensures { λ r. ⌜ r .length ≤ 95256 ⌝ }
 {
     let heard = end_line(reading, numbers);
@@ -259,24 +264,8 @@ fn answer(
     if !is_call(letter) {
         return turn_down(started, out);
     }
-    if !started {
+    if !has_book(started, book) {
         return turn_down(started, out);
     }
     answer_call(letter, numbers, book, rows, out)
-}
-
-// Answers a line that was read, at the line's end: prints to the start of `out`.
-pub fn answer_line(
-    reading: Reading,
-    numbers: &mut Numbers,
-    started: bool,
-    book: &mut BookMemory,
-    rows: &mut RowMemory,
-    out: &mut Text,
-) -> Printed
-    ensures { λ r. ⌜ ((line : List ℕ) → Reads line reading (now (numbers .entry))
-        → Answered started (now (book .entry)) (parse line) (r .started) (now (book .exit)) (take (r .length) (now (out .exit)))) ⌝ }
-    ensures { λ r. ⌜ r .length ≤ 95256 ⌝ }
-{
-    answer(reading, numbers, started, book, rows, out)
 }

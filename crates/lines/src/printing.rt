@@ -4,7 +4,7 @@ ghost use Prim.Native.Nat.{_+_, _*_, _≤_, _<_};
 ghost use mathlib.Core.List.{[], _∷_, _++_};
 ghost use lib.ListN.{length, take, drop};
 ghost use Rattle.lines.specs.Printed.{decimal, spaced, printedNo};
-ghost use Rattle.lines.specs.Puts.{Put, rowsText, okText};
+ghost use Rattle.lines.specs.inner.Puts.{Put, rowsText, okText};
 
 fn put_byte(out: &mut [u8], at: usize, byte: u8) -> usize
     requires { ⌜ at < length (now out) ⌝ }

@@ -1,12 +1,9 @@
 // Reading a line in pieces of any length.
 ghost use mathlib.Core.Path.{_≡_};
-ghost use Prim.Native.Nat.{ℕ, _≤_};
-ghost use mathlib.Core.List.{List, _++_};
+ghost use mathlib.Core.List.{[], _∷_};
 ghost use lib.ListN.{length};
-ghost use Rattle.lines.specs.Readings.{Reads, Follows, begun, EndsAt};
-
-// The numbers of a line: no letter has more than 27.
-pub type Numbers = [u64; 27];
+ghost use Rattle.lines.specs.Readings.{begun, ReadsOn};
+ghost use Rattle.lines.specs.Stepping.{untilEnd};
 
 // What is kept of a line's bytes so far. Its numbers that are complete stand in lent memory.
 pub enum Reading {
@@ -23,7 +20,7 @@ pub enum Reading {
 }
 
 fn after_start(byte: u8, numbers: &[u64]) -> Reading
-    ensures { λ r. ⌜ Follows Reading.Start (now (numbers .entry)) byte r (now (numbers .entry)) ⌝ }
+    ensures { λ r. ⌜ ReadsOn Reading.Start (now (numbers .entry)) (byte ∷ []) r (now (numbers .entry)) ⌝ }
 {
     if byte == b' ' {
         return Reading::Lost;
@@ -32,7 +29,7 @@ fn after_start(byte: u8, numbers: &[u64]) -> Reading
 }
 
 fn after_letter(letter: u8, byte: u8, numbers: &[u64]) -> Reading
-    ensures { λ r. ⌜ Follows (Reading.Letter letter) (now (numbers .entry)) byte r (now (numbers .entry)) ⌝ }
+    ensures { λ r. ⌜ ReadsOn (Reading.Letter letter) (now (numbers .entry)) (byte ∷ []) r (now (numbers .entry)) ⌝ }
 {
     if byte == b' ' {
         return Reading::Space(letter, 0);
@@ -41,7 +38,7 @@ fn after_letter(letter: u8, byte: u8, numbers: &[u64]) -> Reading
 }
 
 fn after_space(letter: u8, count: usize, byte: u8, numbers: &[u64]) -> Reading
-    ensures { λ r. ⌜ Follows (Reading.Space letter count) (now (numbers .entry)) byte r (now (numbers .entry)) ⌝ }
+    ensures { λ r. ⌜ ReadsOn (Reading.Space letter count) (now (numbers .entry)) (byte ∷ []) r (now (numbers .entry)) ⌝ }
 {
     if byte < b'0' {
         return Reading::Lost;
@@ -55,7 +52,7 @@ fn after_space(letter: u8, count: usize, byte: u8, numbers: &[u64]) -> Reading
 // A digit more, where the number stays below 2^32.
 fn after_digit(letter: u8, count: usize, value: u64, byte: u8, numbers: &[u64]) -> Reading
     requires { ⌜ (byte ≡ 32 → ⊥) ⌝ }
-    ensures { λ r. ⌜ Follows (Reading.Digits letter count value) (now (numbers .entry)) byte r (now (numbers .entry)) ⌝ }
+    ensures { λ r. ⌜ ReadsOn (Reading.Digits letter count value) (now (numbers .entry)) (byte ∷ []) r (now (numbers .entry)) ⌝ }
 {
     if byte < b'0' {
         return Reading::Lost;
@@ -76,9 +73,12 @@ fn after_digit(letter: u8, count: usize, value: u64, byte: u8, numbers: &[u64]) 
 // A number is complete and goes to its place; no line has more than 27.
 fn after_number(letter: u8, count: usize, value: u64, numbers: &mut [u64]) -> Reading
     requires { ⌜ length (now numbers) ≡ 27 ⌝ }
-    ensures { λ r. ⌜ Follows (Reading.Digits letter count value) (now (numbers .entry)) 32 r (now (numbers .exit)) ⌝ }
+    ensures { λ r. ⌜ ReadsOn (Reading.Digits letter count value) (now (numbers .entry)) (32 ∷ []) r (now (numbers .exit)) ⌝ }
 {
     if 26 <= count {
+        return Reading::Lost;
+    }
+    if 4_294_967_295 < value {
         return Reading::Lost;
     }
     numbers[count] = value;
@@ -88,7 +88,7 @@ fn after_number(letter: u8, count: usize, value: u64, numbers: &mut [u64]) -> Re
 // One byte more of a line.
 fn read_byte(reading: Reading, byte: u8, numbers: &mut [u64]) -> Reading
     requires { ⌜ length (now numbers) ≡ 27 ⌝ }
-    ensures { λ r. ⌜ Follows reading (now (numbers .entry)) byte r (now (numbers .exit)) ⌝ }
+    ensures { λ r. ⌜ ReadsOn reading (now (numbers .entry)) (byte ∷ []) r (now (numbers .exit)) ⌝ }
 {
     match reading {
         Reading::Start => after_start(byte, numbers),
@@ -105,15 +105,9 @@ fn read_byte(reading: Reading, byte: u8, numbers: &mut [u64]) -> Reading
 }
 
 // A piece more of a line.
-pub fn read_piece(reading: Reading, piece: &[u8], numbers: &mut Numbers) -> Reading
-    ensures { λ r. ⌜ ((line : List ℕ) → Reads line reading (now (numbers .entry)) → Reads (line ++ now (piece .entry)) r (now (numbers .exit))) ⌝ }
-{
-    read_bytes(reading, piece, numbers)
-}
-
-fn read_bytes(reading: Reading, piece: &[u8], numbers: &mut [u64]) -> Reading
+pub(crate) fn read_bytes(reading: Reading, piece: &[u8], numbers: &mut [u64]) -> Reading
     requires { ⌜ length (now numbers) ≡ 27 ⌝ }
-    ensures { λ r. ⌜ ((line : List ℕ) → Reads line reading (now (numbers .entry)) → Reads (line ++ now (piece .entry)) r (now (numbers .exit))) ⌝ }
+    ensures { λ r. ⌜ ReadsOn reading (now (numbers .entry)) (now (piece .entry)) r (now (numbers .exit)) ⌝ }
 {
     let mut read = reading;
     let mut i = 0;
@@ -125,7 +119,7 @@ fn read_bytes(reading: Reading, piece: &[u8], numbers: &mut [u64]) -> Reading
 }
 
 // Whether a byte of the line was read.
-pub fn has_begun(reading: Reading) -> bool
+pub(crate) fn has_begun(reading: Reading) -> bool
     ensures { λ r. ⌜ r ≡ begun reading ⌝ }
 {
     match reading {
@@ -137,13 +131,13 @@ pub fn has_begun(reading: Reading) -> bool
     }
 }
 
-// Where the line that runs at `from` ends: the next line end, or the end of the piece.
-pub fn line_end(piece: &[u8], from: usize) -> usize
-    ensures { λ r. ⌜ (from ≤ length (now (piece .entry)) → EndsAt (now (piece .entry)) from r) ⌝ }
+// Where the running line ends: the first line end, or the end of the bytes.
+pub(crate) fn line_end(bytes: &[u8]) -> usize
+    ensures { λ r. ⌜ r ≡ length (untilEnd (now (bytes .entry))) ⌝ }
 {
-    let mut i = from;
-    while i < piece.len() {
-        if piece[i] == b'\n' {
+    let mut i = 0;
+    while i < bytes.len() {
+        if bytes[i] == b'\n' {
             return i;
         }
         i += 1;

@@ -1,80 +1,76 @@
--- Laws of the line that runs on: no byte is lost between pieces.
-use Prim.Native.Nat.{ℕ, zero, suc, _+_, _-_, _≤_, _<_}
-use mathlib.Core.Path.{_≡_, refl, sym, ap, _∙_}
-use mathlib.Core.List.{List, [], _∷_, _++_, append-assoc, append-nil}
+-- Laws of steps one behind the other.
+use Prim.Native.Nat.{ℕ, _+_, _-_, _≤_, _<_}
+use mathlib.Core.Path.{_≡_, refl, ap, _∙_}
+use mathlib.Core.Bool.{Bool}
+use mathlib.Core.List.{List, [], _++_, append-assoc, append-nil}
 use native.Mathlib.Omega.{arith}
-use native.Mathlib.Nat.{not-suc-le-zero}
-use native.Mathlib.Numerals.{add-one}
-use borrow.Author.Tests.{eq-eqb, ne-eqb}
-use lib.ListN.{length, getD, take, drop, length-drop, drop-of-length-le}
-use lib.Seq.{drop-cons, drop-drop, getD-drop}
-use Rattle.lines.specs.declared.reading.Reading.{Reading}
-use Rattle.lines.specs.declared.reading.Reading.the-variants.{Start}
-use Rattle.lines.specs.Readings.{Reads, EndsAt}
-use Rattle.lines.proofs.ReadingLaws.{reads-none}
-use Rattle.rehearse.specs.Running.{running}
+use lib.ListN.{length, take, drop, length-drop}
+use lib.Seq.{take-all, take-add}
+use Rattle.lines.specs.declared.steps.Desk.{Desk}
+use Rattle.lines.specs.Stepping.{State, state, freshDesk, Stepped, Ended}
+use Rattle.lines.specs.EveryLine.{Steps, noStep, nextStep, Run}
+use Rattle.lines.proofs.StepLaws.{used-some, used-within}
+use Rattle.lines.proofs.EveryLineHolds.{every-line-answered}
+use Rattle.rehearse.specs.Running.{Passed, ReadFrom, Rehearsal}
 
--- n bytes with no line end among them
-run-on : (n : ℕ) (line bs : List ℕ) → n ≤ length bs → ((k : ℕ) → k < n → getD bs k 0 ≡ 10 → ⊥) → running line bs ≡ running (line ++ take n bs) (drop n bs)
-unfolding running
-run-on zero line bs h ne = ap (λ (l : List ℕ). running l bs) (sym (append-nil line))
-run-on (suc n) line [] h ne = absurd (not-suc-le-zero h)
-run-on (suc n) line (b ∷ bs) h ne =
-    rw (ne-eqb b 10 (ne 0 (omega arith)))
-    (run-on n (line ++ (b ∷ [])) bs (omega arith) (λ k l. ne (suc k) (omega arith))
-    ∙ ap (λ (l : List ℕ). running l (drop n bs)) (append-assoc line (b ∷ []) (take n bs)))
+-- steps behind steps
+steps-join : {a b c : State} {i j t u : List ℕ} → Steps a i b t → Steps b j c u → Steps a (i ++ j) c (t ++ u)
+steps-join {i = i} {t = t} f noStep = rw (append-nil i, append-nil t) f
+steps-join {i = i} {t = t} f (nextStep {input = j} {text = u} bytes used line g p) =
+    rw (← append-assoc i j (take used bytes), ← append-assoc t u line) (nextStep bytes used line (steps-join f g) p)
 
-module _ (piece : List ℕ) (from end : ℕ) (e : EndsAt piece from end) where
-  run-line : (line : List ℕ) → running line (drop from piece) ≡ running (line ++ take (end - from) (drop from piece)) (drop end piece)
-  run-line line =
-      let a = e .after in
-      let w = e .within in
-      let s : from + (end - from) ≡ end = omega arith in
-      run-on (end - from) line (drop from piece) (omega (arith, length-drop from piece))
-      (λ k l q. e .none (from + k) (omega arith) (omega arith) (sym (getD-drop from piece k 0) ∙ q))
-      ∙ ap (λ (l : List ℕ). running (line ++ take (end - from) (drop from piece)) l) (drop-drop (end - from) from piece ∙ ap (λ (k : ℕ). drop k piece) s)
+-- passing a piece: its first bytes are passed
+pub record Passing (s : State) (piece : List ℕ) (from : ℕ) (s′ : State) : Type 0 where
+  pub within : from ≤ length piece
+  pub passed : Passed s (take from piece) s′
 
-  -- a line end begins a new line
-  run-next : (line : List ℕ) → end < length piece → running line (drop from piece) ≡ running [] (drop (end + 1) piece)
-  unfolding running
-  run-next line h =
-      run-line line
-      ∙ rw (drop-cons piece end 0 h, eq-eqb (getD piece end 0) 10 (e .found h), add-one end)
+pub passing-none : (s : State) (piece : List ℕ) → Passing s piece 0 s
+passing-none s piece = record { within = omega arith; passed = record { text = []; steps = noStep } }
 
-  run-last : (line : List ℕ) → length piece ≤ end → running line (drop from piece) ≡ line ++ take (end - from) (drop from piece)
-  unfolding running
-  run-last line h = run-line line ∙ ap (λ (l : List ℕ). running (line ++ take (end - from) (drop from piece)) l) (drop-of-length-le piece h)
+pub passing-more : (s : State) (piece : List ℕ) (from : ℕ) (s₁ : State) (bytes : List ℕ) (s₂ : State) (used : ℕ) (t : List ℕ)
+    → Passing s piece from s₁ → bytes ≡ drop from piece → Stepped s₁ bytes s₂ used t → Passing s piece (from + used) s₂
+passing-more s piece from s₁ bytes s₂ used t f e p =
+    let w = f .within in
+    let u = used-within s₁ bytes s₂ used t p in
+    let l = ap length e ∙ length-drop from piece in
+    let q : take (from + used) piece ≡ take from piece ++ take used bytes = rw e (take-add from used piece) in
+    record {
+      within = omega arith;
+      passed = rw q (record { text = f .passed .text ++ t; steps = nextStep bytes used t (f .passed .steps) p });
+    }
 
--- where a piece stands at `from`: the line so far, and what is kept of it
-pub record Current (piece line : List ℕ) (from : ℕ) (r : Reading) (ns : List ℕ) : Type 0 where
-  pub far : List ℕ
-  pub reads : Reads far r ns
-  pub same : running far (drop from piece) ≡ running line piece
+pub passing-all : (s : State) (piece : List ℕ) (from : ℕ) (s′ : State) → Passing s piece from s′ → length piece ≤ from → Passed s piece s′
+passing-all s piece from s′ f h = rw (take-all from piece h) at (f .passed)
 
-abbrev pub Keeps : List ℕ → Reading → List ℕ → ℕ → Reading → List ℕ → Type 0
-Keeps piece r₀ ns₀ from r ns = (line : List ℕ) → Reads line r₀ ns₀ → Current piece line from r ns
+-- the part of a piece that a step is lent
+pub lent : (piece : List ℕ) (from : ℕ) → take (length piece - from) (drop from piece) ≡ drop from piece
+lent piece from = take-all (length piece - from) (drop from piece) (omega (arith, length-drop from piece))
 
-pub keeps-first : (piece : List ℕ) (r : Reading) (ns : List ℕ) → Keeps piece r ns 0 r ns
-keeps-first piece r ns line f = record { far = line; reads = f; same = refl }
+pub step-used : (piece : List ℕ) (from : ℕ) (s s′ : State) (used : ℕ) (t : List ℕ) → from < length piece
+    → Stepped s (take (length piece - from) (drop from piece)) s′ used t → (0 < used) × (from + used ≤ length piece)
+step-used piece from s s′ used t h p =
+    let bytes = take (length piece - from) (drop from piece) in
+    let l = ap length (lent piece from) ∙ length-drop from piece in
+    let u = used-within s bytes s′ used t p in
+    (used-some s bytes s′ used t p (omega arith), omega arith)
 
-pub keeps-next : (piece : List ℕ) (r₀ : Reading) (ns₀ : List ℕ) (from end : ℕ) (r : Reading) (ns ns′ : List ℕ)
-    → EndsAt piece from end → end < length piece → Keeps piece r₀ ns₀ from r ns → Keeps piece r₀ ns₀ (end + 1) Start ns′
-keeps-next piece r₀ ns₀ from end r ns ns′ e h k line f =
-    let c = k line f in
-    record { far = []; reads = reads-none ns′; same = sym (run-next piece from end e (c .far) h) ∙ c .same }
+-- reading piece after piece
+pub read-none : (d e : Desk) (ns m : List ℕ) → d ≡ e → ReadFrom (state e ns m) (state d ns m)
+read-none d e ns m same = rw same (record { bytes = []; passed = record { text = []; steps = noStep } })
 
-pub keeps-break : (piece : List ℕ) (r₀ : Reading) (ns₀ : List ℕ) (from end : ℕ) (r : Reading) (ns : List ℕ) (r′ : Reading) (ns′ : List ℕ)
-    → EndsAt piece from end → length piece ≤ end → Keeps piece r₀ ns₀ from r ns
-    → ((line : List ℕ) → Reads line r ns → Reads (line ++ take (end - from) (drop from piece)) r′ ns′)
-    → (line : List ℕ) → Reads line r₀ ns₀ → Reads (running line piece) r′ ns′
-keeps-break piece r₀ ns₀ from end r ns r′ ns′ e h k g line f =
-    let c = k line f in
-    rw (sym (c .same) ∙ run-last piece from end e (c .far) h) (g (c .far) (c .reads))
+pub read-piece : (s : State) (piece : List ℕ) (s′ : State) → Passed s piece s′ → ReadFrom s s′
+read-piece s piece s′ p = record { bytes = piece; passed = p }
 
-pub keeps-all : (piece : List ℕ) (r₀ : Reading) (ns₀ : List ℕ) (from : ℕ) (r : Reading) (ns : List ℕ) → length piece ≤ from → Keeps piece r₀ ns₀ from r ns
-    → (line : List ℕ) → Reads line r₀ ns₀ → Reads (running line piece) r ns
-unfolding running
-keeps-all piece r₀ ns₀ from r ns h k line f =
-    let c = k line f in
-    let s : c .far ≡ running line piece = ap (λ (l : List ℕ). running (c .far) l) (sym (drop-of-length-le piece h)) ∙ c .same in
-    rw (sym s) (c .reads)
+pub read-more : (a b c : State) → ReadFrom a b → ReadFrom b c → ReadFrom a c
+read-more a b c f g =
+    record {
+      bytes = f .bytes ++ g .bytes;
+      passed = record { text = f .passed .text ++ g .passed .text; steps = steps-join (f .passed .steps) (g .passed .steps) };
+    }
+
+pub read-all : (ns m : List ℕ) (s : State) (started : Bool) (m′ t : List ℕ) → ReadFrom (state freshDesk ns m) s → Ended s started m′ t → Rehearsal ns m
+read-all ns m s started m′ t f e =
+    record { input = f .bytes; text = f .passed .text ++ t; run = whole; answered = every-line-answered ns m (f .bytes) (f .passed .text ++ t) whole }
+  where
+    whole : Run ns m (f .bytes) (f .passed .text ++ t)
+    whole = record { at = s; before = f .passed .text; steps = f .passed .steps; started = started; left = m′; last = t; ended = e; all = refl }

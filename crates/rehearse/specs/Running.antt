@@ -1,10 +1,24 @@
--- The line that runs on past the end of a piece.
+-- What the program leaves: steps over what it read, each as `lines` promises it.
+use mathlib.Core.Path.{_≡_}
+use mathlib.Core.List.{List}
 use Prim.Native.Nat.{ℕ}
-use mathlib.Core.Bool.{cond}
-use mathlib.Core.List.{List, [], _∷_, _++_}
-use lib.Dec.{eqb}
+use Rattle.lines.specs.Rehearsed.{rehearsed}
+use Rattle.lines.specs.Stepping.{State}
+use Rattle.lines.specs.EveryLine.{Steps, Run}
 
--- its bytes: those behind the piece's last line end, or all of them behind `line`, which ran before
-unfoldable pub running : List ℕ → List ℕ → List ℕ
-running line [] = line
-running line (b ∷ bs) = cond (eqb b 10) (running [] bs) (running (line ++ (b ∷ [])) bs)
+-- steps over these bytes, none left out, from s to s′
+pub record Passed (s : State) (bytes : List ℕ) (s′ : State) : Type 0 where
+  pub text : List ℕ
+  pub steps : Steps s bytes s′ text
+
+-- steps over bytes that were read
+pub record ReadFrom (s s′ : State) : Type 0 where
+  pub bytes : List ℕ
+  pub passed : Passed s bytes s′
+
+-- a whole input was read, and what was printed for it is the answer to each of its lines
+pub record Rehearsal (numbers memory : List ℕ) : Type 0 where
+  pub input : List ℕ
+  pub text : List ℕ
+  pub run : Run numbers memory input text
+  pub answered : text ≡ rehearsed input

@@ -1,50 +1,36 @@
-// The program `rehearse` (paper 01): reads lines from standard input and answers each on standard output. What a line
-// means, gives and prints is the proved library `lines`.
+// The program `rehearse` (paper 01): reads standard input and writes to standard output what the steps of the proved
+// library `lines` print.
 use libc::STDIN_FILENO;
 use libc::STDOUT_FILENO;
-use lines::answering::BookMemory;
-use lines::answering::RowMemory;
-use lines::answering::Text;
-use lines::answering::answer_line;
-use lines::reading::Numbers;
-use lines::reading::Reading;
-use lines::reading::has_begun;
-use lines::reading::line_end;
-use lines::reading::read_piece;
-ghost use Prim.Native.Nat.{ℕ, _≤_};
-ghost use mathlib.Core.List.{List};
-ghost use lib.ListN.{length};
-ghost use Rattle.lines.specs.Readings.{Reads};
-ghost use Rattle.rehearse.specs.Running.{running};
+use lines::steps::BookMemory;
+use lines::steps::Desk;
+use lines::steps::Numbers;
+use lines::steps::RowMemory;
+use lines::steps::Text;
+use lines::steps::end;
+use lines::steps::new_desk;
+use lines::steps::step;
+ghost use mathlib.Core.Path.{_≡_};
+ghost use Prim.Native.Nat.{_≤_};
+ghost use lib.ListN.{length, take};
+ghost use Rattle.lines.specs.Stepping.{state};
+ghost use Rattle.rehearse.specs.Running.{Passed, ReadFrom, Rehearsal};
 
-// What goes from piece to piece: the line so far, whether an O was accepted, and whether the input goes on.
-struct Desk {
-    reading: Reading,
-    started: bool,
+// The desk after a read, and whether the input goes on.
+struct Turn {
+    desk: Desk,
     goes_on: bool,
 }
 
-fn write_start(out: &[u8], count: usize)
+// What was printed: the first bytes of the text.
+fn first(out: &[u8], count: usize) -> &[u8]
     requires { ⌜ count ≤ length (now out) ⌝ }
+    ensures { λ r. ⌜ now r ≡ take count (now (out .entry)) ⌝ }
 {
-    io::write_all(STDOUT_FILENO, &out[..count]);
+    &out[..count]
 }
 
-// Answers a line at its end.
-fn answer(
-    reading: Reading,
-    numbers: &mut Numbers,
-    started: bool,
-    book: &mut BookMemory,
-    rows: &mut RowMemory,
-    out: &mut Text,
-) -> bool {
-    let printed = answer_line(reading, numbers, started, book, rows, out);
-    write_start(out, printed.length);
-    printed.started
-}
-
-// Answers each line that ends in the piece, and keeps what is read of the next one: no byte is lost between pieces.
+// Steps over the whole piece, and writes what each step prints.
 fn answer_piece(
     piece: &[u8],
     desk: Desk,
@@ -53,27 +39,19 @@ fn answer_piece(
     rows: &mut RowMemory,
     out: &mut Text,
 ) -> Desk
-    ensures { λ r. ⌜ ((line : List ℕ) → Reads line (desk .reading) (now (numbers .entry))
-        → Reads (running line (now (piece .entry))) (r .reading) (now (numbers .exit))) ⌝ }
+    ensures { λ r. ⌜ Passed (state desk (now (numbers .entry)) (now (book .entry))) (now (piece .entry))
+        (state r (now (numbers .exit)) (now (book .exit))) ⌝ }
 {
-    let mut reading = desk.reading;
-    let mut started = desk.started;
+    let mut held = desk;
     let mut from = 0;
     while from < piece.len() {
-        let end = line_end(piece, from);
-        reading = read_piece(reading, &piece[from..end], numbers);
-        if end == piece.len() {
-            break;
-        }
-        started = answer(reading, numbers, started, book, rows, out);
-        reading = Reading::Start;
-        from = end + 1;
+        let done = step(&piece[from..], held, numbers, book, rows, out);
+        let length = done.length;
+        io::write_all(STDOUT_FILENO, first(out, length));
+        held = done.desk;
+        from += done.used;
     }
-    Desk {
-        reading,
-        started,
-        goes_on: true,
-    }
+    held
 }
 
 // Reads once, and answers what came.
@@ -83,40 +61,39 @@ fn read_once(
     book: &mut BookMemory,
     rows: &mut RowMemory,
     out: &mut Text,
-) -> Desk {
+) -> Turn
+    ensures { λ r. ⌜ ReadFrom (state desk (now (numbers .entry)) (now (book .entry))) (state (r .desk) (now (numbers .exit)) (now (book .exit))) ⌝ }
+{
     let mut piece = io::buffer();
     let got = libc::read(STDIN_FILENO, &mut piece);
     let count = io::count(got, &piece);
-    if count == 0 {
-        let reading = desk.reading;
-        return Desk {
-            reading,
-            started: desk.started,
-            goes_on: false,
-        };
+    let after = answer_piece(&piece[..count], desk, numbers, book, rows, out);
+    Turn {
+        desk: after,
+        goes_on: count > 0,
     }
-    answer_piece(&piece[..count], desk, numbers, book, rows, out)
 }
 
 // Reads to the end of the input, and answers a last line that has no line end. A proved loop has to end, and nothing
 // says that an input does: so the turns are counted down from a number that no run uses up.
-fn answer_all(numbers: &mut Numbers, book: &mut BookMemory, rows: &mut RowMemory, out: &mut Text) {
-    let mut desk = Desk {
-        reading: Reading::Start,
-        started: false,
-        goes_on: true,
-    };
+fn answer_all(numbers: &mut Numbers, book: &mut BookMemory, rows: &mut RowMemory, out: &mut Text)
+    ensures { λ _. ⌜ Rehearsal (now (numbers .entry)) (now (book .entry)) ⌝ }
+{
+    let mut desk = new_desk();
+    let mut goes_on = true;
     let mut turns = u64::MAX;
-    while turns > 0 && desk.goes_on {
-        desk = read_once(desk, numbers, book, rows, out);
+    while turns > 0 && goes_on {
+        let turn = read_once(desk, numbers, book, rows, out);
+        desk = turn.desk;
+        goes_on = turn.goes_on;
         turns -= 1;
     }
-    let reading = desk.reading;
-    if has_begun(reading) {
-        answer(reading, numbers, desk.started, book, rows, out);
-    }
+    let printed = end(desk, numbers, book, rows, out);
+    let length = printed.length;
+    io::write_all(STDOUT_FILENO, first(out, length));
 }
 
+// What it leaves is what `answer_all` ensures: an entry function takes no clause.
 fn main() {
     let mut numbers = [0u64; 27];
     let mut book = [0u64; 9648];

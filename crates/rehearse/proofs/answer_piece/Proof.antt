@@ -1,69 +1,65 @@
--- `answer_piece`: what is kept at `from` is what is kept of the line that runs there; each line ends within the piece.
-use Rattle.rehearse.proofs.RunningLaws.{Keeps, keeps-first, keeps-next, keeps-break, keeps-all}
+-- `answer_piece`: each step goes on where the last one stopped, until the piece is passed.
 use Prim.Native.Nat.{_-_}
 use native.Mathlib.Omega.{arith}
 use lib.ListN.{length}
-use Rattle.lines.specs.Readings.{EndsAt}
+use Rattle.lines.specs.Stepping.{state}
+use Rattle.rehearse.proofs.RunningLaws.{Passing, passing-none, passing-more, passing-all, lent, step-used}
 use borrow.Author.Needs.{needs}
 use Rattle.rehearse.proofs.answer_piece.Statement.{statement}
 use Rattle.rehearse.proofs.answer_piece.Tie as tie
 
 abbrev Inv-loop : tie.InvT-loop
-Inv-loop piece numbers₀ book₀ rows₀ out₀ reading₀ started₀ from₀ numbers book rows out reading started from = Keeps piece reading₀ numbers₀ from reading
-    numbers
+Inv-loop piece numbers₀ book₀ rows₀ out₀ held₀ from₀ numbers book rows out held from = Passing (state held₀ numbers₀ book₀) piece from (state held numbers book)
 
 abbrev μ-loop : tie.MeasureT-loop
-μ-loop piece numbers₀ book₀ rows₀ out₀ reading₀ started₀ from₀ numbers book rows out reading started from = length piece - from
-
-ends : (c : tie.After-line-end Inv-loop μ-loop) → EndsAt (c .before .before .before .before .args .piece .now) (c .before .before .loop .from)
-    (c .line-end .result)
-ends c = c .line-end .ensures (omega arith)
+μ-loop piece numbers₀ book₀ rows₀ out₀ held₀ from₀ numbers book rows out held from = length piece - from
 
 loop-holds : tie.Need-loop-holds Inv-loop μ-loop
-loop-holds c = keeps-first _ _ _
+loop-holds c = passing-none _ _
 
-line-end-requires : tie.Need-line-end-requires Inv-loop μ-loop
-line-end-requires c κs = search needs
+sub-step : tie.Need-sub-step Inv-loop μ-loop
+sub-step c = search needs
 
-sub-read-piece : tie.Need-sub-read-piece Inv-loop μ-loop
-sub-read-piece c = let e = ends c in omega arith
+part-step-start : tie.Need-part-step-start Inv-loop μ-loop
+part-step-start c = search needs
 
-part-read-piece-start : tie.Need-part-read-piece-start Inv-loop μ-loop
-part-read-piece-start c = let e = ends c in omega arith
+part-step-end : tie.Need-part-step-end Inv-loop μ-loop
+part-step-end c = search needs
 
-part-read-piece-end : tie.Need-part-read-piece-end Inv-loop μ-loop
-part-read-piece-end c = let e = ends c in omega arith
+step-requires : tie.Need-step-requires Inv-loop μ-loop
+step-requires c κs = search needs
 
-read-piece-requires : tie.Need-read-piece-requires Inv-loop μ-loop
-read-piece-requires c κs = search needs
+first-requires : tie.Need-first-requires Inv-loop μ-loop
+first-requires c κs = search needs
 
-answer-requires : tie.Need-answer-requires Inv-loop μ-loop
-answer-requires c κs = search needs
+write-all-requires : tie.Need-write-all-requires Inv-loop μ-loop
+write-all-requires c κs = search needs
 
 add-from : tie.Need-add-from Inv-loop μ-loop
 add-from c =
-    let c9 = c .before .before .before .before .before .before .before .before .before in
-    let e = ends c9 in omega arith
+    let piece = c .before .before .before .before .before .before .before .before .before .before .before .before .before .before .before .args .piece .now in
+    let some = c .before .before .before .before .before .before .before .before .before .before .before .before .loop-test .taken in
+    let p = c .before .before .before .before .before .before .step .ensures .0 in
+    let u = step-used piece _ _ _ (c .before .before .before .before .before .before .step .result .used) _ some p in
+    omega arith
 
 loop-less : tie.Need-loop-less Inv-loop μ-loop
 loop-less c =
-    let c9 = c .before .before .before .before .before .before .before .before .before in
-    let e = ends c9 in omega arith
+    let piece = c .before .before .before .before .before .before .before .before .before .before .before .before .before .before .before .args .piece .now in
+    let some = c .before .before .before .before .before .before .before .before .before .before .before .before .loop-test .taken in
+    let p = c .before .before .before .before .before .before .step .ensures .0 in
+    let u = step-used piece _ _ _ (c .before .before .before .before .before .before .step .result .used) _ some p in
+    omega arith
 
 loop-again : tie.Need-loop-again Inv-loop μ-loop
 loop-again c =
-    let c9 = c .before .before .before .before .before .before .before .before .before in
-    let c11 = c9 .before .before in
-    keeps-next _ _ _ _ _ _ _ _ (ends c9) (let e = ends c9 in omega arith) (c11 .loop .inv)
+    let c6 = c .before .before .before .before .before .before in
+    let c13 = c6 .before .before .before .before .before .before .before in
+    let c15 = c13 .before .before in
+    passing-more _ _ _ _ _ _ _ _ (c13 .loop .inv) (lent (c15 .args .piece .now) (c13 .loop .from)) (c6 .step .ensures .0)
 
 returns : tie.Need-returns Inv-loop μ-loop
-returns c = keeps-all _ _ _ _ _ _ (omega arith) (c .before .loop .inv)
-
-returns-2 : tie.Need-returns-2 Inv-loop μ-loop
-returns-2 c =
-    let c4 = c .before .before .before .before in
-    let c6 = c4 .before .before in
-    keeps-break _ _ _ _ _ _ _ _ _ (ends c4) (let e = ends c4 in omega arith) (c6 .loop .inv) (c .before .read-piece .ensures)
+returns c = passing-all _ _ _ _ (c .before .loop .inv) (omega arith)
 
 pub answer-piece-spec : {M : Type 1} → statement M
 answer-piece-spec =
@@ -72,14 +68,13 @@ answer-piece-spec =
     Inv-loop
     μ-loop
     loop-holds
-    line-end-requires
-    sub-read-piece
-    part-read-piece-start
-    part-read-piece-end
-    read-piece-requires
-    answer-requires
+    sub-step
+    part-step-start
+    part-step-end
+    step-requires
+    first-requires
+    write-all-requires
     add-from
     loop-less
     loop-again
-    returns
-    returns-2)
+    returns)

@@ -1,17 +1,8 @@
 -- `answer`: a wrong count, no letter of a call, or no book gives `no 0`; else the opening or the call answers.
 use mathlib.Core.Path.{refl, sym, _∙_}
 use borrow.Author.Tests.{not-true, not-false}
-use Rattle.lines.proofs.AnswerLaws.{
-  turned-down,
-  unknown-down,
-  early-down,
-  wrong-count,
-  right-count,
-  line-opening,
-  line-call,
-  line-other,
-  answered-as,
-}
+use Rattle.lines.proofs.AnswerLaws.{turned-down, unknown-down, early-down, wrong-count, right-count, line-opening, line-call, line-other, no-book}
+use Rattle.lines.proofs.AnswerLaws.{has-started, has-day, answered-as}
 use borrow.Author.Needs.{needs}
 use Rattle.lines.proofs.answering.answer.Statement.{statement}
 use Rattle.lines.proofs.answering.answer.Tie as tie
@@ -33,15 +24,14 @@ same-length-2 c = search needs
 
 returns : tie.Need-returns
 returns c =
-    let c4 = c .before .before .before .before in
-    let c6 = c4 .before .before in
-    let c9 = c6 .before .before .before in
-    let c15 = c9 .before .before .before .before .before .before in
-    let d = c .before .before .turn-down .ensures in (
-      (λ line f. turned-down _ _ _ _ _ (unknown-down _ _ _ (wrong-count _ _ _ _ (c9 .end-line .ensures .0 line f) (c9 .end-line .ensures .1)
-          (c9 .end-line .kept .1 .0 ∙ c15 .pre .0) (λ q. c4 .if1 .taken (q ∙ sym (c6 .count-of .ensures))))) (d .0) (d .1)),
-      d .2,
-    )
+    let e = c .before .before .before .before in
+    let l = e .before .before .before .before .before in
+    let s = l .before .before .before .before .before .before in
+    let h = l .end-line .ensures in
+    let k = l .end-line .kept .1 .0 ∙ s .pre .0 in
+    let w = wrong-count _ _ _ _ (h .0) (h .1) k (λ q. e .if1 .taken (q ∙ sym (e .before .before .count-of .ensures))) in
+    let d = c .before .before .turn-down .ensures in
+    (turned-down _ _ _ _ _ (unknown-down _ _ w) (d .0) (d .1), d .2)
 
 answer-opening-requires : tie.Need-answer-opening-requires
 answer-opening-requires c κs = search needs
@@ -57,17 +47,15 @@ same-length-5 c = search needs
 
 returns-2 : tie.Need-returns-2
 returns-2 c =
-    let c4 = c .before .before .before .before in
-    let c8 = c4 .before .before .before .before in
-    let c9 = c8 .before in
-    let c11 = c9 .before .before in
-    let c14 = c11 .before .before .before in
-    let c20 = c14 .before .before .before .before .before .before in
-    let g = c4 .answer-opening .ensures in (
-      (λ line f. answered-as _ _ _ _ _ _ _ _ refl (right-count _ _ _ _ (c14 .end-line .ensures .0 line f) (c14 .end-line .ensures .1)
-          (c14 .end-line .kept .1 .0 ∙ c20 .pre .0) (c9 .if1 .left ∙ c11 .count-of .ensures) ∙ line-opening _ _ (c8 .if2 .taken)) (g .0)),
-      g .1,
-    )
+    let o = c .before .before .before .before .before .before .before .before in
+    let e = o .before in
+    let l = e .before .before .before .before .before in
+    let s = l .before .before .before .before .before .before in
+    let h = l .end-line .ensures in
+    let k = l .end-line .kept .1 .0 ∙ s .pre .0 in
+    let r = right-count _ _ _ _ (h .0) (h .1) k (e .if1 .left ∙ e .before .before .count-of .ensures) in
+    let g = c .before .before .before .before .answer-opening .ensures in
+    (answered-as _ _ _ _ _ _ _ _ refl (r ∙ line-opening _ _ (o .if2 .taken)) (g .0), g .1)
 
 is-call-requires : tie.Need-is-call-requires
 is-call-requires c κs = search needs
@@ -83,19 +71,21 @@ same-length-7 c = search needs
 
 returns-3 : tie.Need-returns-3
 returns-3 c =
-    let c4 = c .before .before .before .before in
-    let c5 = c4 .before in
-    let c6 = c5 .before in
-    let c7 = c6 .before in
-    let c9 = c7 .before .before in
-    let c12 = c9 .before .before .before in
-    let c18 = c12 .before .before .before .before .before .before in
-    let d = c .before .before .turn-down2 .ensures in (
-      (λ line f. turned-down _ _ _ _ _ (unknown-down _ _ _ (right-count _ _ _ _ (c12 .end-line .ensures .0 line f) (c12 .end-line .ensures .1)
-          (c12 .end-line .kept .1 .0 ∙ c18 .pre .0) (c7 .if1 .left ∙ c9 .count-of .ensures)
-          ∙ line-other _ _ (c6 .if2 .left) (sym (c5 .is-call .ensures) ∙ not-true _ (c4 .if3 .taken)))) (d .0) (d .1)),
-      d .2,
-    )
+    let f = c .before .before .before .before in
+    let i = f .before in
+    let o = i .before in
+    let e = o .before in
+    let l = e .before .before .before .before .before in
+    let s = l .before .before .before .before .before .before in
+    let h = l .end-line .ensures in
+    let k = l .end-line .kept .1 .0 ∙ s .pre .0 in
+    let r = right-count _ _ _ _ (h .0) (h .1) k (e .if1 .left ∙ e .before .before .count-of .ensures) in
+    let n = line-other _ _ (o .if2 .left) (sym (i .is-call .ensures) ∙ not-true _ (f .if3 .taken)) in
+    let d = c .before .before .turn-down2 .ensures in
+    (turned-down _ _ _ _ _ (unknown-down _ _ (r ∙ n)) (d .0) (d .1), d .2)
+
+has-book-requires : tie.Need-has-book-requires
+has-book-requires c κs = search needs
 
 turn-down-requires-3 : tie.Need-turn-down-requires-3
 turn-down-requires-3 c κs = search needs
@@ -106,28 +96,32 @@ same-length-8 c = search needs
 same-length-9 : tie.Need-same-length-9
 same-length-9 c = search needs
 
-returns-4 : tie.Need-returns-4
-returns-4 c =
-    let c4 = c .before .before .before .before in
-    let c5 = c4 .before in
-    let c6 = c5 .before in
-    let c7 = c6 .before in
-    let c8 = c7 .before in
-    let c10 = c8 .before .before in
-    let c13 = c10 .before .before .before in
-    let c19 = c13 .before .before .before .before .before .before in
-    let d = c .before .before .turn-down3 .ensures in (
-      (λ line f. turned-down _ _ _ _ _ (early-down _ _ _ _ (not-true _ (c4 .if4 .taken))
-          (right-count _ _ _ _ (c13 .end-line .ensures .0 line f) (c13 .end-line .ensures .1) (c13 .end-line .kept .1 .0 ∙ c19 .pre .0) (c8 .if1 .left
-          ∙ c10 .count-of .ensures) ∙ line-call _ _ (c7 .if2 .left) (sym (c6 .is-call .ensures) ∙ not-false _ (c5 .if3 .left)))) (d .0) (d .1)),
-      d .2,
-    )
-
-answer-call-requires : tie.Need-answer-call-requires
-answer-call-requires c κs = search needs
-
 same-length-10 : tie.Need-same-length-10
 same-length-10 c = search needs
+
+returns-4 : tie.Need-returns-4
+returns-4 c =
+    let b = c .before .before .before .before .before in
+    let f = b .before .before in
+    let i = f .before in
+    let o = i .before in
+    let e = o .before in
+    let l = e .before .before .before .before .before in
+    let s = l .before .before .before .before .before .before in
+    let h = l .end-line .ensures in
+    let k = l .end-line .kept .1 .0 ∙ s .pre .0 in
+    let r = right-count _ _ _ _ (h .0) (h .1) k (e .if1 .left ∙ e .before .before .count-of .ensures) in
+    let t = line-call _ _ (o .if2 .left) (sym (i .is-call .ensures) ∙ not-false _ (f .if3 .left)) in
+    let n = no-book (s .args .started) (s .args .book .now) (sym (b .has-book .ensures) ∙ not-true _ (c .before .before .before .before .if4 .taken)) in
+    let d = c .before .before .turn-down3 .ensures in
+    (turned-down _ _ _ _ _ (early-down _ _ _ n (r ∙ t)) (d .0) (d .1), d .2)
+
+answer-call-requires : tie.Need-answer-call-requires
+answer-call-requires c κs =
+    let b = c .before .before .before .before .before in
+    let s = b .before .before .before .before .before .before .before .before .before .before .before .before .before .before .before .before in
+    let d = has-day (s .args .started) (s .args .book .now) (sym (b .has-book .ensures) ∙ not-false _ (c .before .before .before .before .if4 .left)) in
+    search needs
 
 same-length-11 : tie.Need-same-length-11
 same-length-11 c = search needs
@@ -138,23 +132,26 @@ same-length-12 c = search needs
 same-length-13 : tie.Need-same-length-13
 same-length-13 c = search needs
 
+same-length-14 : tie.Need-same-length-14
+same-length-14 c = search needs
+
 returns-5 : tie.Need-returns-5
 returns-5 c =
-    let c6 = c .before .before .before .before .before .before in
-    let c11 = c6 .before .before .before .before .before in
-    let c12 = c11 .before in
-    let c13 = c12 .before in
-    let c14 = c13 .before in
-    let c15 = c14 .before in
-    let c17 = c15 .before .before in
-    let c20 = c17 .before .before .before in
-    let c26 = c20 .before .before .before .before .before .before in
-    let g = c6 .answer-call .ensures in (
-      (λ line f. answered-as _ _ _ _ _ _ _ _ (not-false _ (c11 .if4 .left))
-          (right-count _ _ _ _ (c20 .end-line .ensures .0 line f) (c20 .end-line .ensures .1) (c20 .end-line .kept .1 .0 ∙ c26 .pre .0) (c15 .if1 .left
-          ∙ c17 .count-of .ensures) ∙ line-call _ _ (c14 .if2 .left) (sym (c13 .is-call .ensures) ∙ not-false _ (c12 .if3 .left))) (g .0)),
-      g .1,
-    )
+    let u = c .before .before .before .before .before .before .before .before .before .before .before in
+    let b = u .before in
+    let f = b .before .before in
+    let i = f .before in
+    let o = i .before in
+    let e = o .before in
+    let l = e .before .before .before .before .before in
+    let s = l .before .before .before .before .before .before in
+    let h = l .end-line .ensures in
+    let k = l .end-line .kept .1 .0 ∙ s .pre .0 in
+    let r = right-count _ _ _ _ (h .0) (h .1) k (e .if1 .left ∙ e .before .before .count-of .ensures) in
+    let t = line-call _ _ (o .if2 .left) (sym (i .is-call .ensures) ∙ not-false _ (f .if3 .left)) in
+    let y = has-started (s .args .started) (s .args .book .now) (sym (b .has-book .ensures) ∙ not-false _ (u .if4 .left)) in
+    let g = c .before .before .before .before .before .before .answer-call .ensures in
+    (answered-as _ _ _ _ _ _ _ _ y (r ∙ t) (g .0), g .1)
 
 pub answer-spec : {M : Type 1} → statement M
 answer-spec =
@@ -176,13 +173,15 @@ answer-spec =
     same-length-6
     same-length-7
     returns-3
+    has-book-requires
     turn-down-requires-3
     same-length-8
     same-length-9
+    same-length-10
     returns-4
     answer-call-requires
-    same-length-10
     same-length-11
     same-length-12
     same-length-13
+    same-length-14
     returns-5)

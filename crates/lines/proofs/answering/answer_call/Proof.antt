@@ -1,4 +1,4 @@
--- `answer_call`: an enrol beyond 8 units is turned down; else as the call answers.
+-- `answer_call`: an enrol beyond 8 units gives `no 0`; else the library's answer and rows are printed.
 use Prim.Native.Nat.{_*_, _≤_}
 use mathlib.Core.Path.{sym, _∙_}
 use native.Mathlib.Omega.{arith}
@@ -10,11 +10,11 @@ use Rattle.lines.proofs.answering.answer_call.Tie as tie
 -- the rows that came back have room
 fits : (c : tie.After-print-ok-arg2) → 6 * (c .before .before .before .before .told-by .result .count) ≤ 4464
 fits c =
-    let c4 = c .before .before .before .before in
-    let c9 = c4 .before .before .before .before .before in
-    let c19 = c9 .before .before .before .before .before .before .before .before .before .before in
-    room _ _ _ _ _ _ (c9 .make-call .ensures) _ _ (c4 .told-by .ensures .0) (c .before .before .if2 .left) (c4 .told-by .ensures .2) (c19 .pre .2)
-    (c9 .make-call .kept .1 .1 .1 .0)
+    let t = c .before .before .before .before in
+    let k = t .before .before .before .before .before in
+    let m = k .make-call in
+    room _ _ _ _ _ _ (m .ensures) _ _ (t .told-by .ensures .0) (c .before .before .if2 .left) (t .told-by .ensures .2)
+    (k .before .before .before .before .before .before .before .before .before .before .pre .0 .2) (m .kept .1 .1 .1 .0)
 
 is-beyond-requires : tie.Need-is-beyond-requires
 is-beyond-requires c κs = search needs
@@ -30,12 +30,11 @@ same-length-2 c = search needs
 
 returns : tie.Need-returns
 returns c =
-    let c4 = c .before .before .before .before in
-    let c5 = c4 .before in (
-      turned-down _ _ _ _ _ (beyond-down _ _ _ (sym (c5 .is-beyond .ensures) ∙ c4 .if1 .taken)) (c .before .before .turn-down .ensures .0)
-          (c .before .before .turn-down .ensures .1),
-      c .before .before .turn-down .ensures .2,
-    )
+    let i = c .before .before .before .before in
+    let s = i .before .before .before .before .before .before .before in
+    let w = beyond-down _ (s .pre .1) _ _ (sym (i .before .is-beyond .ensures) ∙ i .if1 .taken) in
+    let d = c .before .before .turn-down .ensures in
+    (turned-down _ _ _ _ _ w (d .0) (d .1), d .2)
 
 make-call-requires : tie.Need-make-call-requires
 make-call-requires c κs = search needs
@@ -57,15 +56,14 @@ same-length-5 c = search needs
 
 returns-2 : tie.Need-returns-2
 returns-2 c =
-    let c4 = c .before .before .before .before in
-    let c6 = c4 .before .before in
-    let c11 = c6 .before .before .before .before .before in
-    let c14 = c11 .before .before .before in
-    let c15 = c14 .before in (
-      call-no _ _ _ _ _ _ (c11 .make-call .ensures) (within-taken _ _ _ (sym (c15 .is-beyond .ensures) ∙ c14 .if1 .left)) _ _ (c6 .told-by .ensures .0)
-          (c4 .if2 .taken) (c .before .before .print-no .ensures .0),
-      omega arith,
-    )
+    let j = c .before .before .before .before in
+    let t = j .before .before .told-by .ensures in
+    let k = j .before .before .before .before .before .before .before in
+    let i = k .before .before .before in
+    let p = i .before .before .before .before .before .before .before .pre in
+    let w = within-taken _ (p .1) _ _ (sym (i .before .is-beyond .ensures) ∙ i .if1 .left) in
+    let n = c .before .before .print-no .ensures in
+    (call-no _ _ _ _ _ _ (k .make-call .ensures) (p .1) (p .0 .1) w _ _ (t .0) (j .if2 .taken) (n .0), omega arith)
 
 print-ok-requires : tie.Need-print-ok-requires
 print-ok-requires c κs = let w : 6 * (c .before .before .before .before .told-by .result .count) ≤ 4464 = fits c in omega arith
@@ -81,16 +79,15 @@ same-length-8 c = search needs
 
 returns-3 : tie.Need-returns-3
 returns-3 c =
-    let c3 = c .before .before .before in
-    let c5 = c3 .before .before in
-    let c7 = c5 .before .before in
-    let c12 = c7 .before .before .before .before .before in
-    let c15 = c12 .before .before .before in
-    let c16 = c15 .before in (
-      call-ok _ _ _ _ _ _ (c12 .make-call .ensures) (within-taken _ _ _ (sym (c16 .is-beyond .ensures) ∙ c15 .if1 .left)) _ _ _ _ (c7 .told-by .ensures .0)
-          (c5 .if2 .left) (c7 .told-by .ensures .1) (c7 .told-by .ensures .2) (c .before .before .print-ok .ensures .0),
-      let w = fits c3 in omega arith,
-    )
+    let j = c .before .before .before .before .before in
+    let t = j .before .before .told-by .ensures in
+    let k = j .before .before .before .before .before .before .before in
+    let i = k .before .before .before in
+    let p = i .before .before .before .before .before .before .before .pre in
+    let w = within-taken _ (p .1) _ _ (sym (i .before .is-beyond .ensures) ∙ i .if1 .left) in
+    let n = c .before .before .print-ok .ensures in
+    let f = fits (c .before .before .before) in
+    (call-ok _ _ _ _ _ _ (k .make-call .ensures) (p .1) (p .0 .1) w _ _ _ _ (t .0) (j .if2 .left) (t .1) (t .2) (n .0), omega arith)
 
 pub answer-call-spec : {M : Type 1} → statement M
 answer-call-spec =

@@ -1,4 +1,4 @@
--- `answer_opening`: days over 1 are turned down; else as opening answers.
+-- `answer_opening`: days over 1 give `no 0`; else the library's answer is printed.
 use native.Mathlib.Omega.{arith}
 use Rattle.lines.proofs.AnswerLaws.{turned-down, days-down, opening-no, opening-ok}
 use borrow.Author.Needs.{needs}
@@ -15,11 +15,9 @@ same-length : tie.Need-same-length
 same-length c = search needs
 
 returns : tie.Need-returns
-returns c = (
-  turned-down _ _ _ _ _ (days-down _ _ _ _ _ (omega arith)) (c .before .before .turn-down .ensures .0)
-      (c .before .before .turn-down .ensures .1),
-  c .before .before .turn-down .ensures .2,
-)
+returns c =
+    let d = c .before .before .turn-down .ensures in
+    (turned-down _ _ _ _ _ (days-down _ _ _ _ (omega arith)) (d .0) (d .1), d .2)
 
 shared-slice-read-open : tie.Need-shared-slice-read-open
 shared-slice-read-open c = search needs
@@ -44,12 +42,11 @@ same-length-3 c = search needs
 
 returns-2 : tie.Need-returns-2
 returns-2 c =
-    let c4 = c .before .before .before .before in
-    let c6 = c4 .before .before in
-    let c9 = c6 .before .before .before in (
-      opening-no _ _ _ _ _ _ _ (c9 .«open» .ensures) (omega arith) _ _ (c6 .told-by .ensures .0) (c4 .if2 .taken) (c .before .before .print-no .ensures .0),
-      omega arith,
-    )
+    let t = c .before .before .before .before .before .before .told-by .ensures in
+    let i = c .before .before .before .before .if2 .taken in
+    let o = c .before .before .before .before .before .before .before .before .before .«open» .ensures in
+    let p = c .before .before .print-no .ensures in
+    (opening-no _ _ _ _ _ _ _ o (omega arith) (omega arith) _ _ (t .0) i (p .0), omega arith)
 
 print-ok-requires : tie.Need-print-ok-requires
 print-ok-requires c κs = search needs
@@ -62,13 +59,11 @@ same-length-5 c = search needs
 
 returns-3 : tie.Need-returns-3
 returns-3 c =
-    let c4 = c .before .before .before .before in
-    let c6 = c4 .before .before in
-    let c9 = c6 .before .before .before in (
-      opening-ok _ _ _ _ _ _ _ (c9 .«open» .ensures) (omega arith) _ _ _ _ (c6 .told-by .ensures .0) (c4 .if2 .left) (c6 .told-by .ensures .1)
-          (c .before .before .print-ok .ensures .0),
-      omega arith,
-    )
+    let t = c .before .before .before .before .before .before .told-by .ensures in
+    let i = c .before .before .before .before .if2 .left in
+    let o = c .before .before .before .before .before .before .before .before .before .«open» .ensures in
+    let p = c .before .before .print-ok .ensures in
+    (opening-ok _ _ _ _ _ _ _ o (omega arith) (omega arith) _ _ _ _ (t .0) i (t .1) (p .0), omega arith)
 
 pub answer-opening-spec : {M : Type 1} → statement M
 answer-opening-spec =

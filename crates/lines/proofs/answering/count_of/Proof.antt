@@ -33,8 +33,9 @@ unfolding countOf
 returns-7 c = count-is (c .before .args .letter) 88 (c .match .keys7)
 
 returns-8 : tie.Need-returns-8
-returns-8 c = count-none (c .before .args .letter) (c .match .rest .0 .0 .0 .0 .0 .0 .1) (c .match .rest .0 .0 .0 .0 .0 .1) (c .match .rest .0 .0 .0 .0 .1)
-    (c .match .rest .0 .0 .0 .1) (c .match .rest .0 .0 .1) (c .match .rest .0 .1) (c .match .rest .1)
+returns-8 c =
+    let r = c .match .rest in
+    count-none (c .before .args .letter) (r .0 .0 .0 .0 .0 .0 .1) (r .0 .0 .0 .0 .0 .1) (r .0 .0 .0 .0 .1) (r .0 .0 .0 .1) (r .0 .0 .1) (r .0 .1) (r .1)
 
 pub count-of-spec : {M : Type 1} → statement M
 count-of-spec =

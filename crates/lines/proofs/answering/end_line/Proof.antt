@@ -1,7 +1,6 @@
 -- `end_line`: with nothing more to come, what is kept says what the line says.
-use mathlib.Core.List.{[]}
 use native.Mathlib.Omega.{arith}
-use Rattle.lines.proofs.ReadingLaws.{end-unknown, start-unknown, space-unknown, lost-unknown, end-letter, end-number}
+use Rattle.lines.proofs.ReadingLaws.{start-says, end-letter, space-says, many-says, large-says, end-number, lost-says}
 use borrow.Author.Needs.{needs}
 use Rattle.lines.proofs.answering.end_line.Statement.{statement}
 use Rattle.lines.proofs.answering.end_line.Tie as tie
@@ -19,7 +18,10 @@ enum-known-reading-2 : tie.Need-enum-known-reading-2
 enum-known-reading-2 c = search needs
 
 returns : tie.Need-returns
-returns c = ((λ line f. let g = rw (c .before .before .reading2 .given .1) at f in absurd (let w = g .within .0 in omega arith)), omega arith)
+returns c = (rw (c .before .before .reading2 .given .1) (many-says _ _ _ _ (omega arith) (omega arith)), omega arith)
+
+returns-2 : tie.Need-returns-2
+returns-2 c = (rw (c .before .before .before .reading2 .given .1) (large-says _ _ _ _ (omega arith)), omega arith)
 
 mul-numbers : tie.Need-mul-numbers
 mul-numbers c = search needs
@@ -33,23 +35,23 @@ add-t9 c = search needs
 enum-told-3 : tie.Need-enum-told-3
 enum-told-3 c = search needs
 
-returns-2 : tie.Need-returns-2
-returns-2 c = ((λ line f. end-unknown line _ _ [] (start-unknown _) (rw (c .enum-told .given .1) at f)), omega arith)
-
 returns-3 : tie.Need-returns-3
-returns-3 c = ((λ line f. end-letter line _ _ (rw (c .before .reading .given .1) at f)), omega arith)
+returns-3 c = (rw (c .enum-told .given .1) (start-says _), omega arith)
 
 returns-4 : tie.Need-returns-4
-returns-4 c = ((λ line f. end-unknown line _ _ [] (space-unknown _ _ _) (rw (c .enum-told2 .given .1) at f)), omega arith)
+returns-4 c = (rw (c .before .reading .given .1) (end-letter _ _), omega arith)
+
+returns-5 : tie.Need-returns-5
+returns-5 c = (rw (c .enum-told2 .given .1) (space-says _ _ _), omega arith)
 
 same-length : tie.Need-same-length
 same-length c = search needs
 
-returns-5 : tie.Need-returns-5
-returns-5 c = ((λ line f. end-number line _ _ _ _ (omega arith) (rw (c .before .before .reading2 .given .1) at f)), omega arith)
-
 returns-6 : tie.Need-returns-6
-returns-6 c = ((λ line f. end-unknown line _ _ [] (lost-unknown _) (rw (c .enum-told3 .given .1) at f)), omega arith)
+returns-6 c = (rw (c .before .before .before .reading2 .given .1) (end-number _ _ _ _ (omega arith) (omega arith)), omega arith)
+
+returns-7 : tie.Need-returns-7
+returns-7 c = (rw (c .enum-told3 .given .1) (lost-says _), omega arith)
 
 pub end-line-spec : {M : Type 1} → statement M
 end-line-spec =
@@ -60,13 +62,14 @@ end-line-spec =
     enum-told-2
     enum-known-reading-2
     returns
+    returns-2
     mul-numbers
     slice-write-numbers
     add-t9
     enum-told-3
-    returns-2
     returns-3
     returns-4
-    same-length
     returns-5
-    returns-6)
+    same-length
+    returns-6
+    returns-7)

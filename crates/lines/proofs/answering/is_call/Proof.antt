@@ -37,9 +37,10 @@ unfolding isCall
 returns-8 c = call-is (c .before .args .letter) 68 (c .match .keys8)
 
 returns-9 : tie.Need-returns-9
-returns-9 c = call-none (c .before .args .letter) (c .match .rest .0 .0 .0 .0 .0 .0 .0 .1) (c .match .rest .0 .0 .0 .0 .0 .0 .1)
-    (c .match .rest .0 .0 .0 .0 .0 .1) (c .match .rest .0 .0 .0 .0 .1) (c .match .rest .0 .0 .0 .1) (c .match .rest .0 .0 .1) (c .match .rest .0 .1)
-    (c .match .rest .1)
+returns-9 c =
+    let r = c .match .rest in
+    call-none (c .before .args .letter) (r .0 .0 .0 .0 .0 .0 .0 .1) (r .0 .0 .0 .0 .0 .0 .1) (r .0 .0 .0 .0 .0 .1) (r .0 .0 .0 .0 .1) (r .0 .0 .0 .1)
+    (r .0 .0 .1) (r .0 .1) (r .1)
 
 pub is-call-spec : {M : Type 1} → statement M
 is-call-spec =

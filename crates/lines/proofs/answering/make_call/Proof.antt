@@ -1,15 +1,5 @@
 -- `make_call`: each letter makes its call; a call that hands back no rows leaves the lent ones.
-use Rattle.lines.proofs.AnswerLaws.{
-  made-enrol,
-  made-offer,
-  made-take,
-  made-withdraw,
-  made-order,
-  made-cancel,
-  made-clear,
-  made-close,
-  amounts-behind,
-}
+use Rattle.lines.proofs.AnswerLaws.{made-enrol, made-offer, made-take, made-withdraw, made-order, made-cancel, made-clear, made-close, amounts-behind}
 use borrow.Author.Needs.{needs}
 use Rattle.lines.proofs.answering.make_call.Statement.{statement}
 use Rattle.lines.proofs.answering.make_call.Tie as tie
@@ -105,9 +95,7 @@ same-length : tie.Need-same-length
 same-length c = search needs
 
 returns : tie.Need-returns
-returns c =
-    let c7 = c .before .before .before .before .before .before .before in
-    made-enrol _ _ _ _ _ _ (c7 .match .keys1) (c .before .before .enrol .ensures)
+returns c = made-enrol _ _ _ _ _ _ (c .before .before .before .before .before .before .before .match .keys1) (c .before .before .enrol .ensures)
 
 same-length-2 : tie.Need-same-length-2
 same-length-2 c = search needs
@@ -135,9 +123,7 @@ same-length-5 : tie.Need-same-length-5
 same-length-5 c = search needs
 
 returns-4 : tie.Need-returns-4
-returns-4 c =
-    let c6 = c .before .before .before .before .before .before in
-    made-withdraw _ _ _ _ _ _ (c6 .match .keys4) (c .before .before .withdraw .ensures)
+returns-4 c = made-withdraw _ _ _ _ _ _ (c .before .before .before .before .before .before .match .keys4) (c .before .before .withdraw .ensures)
 
 same-length-6 : tie.Need-same-length-6
 same-length-6 c = search needs
@@ -156,9 +142,7 @@ same-length-8 : tie.Need-same-length-8
 same-length-8 c = search needs
 
 returns-6 : tie.Need-returns-6
-returns-6 c =
-    let c6 = c .before .before .before .before .before .before in
-    made-cancel _ _ _ _ _ _ (c6 .match .keys6) (c .before .before .cancel .ensures)
+returns-6 c = made-cancel _ _ _ _ _ _ (c .before .before .before .before .before .before .match .keys6) (c .before .before .cancel .ensures)
 
 same-length-9 : tie.Need-same-length-9
 same-length-9 c = search needs
@@ -179,8 +163,9 @@ same-length-11 c = search needs
 returns-8 : tie.Need-returns-8
 returns-8 c =
     let c4 = c .before .before .before .before in
-    let r = c4 .match .rest in made-close _ _ _ _ _ _ (r .0 .0 .0 .0 .0 .0 .1) (r .0 .0 .0 .0 .0 .1) (r .0 .0 .0 .0 .1) (r .0 .0 .0 .1) (r .0 .0 .1)
-    (r .0 .1) (r .1) (c .before .before .close .ensures)
+    let r = c4 .match .rest in
+    made-close _ _ _ _ _ _ (r .0 .0 .0 .0 .0 .0 .1) (r .0 .0 .0 .0 .0 .1) (r .0 .0 .0 .0 .1) (r .0 .0 .0 .1) (r .0 .0 .1) (r .0 .1) (r .1)
+    (c .before .before .close .ensures)
 
 pub make-call-spec : {M : Type 1} → statement M
 make-call-spec =

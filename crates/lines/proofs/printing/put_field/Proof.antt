@@ -14,9 +14,7 @@ same-length : tie.Need-same-length
 same-length c = search needs
 
 returns : tie.Need-returns
-returns c =
-    let c6 = c .before .before .before .before .before .before in
-    put-field _ _ _ _ _ _ _ (c6 .put-byte .ensures) (c .before .before .put-number .ensures)
+returns c = put-field _ _ _ _ _ _ _ (c .before .before .before .before .before .before .put-byte .ensures) (c .before .before .put-number .ensures)
 
 pub put-field-spec : {M : Type 1} → statement M
 put-field-spec = tie.close (tie.spec put-byte-requires put-number-requires same-length returns)

@@ -8,19 +8,19 @@ use Rattle.lines.proofs.reading.line_end.Statement.{statement}
 use Rattle.lines.proofs.reading.line_end.Tie as tie
 
 abbrev Inv-loop : tie.InvT-loop
-Inv-loop piece from i₀ i = Seeking piece from i
+Inv-loop bytes i₀ i = Seeking bytes i
 
 abbrev μ-loop : tie.MeasureT-loop
-μ-loop piece from i₀ i = length piece - i
+μ-loop bytes i₀ i = length bytes - i
 
 loop-holds : tie.Need-loop-holds Inv-loop μ-loop
-loop-holds c = seeking-none _ _
+loop-holds c = seeking-none _
 
 shared-slice-read-if1 : tie.Need-shared-slice-read-if1 Inv-loop μ-loop
 shared-slice-read-if1 c = search needs
 
 returns : tie.Need-returns Inv-loop μ-loop
-returns c = λ w. line-found _ _ _ (c .before .before .loop-test .taken) (c .if1 .taken) (c .before .before .before .loop .inv)
+returns c = line-found _ _ (c .before .before .before .loop .inv) (c .before .before .loop-test .taken) (c .if1 .taken)
 
 add-i : tie.Need-add-i Inv-loop μ-loop
 add-i c = search needs
@@ -29,10 +29,10 @@ loop-less : tie.Need-loop-less Inv-loop μ-loop
 loop-less c = search needs
 
 loop-again : tie.Need-loop-again Inv-loop μ-loop
-loop-again c = seeking-more _ _ _ (c .before .before .loop-test .taken) (c .if1 .left) (c .before .before .before .loop .inv)
+loop-again c = seeking-more _ _ (c .before .before .before .loop .inv) (c .before .before .loop-test .taken) (c .if1 .left)
 
 returns-2 : tie.Need-returns-2 Inv-loop μ-loop
-returns-2 c = line-open _ _ _ (omega arith) (c .before .loop .inv)
+returns-2 c = line-open _ _ (c .before .loop .inv) (omega arith)
 
 pub line-end-spec : {M : Type 1} → statement M
 line-end-spec =

@@ -1,6 +1,5 @@
 -- `read_bytes`: after i bytes, what is kept is what is kept of the line with the first i bytes of the piece.
 use Prim.Native.Nat.{_-_}
-use mathlib.Core.List.{_++_}
 use native.Mathlib.Omega.{arith}
 use lib.ListN.{length}
 use Rattle.lines.proofs.ReadingLaws.{Going, going-none, going-more, going-all}

@@ -1,0 +1,2 @@
+-- What only the proofs and the contracts inside the crate need.
+pub mod Puts
