@@ -12,7 +12,7 @@ use lib.Seq.{take-all, getD-take}
 use Rattle.measures.proofs.ListLaws.{table-length}
 use Rattle.matching.specs.Orders.{Row}
 use Rattle.matching.specs.Memory.{flat, written}
-use Rattle.matching.proofs.RowLaws.{flat-length, written-none}
+use Rattle.matching.proofs.laws.orders.RowLaws.{flat-length, written-none}
 use Rattle.book.specs.Book.{Rules, rulesOf, Book}
 use Rattle.book.specs.Refusals.{Outcome}
 use Rattle.book.specs.declared.Answer.{Answer}
@@ -20,7 +20,7 @@ use Rattle.book.specs.Layout.{word, decode}
 use Rattle.book.specs.Opening.{bookWords, fresh, openingRefusal}
 use Rattle.book.specs.Calls.{Call, callEnrol, callOffer, callTake, callWithdraw, callOrder, callCancel, callClear, callClose, outcome}
 use Rattle.book.specs.Contract.{Told, Made, Opened, toldBy, outcomeOn}
-use Rattle.book.proofs.OpeningLaws.{no-such-days}
+use Rattle.book.proofs.laws.opening.OpeningLaws.{no-such-days}
 use Rattle.lines.specs.Lines.{Line, unknown, opening, calling, countOf, isCall, callOf, lineOf, called}
 use Rattle.lines.specs.Printed.{printedRows, printedOk, printedNo}
 use Rattle.lines.specs.inner.Puts.{rowsText, okText}
