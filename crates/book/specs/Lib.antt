@@ -1,10 +1,8 @@
 pub mod Book
+pub mod Opening
 pub mod Trades
 pub mod Fit
 pub mod Sound
-pub mod Refusals
-pub mod Opening
-pub mod Layout
 pub mod Enrol
 pub mod Offer
 pub mod Take
@@ -14,6 +12,8 @@ pub mod Cancel
 pub mod Clear
 pub mod Close
 pub mod Curve
+pub mod Refusals
 pub mod Calls
+pub mod Layout
 pub mod Contract
 pub mod inner

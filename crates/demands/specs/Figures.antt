@@ -1,4 +1,4 @@
--- The starred figures of paper 01, 1 to 8, as one list, and its `rehearse` transcript.
+-- The starred figures of paper 01, 1 to 8, as one list.
 use Prim.Native.Nat.{ℕ}
 use mathlib.Core.Path.{_≡_}
 use mathlib.Core.List.{List, [], _∷_, _++_, map}
@@ -66,16 +66,6 @@ took8 =
 -- "Nets 7, 1, 0: 3,4; 0,1; 0,0."
 abbrev pub Figure8 : Type 0
 Figure8 = curve took8 2 0 48 ≡ record { refusal = 0; points = 3 ∷ 4 ∷ 0 ∷ 1 ∷ 0 ∷ 0 ∷ replicate 42 0 }
-
--- the transcript of program `rehearse`: O 1 0 1000000, then these
-abbrev pub Transcript : Type 0
-Transcript =
-    (openingRefusal (bookWords 1) (rulesOf 1 0 1_000_000) ≡ 0)
-    × On1Day
-    (callEnrol 2 100 0 ∷ callEnrol 3 100 0 ∷ callClear 4_464 ∷ callOrder 1 0 8 455_000 5 4_464 ∷ callOrder 2 1 8 460_000 7 4_464 ∷ callClose ∷ [])
-    (ok 1 [] ∷ ok 2 [] ∷ ok 0 [] ∷ ok 1 []
-    ∷ ok 2 (record { way = 4; period = 8; seller = 1; buyer = 2; quantity = 5; price = 455_000 } ∷ [])
-    ∷ ok 0 [] ∷ [])
 
 -- the list of the starred figures
 abbrev pub figures : List (Type 0)

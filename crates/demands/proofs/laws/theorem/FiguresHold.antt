@@ -1,4 +1,4 @@
--- The starred figures and the transcript hold: the definitions compute them.
+-- The starred figures hold: the definitions compute them.
 use mathlib.Core.Path.{refl}
 use Rattle.measures.specs.Lists.{holds, sum, all}
 use Rattle.measures.specs.Sharing.{parts}
@@ -22,7 +22,7 @@ use Rattle.book.specs.Clear.{clearRefusal, clearFrom, clearing}
 use Rattle.book.specs.Close.{closing}
 use Rattle.book.specs.Curve.{curveRefusal, pointsFrom, curve}
 use Rattle.book.specs.Calls.{answers, bookAfter}
-use Rattle.demands.specs.Figures.{Figure5, Figure6, Figure7, Figure8, Transcript, figures, Hold}
+use Rattle.demands.specs.Figures.{Figure5, Figure6, Figure7, Figure8, figures, Hold}
 
 figure5-calls : Figure5
 unfolding holds sum all unitFits hourLimit termLimit volumeLimit openOrders openOffers openRaising openLowering hourFits hoursFit termFits volumeFits headIn
@@ -49,10 +49,3 @@ figure8-holds = refl
 -- figures 1 to 8
 pub figures-hold : Hold figures
 figures-hold = (figure1-holds, (figure2-holds, (figure3-holds, (figure4-holds, (figure5-calls, (figure6-calls, (figure7-calls, (figure8-holds, tt))))))))
-
-pub transcript-holds : Transcript
-unfolding holds sum all unitFits hourLimit termLimit volumeLimit openOrders openOffers openRaising openLowering hourFits hoursFit termFits volumeFits headIn
-    unitIn offerIn orderIn rising numbersDiffer eachTwo sound firstOf enrolRefusal enrolment orderRefusal ordering answers openingRefusal lessen bidAhead
-    askAhead insert laid candidate counterparts matches matchRow afterMatches meet tradedAt largest clearedVolume clearPeriod clearFrom clearRefusal
-    clearing traded booked rowsBooked waiting closing
-transcript-holds = (refl, refl)
