@@ -28,7 +28,7 @@ shared-slice-read-if1 : tie.Need-shared-slice-read-if1
 shared-slice-read-if1 c = search needs
 
 returns : tie.Need-returns
-returns c = period-mark _ _ _ _ _ (rw mark-place at (c .if1 .taken))
+returns c = period-mark _ _ _ _ _ (omega (arith, rw mark-place at (c .if1 .taken)))
 
 hour-at-requires : tie.Need-hour-at-requires
 hour-at-requires c κs = search needs
@@ -41,7 +41,8 @@ shared-slice-read-held c = search needs
 
 returns-2 : tie.Need-returns-2
 returns-2 c =
-    period-not _ _ _ _ _ (rw mark-place at (c .before .before .before .if1 .left)) (λ f. omega (arith, f .0, c .if2 .taken, c .before .before .hour-at .ensures))
+    period-not _ _ _ _ _ (rw mark-place at (c .before .before .before .if1 .left))
+    (λ f. omega (arith, f .0, c .if2 .taken, c .before .before .hour-at .ensures))
 
 add-raised : tie.Need-add-raised
 add-raised c = search needs
@@ -76,11 +77,13 @@ shared-slice-read-lowered c = search needs
 
 returns-5 : tie.Need-returns-5
 returns-5 c =
-    period-not _ _ _ _ _ (rw mark-place at (c .before .before .before .before .before .before .before .before .if1 .left)) (λ f. omega (arith, f .1, rw lowered-place at (c .if5 .taken)))
+    period-not _ _ _ _ _ (rw mark-place at (c .before .before .before .before .before .before .before .before .if1 .left))
+    (λ f. omega (arith, f .1, rw lowered-place at (c .if5 .taken)))
 
 returns-6 : tie.Need-returns-6
 returns-6 c =
-    period-not _ _ _ _ _ (rw mark-place at (c .before .before .before .before .before .before .before .before .before .if1 .left)) (λ f. omega (arith, f .1, rw lowered-place at (c .if6 .taken)))
+    period-not _ _ _ _ _ (rw mark-place at (c .before .before .before .before .before .before .before .before .before .if1 .left))
+    (λ f. omega (arith, f .1, rw lowered-place at (c .if6 .taken)))
 
 returns-7 : tie.Need-returns-7
 returns-7 c =

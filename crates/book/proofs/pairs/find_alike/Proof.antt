@@ -124,9 +124,11 @@ shared-slice-read-b-2 c = search needs
 
 loop-less : tie.Need-loop-less Inv-loop μ-loop
 loop-less c =
-    let c8 = c .before .before .before .before .before .before .before .before in
+    let c7 = c .before .before .before .before .before .before .before in
+    let c8 = c7 .before in
     let l = c8 .loop in
-    omega (arith, c8 .before .before .before .before .before .pre .4 (l .a - 1) (omega (arith, l .inv .fewUnit, c .before .before .before .before .before .before .before .loop-test .taken)) .to, c .before .before .before .before .before .before .before .loop-test .taken)
+    let t = c7 .loop-test .taken in
+    omega (arith, c8 .before .before .before .before .before .pre .4 (l .a - 1) (omega (arith, l .inv .fewUnit, t)) .to, t)
 
 loop-again : tie.Need-loop-again Inv-loop μ-loop
 loop-again c =

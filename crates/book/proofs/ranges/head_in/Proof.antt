@@ -10,10 +10,10 @@ shared-slice-read-days : tie.Need-shared-slice-read-days
 shared-slice-read-days c = search needs
 
 returns : tie.Need-returns
-returns c = head-fails _ (λ h. omega arith)
+returns c = head-fails _ (λ h. omega (arith, h .days, c .if1 .taken))
 
 returns-2 : tie.Need-returns-2
-returns-2 c = head-fails _ (λ h. omega arith)
+returns-2 c = head-fails _ (λ h. omega (arith, h .days, c .if2 .taken))
 
 shared-slice-read-ceiling : tie.Need-shared-slice-read-ceiling
 shared-slice-read-ceiling c = search needs
@@ -22,56 +22,43 @@ shared-slice-read-if3 : tie.Need-shared-slice-read-if3
 shared-slice-read-if3 c = search needs
 
 returns-3 : tie.Need-returns-3
-returns-3 c = head-fails _ (λ h. omega arith)
+returns-3 c = head-fails _ (λ h. omega (arith, h .prices, c .if3 .taken))
 
 returns-4 : tie.Need-returns-4
-returns-4 c = head-fails _ (λ h. omega arith)
+returns-4 c = head-fails _ (λ h. omega (arith, h .ceiling, c .if4 .taken))
 
 shared-slice-read-if5 : tie.Need-shared-slice-read-if5
 shared-slice-read-if5 c = search needs
 
 returns-5 : tie.Need-returns-5
-returns-5 c = head-fails _ (λ h. omega arith)
+returns-5 c = head-fails _ (λ h. omega (arith, h .phase, c .if5 .taken))
 
 shared-slice-read-if6 : tie.Need-shared-slice-read-if6
 shared-slice-read-if6 c = search needs
 
 returns-6 : tie.Need-returns-6
-returns-6 c = head-fails _ (λ h. omega arith)
+returns-6 c = head-fails _ (λ h. omega (arith, h .given, c .if6 .taken))
 
 shared-slice-read-if7 : tie.Need-shared-slice-read-if7
 shared-slice-read-if7 c = search needs
 
 returns-7 : tie.Need-returns-7
-returns-7 c = head-fails _ (λ h. omega arith)
+returns-7 c = head-fails _ (λ h. omega (arith, h .units, c .if7 .taken))
 
 shared-slice-read-if8 : tie.Need-shared-slice-read-if8
 shared-slice-read-if8 c = search needs
 
 returns-8 : tie.Need-returns-8
-returns-8 c = head-fails _ (λ h. omega arith)
+returns-8 c = head-fails _ (λ h. omega (arith, h .offers, c .if8 .taken))
 
 shared-slice-read-if9 : tie.Need-shared-slice-read-if9
 shared-slice-read-if9 c = search needs
 
 returns-9 : tie.Need-returns-9
-returns-9 c = head-fails _ (λ h. omega arith)
+returns-9 c = head-fails _ (λ h. omega (arith, h .orders, c .if9 .taken))
 
 returns-10 : tie.Need-returns-10
-returns-10 c =
-    sym
-    (head-holds _
-    (record {
-      days = omega arith;
-      prices = omega arith;
-      ceiling = omega arith;
-      phase = omega arith;
-      given = omega arith;
-      units = omega arith;
-      offers = omega
-          arith;
-      orders = omega arith;
-    }))
+returns-10 c = sym (head-holds _ (omega arith))
 
 pub head-in-spec : {M : Type 1} → statement M
 head-in-spec =

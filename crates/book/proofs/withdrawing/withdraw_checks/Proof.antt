@@ -44,7 +44,9 @@ mul-if4-2 : tie.Need-mul-if4-2
 mul-if4-2 c = omega (arith, c .if3 .left)
 
 shared-slice-read-if4 : tie.Need-shared-slice-read-if4
-shared-slice-read-if4 c = omega (arith, c .before .if3 .left, ok (c .before .before .before .before .before .before .before) .daysFrom, ok (c .before .before .before .before .before .before .before) .long)
+shared-slice-read-if4 c =
+    let r = ok (c .before .before .before .before .before .before .before) in
+    omega (arith, c .before .if3 .left, r .daysFrom, r .long)
 
 returns-4 : tie.Need-returns-4
 returns-4 c =
@@ -65,7 +67,9 @@ mul-if5-2 : tie.Need-mul-if5-2
 mul-if5-2 c = omega (arith, c .before .before .if3 .left)
 
 shared-slice-read-if5 : tie.Need-shared-slice-read-if5
-shared-slice-read-if5 c = omega (arith, c .before .before .before .if3 .left, ok (c .before .before .before .before .before .before .before .before .before) .daysFrom, ok (c .before .before .before .before .before .before .before .before .before) .long)
+shared-slice-read-if5 c =
+    let r = ok (c .before .before .before .before .before .before .before .before .before) in
+    omega (arith, c .before .before .before .if3 .left, r .daysFrom, r .long)
 
 returns-5 : tie.Need-returns-5
 returns-5 c =

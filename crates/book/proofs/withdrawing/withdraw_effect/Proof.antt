@@ -31,10 +31,14 @@ shift-amounts-requires c κs =
     (ok c5, found (c .before), ok c5 .offersTo)
 
 mul-shift : tie.Need-mul-shift
-mul-shift c = omega (arith, ok (c .before .before .before .before .before .before .before .before .before) .offersTo, found (c .before .before .before .before .before))
+mul-shift c =
+    let c5 = c .before .before .before .before .before in
+    omega (arith, ok (c5 .before .before .before .before) .offersTo, found c5)
 
 add-shift : tie.Need-add-shift
-add-shift c = omega (arith, ok (c .before .before .before .before .before .before .before .before .before) .offersTo, found (c .before .before .before .before .before))
+add-shift c =
+    let c5 = c .before .before .before .before .before in
+    omega (arith, ok (c5 .before .before .before .before) .offersTo, found c5)
 
 mul-shift-2 : tie.Need-mul-shift-2
 mul-shift-2 c = omega (arith, ok (c .before .before .before .before .before .before .before .before .before) .offersTo)
