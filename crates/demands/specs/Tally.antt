@@ -131,7 +131,14 @@ accounted t (callCancel unit number) a =
     }
 -- "Clear: each open order loses the fill that the rule for clear gives it, worked out from the tally's open orders."
 accounted t (callClear lent) a =
-    record { rules = t .rules; units = t .units; rows = t .rows ++ a .rows; offers = t .offers; orders = clearFrom 0 (periods (t .rules .days)) (t .orders) .orders }
+    record {
+      rules = t .rules;
+      units = t .units;
+      rows = t .rows
+          ++ a .rows;
+      offers = t .offers;
+      orders = clearFrom 0 (periods (t .rules .days)) (t .orders) .orders;
+    }
 -- "Close: nothing is open."
 accounted t callClose a =
     record { rules = t .rules; units = t .units; rows = t .rows ++ a .rows; offers = []; orders = [] }

@@ -48,7 +48,8 @@ pub record Claimed (t : Tally) (x : List ℕ) : Type 0 where
   pub book : Demand3 t (decode x)
   -- "Curves are called after the list, for any enrolled unit and any day of the term, 48 numbers lent": each hour's two
   -- points sum to the net from the rows and differ by at most 1
-  pub curves : (u day : ℕ) (pts : List ℕ) (a : Answer) (pts′ : List ℕ) → isMember t u ≡ true → day < t .rules .days → 48 ≤ length pts → Curved x pts u day a pts′
+  pub curves : (u day : ℕ) (pts : List ℕ) (a : Answer) (pts′ : List ℕ) → isMember t u ≡ true → day < t .rules .days → 48 ≤ length pts
+      → Curved x pts u day a pts′
       → (toldBy a .refusal ≡ 0)
       × ((h : ℕ) → h < 24 → (getD pts′ (2 * h) 0 + getD pts′ (2 * h + 1) 0 ≡ netOf t u (24 * day + h))
       × (getD pts′ (2 * h) 0 ≤ getD pts′ (2 * h + 1) 0)

@@ -176,10 +176,12 @@ module _ (l : ℕ) (ns m rows : List ℕ) (a : Answer) (m′ : List ℕ) where
       → Made m rows (callOf l ns) a m′ rows
   unfolding callOf
   made-close e₁ e₂ e₃ e₄ e₅ e₆ e₇ f =
-      rw (ne-eqb l 69 e₁, ne-eqb l 76 e₂, ne-eqb l 84 e₃, ne-eqb l 87 e₄, ne-eqb l 82 e₅, ne-eqb l 88 e₆, ne-eqb l 67 e₇) (made-beside m rows callClose a m′ f)
+      rw (ne-eqb l 69 e₁, ne-eqb l 76 e₂, ne-eqb l 84 e₃, ne-eqb l 87 e₄, ne-eqb l 82 e₅, ne-eqb l 88 e₆, ne-eqb l 67 e₇)
+      (made-beside m rows callClose a m′ f)
 
   module _ (rows′ : List ℕ) (lent : length rows ≡ 4_464) where
-    pub made-take : l ≡ 84 → Made m rows (callTake (getD ns 0 0) (getD ns 1 0) (getD ns 2 0) (length rows)) a m′ rows′ → Made m rows (callOf l ns) a m′ rows′
+    pub made-take : l ≡ 84 → Made m rows (callTake (getD ns 0 0) (getD ns 1 0) (getD ns 2 0) (length rows)) a m′ rows′
+        → Made m rows (callOf l ns) a m′ rows′
     unfolding callOf
     made-take e f = rw e (rw lent at f)
 
@@ -355,7 +357,8 @@ module _ (m rows : List ℕ) (c : Call) (a : Answer) (m′ rows′ : List ℕ) (
     said-on = s ∙ ap given (sym (on-book m c day long))
 
     after-day : outcomeOn m c .book .rules .days ≡ 1
-    after-day = ap (λ (o : Outcome). o .book .rules .days) (on-book m c day long) ∙ ap (λ (r : Rules). r .days) (rules-stay (decode m) c) ∙ sym (days-held m) ∙ day
+    after-day = ap (λ (o : Outcome). o .book .rules .days) (on-book m c day long) ∙ ap (λ (r : Rules). r .days) (rules-stay (decode m) c)
+        ∙ sym (days-held m) ∙ day
 
     pub call-no : (r : ℕ) (text : List ℕ) → r ≡ toldBy a .refusal → (r ≡ 0 → ⊥) → text ≡ printedNo r → Answered true m (calling c) true m′ text
     call-no r text e ne t =
@@ -399,7 +402,8 @@ module _ (started : Bool) (m : List ℕ) (days floor ceiling : ℕ) (a : Answer)
   opening-no r text e ne t =
       let q : r ≡ refusal = e ∙ opened-refusal in
       answered-no started m (opening days floor ceiling) started m′ text refusal
-      (opening-refuses (standsIn started m) days floor ceiling up (λ z. ne (q ∙ z))) refl (f .refused (λ z. ne (q ∙ sym same-refusal ∙ z))) (t ∙ ap printedNo q)
+      (opening-refuses (standsIn started m) days floor ceiling up (λ z. ne (q ∙ z))) refl (f .refused (λ z. ne (q ∙ sym same-refusal ∙ z))) (t
+      ∙ ap printedNo q)
 
   pub opening-ok : (r n : ℕ) (ws text : List ℕ) → r ≡ toldBy a .refusal → r ≡ 0 → n ≡ toldBy a .number → text ≡ okText n 0 ws
       → Answered started m (opening days floor ceiling) true m′ text

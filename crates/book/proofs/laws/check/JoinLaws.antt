@@ -78,7 +78,8 @@ module _ (m : List ℕ) (u p : ℕ) where
 -- the unit's figures, in memory
 module _ (m : List ℕ) (u : ℕ) (h : In 1 (word m 5) u) where
   pub figures-at : (p : ℕ) → p < periods (word m 0) → figuresOf (decode m) u p ≡ figuresAt m (u - 1) p
-  figures-at p l = ap (λ (x : EnrolledUnit). getD (x .figures) p noFigures) (unit-at m u h) ∙ table-at (periods (word m 0)) (figuresAt m (u - 1)) p noFigures l
+  figures-at p l = ap (λ (x : EnrolledUnit). getD (x .figures) p noFigures) (unit-at m u h)
+      ∙ table-at (periods (word m 0)) (figuresAt m (u - 1)) p noFigures l
 
   pub marks-at : marksIn (decode m) u ≡ all (periods (word m 0)) (markHolds m (u - 1))
   unfolding marksIn markHolds
@@ -112,7 +113,8 @@ module _ (m : List ℕ) (u : ℕ) (h : In 1 (word m 5) u) (d : Declaration) (up 
       let lowered = ap (λ (x : Figures). x .lowered) f in
       let b = downs p l in
       let e : word m (1778 + 328 * p + 5 * (u - 1)) + getD down p 0 ≡ loweringToday (decode m) u p + d .lowering p = omega arith in
-      tests-same _ _ _ _ _ _ _ _ (term-same p l) (sym (ap (λ (x : EnrolledUnit). hourLimit (x .kind) (x .capacity) (hourOf p)) (unit-at m u h))) e (sym held)
+      tests-same _ _ _ _ _ _ _ _ (term-same p l) (sym (ap (λ (x : EnrolledUnit). hourLimit (x .kind) (x .capacity) (hourOf p)) (unit-at m u h))) e
+      (sym held)
 
   volume-same : (p : ℕ) → p < periods (word m 0)
       → volumePart m (u - 1) p (getD up p 0) (getD down p 0)
@@ -131,9 +133,11 @@ module _ (m : List ℕ) (u : ℕ) (h : In 1 (word m 5) u) (d : Declaration) (up 
 
   volume-at : volumeAt m (u - 1) ≡ volumeLimit (unitOf (decode m) u .kind) (termOf (decode m) u d)
   unfolding volumeAt
-  volume-at = ap (volumeLimit (word m (8 + 3 * (u - 1)))) term-at ∙ sym (ap (λ (x : EnrolledUnit). volumeLimit (x .kind) (termOf (decode m) u d)) (unit-at m u h))
+  volume-at = ap (volumeLimit (word m (8 + 3 * (u - 1)))) term-at
+      ∙ sym (ap (λ (x : EnrolledUnit). volumeLimit (x .kind) (termOf (decode m) u d)) (unit-at m u h))
 
-  hours-all : all (periods (word m 0)) (λ p. hourHolds m (u - 1) p (getD up p 0) (getD down p 0)) ≡ all (periods (decode m .rules .days)) (hourFits (decode m) u d)
+  hours-all : all (periods (word m 0)) (λ p. hourHolds m (u - 1) p (getD up p 0) (getD down p 0))
+      ≡ all (periods (decode m .rules .days)) (hourFits (decode m) u d)
   unfolding decode
   hours-all = all-ext (periods (word m 0)) _ _ hour-same
 

@@ -61,4 +61,5 @@ module _ (b : Book) (u : ℕ) where
   -- on a unit that fits, the misfit of a declaration is the first that its checks name
   pub misfit-declared : (d : Declaration) → unitFits b u ≡ true → misfitOf b u d ≡ firstOf (hourMisfit b u d ∷ termMisfit b u d ∷ volumeMisfit b u d ∷ [])
   unfolding misfitOf hoursFit
-  misfit-declared d e = rw (all-ext (periods (b .rules .days)) (hourFits b u d) (λ p. eqb (d .raising p + d .lowering p) 0 || hourFits b u d p) (hour-alone d e))
+  misfit-declared d e = rw (all-ext (periods (b .rules .days)) (hourFits b u d) (λ p. eqb (d .raising p + d .lowering p) 0
+      || hourFits b u d p) (hour-alone d e))

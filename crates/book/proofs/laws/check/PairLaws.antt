@@ -107,7 +107,8 @@ module _ (phase : ℕ) (os : List OpenOrder) where
   pairs-hold h =
       and-true (every (λ (a : OpenOrder). every (oneDirection a) os) os) _
       (every-by (λ (a : OpenOrder). every (oneDirection a) os) os noOrder
-      (λ k l. every-by (oneDirection (getD os k noOrder)) os noOrder (λ j m. one-direction-holds (getD os k noOrder) (getD os j noOrder) (h k j l m .direction))))
+      (λ k l. every-by (oneDirection (getD os k noOrder)) os noOrder
+      (λ j m. one-direction-holds (getD os k noOrder) (getD os j noOrder) (h k j l m .direction))))
       (go (ℕ-discrete phase 1))
     where
       go : Dec (phase ≡ 1) → (not (eqb phase 1) || every (λ (a : OpenOrder). every (apart a) os) os) ≡ true
@@ -120,7 +121,8 @@ module _ (phase : ℕ) (os : List OpenOrder) where
   pub pairs-fact : pairsFit phase os ≡ true → Together
   unfolding pairsFit eachTwo
   pairs-fact e k j l m =
-      let w : every (λ (a : OpenOrder). every (oneDirection a) os) os ≡ true = and-left (every (λ (a : OpenOrder). every (oneDirection a) os) os) (not (eqb phase 1)
+      let w : every (λ (a : OpenOrder). every (oneDirection a) os) os
+      ≡ true = and-left (every (λ (a : OpenOrder). every (oneDirection a) os) os) (not (eqb phase 1)
       || every (λ (a : OpenOrder). every (apart a) os) os) e in
       let r : (not (eqb phase 1) || every (λ (a : OpenOrder). every (apart a) os) os)
       ≡ true = and-right (every (λ (a : OpenOrder). every (oneDirection a) os) os) (not (eqb phase 1)

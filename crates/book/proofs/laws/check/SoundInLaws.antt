@@ -30,8 +30,11 @@ module _ (m : List ℕ) (k : ℕ) (h : k < word m 5) where
   pub unit-parts : unitIn (word m 0) (unitAt m (word m 0) k) ≡ true → (unitFieldsIn m k ≡ true) × (marksIn (decode m) (k + 1) ≡ true)
   unfolding unitIn unitFieldsIn marksIn
   unit-parts e =
-      let t = all-true _ e in
-      (holds-all _ (t .0, (t .1 .0, (t .1 .1 .0, tt))), ap (λ (u : EnrolledUnit). every (λ (f : Figures). leb (f .mark) 3) (u .figures)) at ∙ t .1 .1 .1 .1 .0)
+      let t = all-true _ e in (
+        holds-all _ (t .0, (t .1 .0, (t .1 .1 .0, tt))),
+        ap (λ (u : EnrolledUnit). every (λ (f : Figures). leb (f .mark) 3) (u .figures)) at
+            ∙ t .1 .1 .1 .1 .0,
+      )
 
   pub unit-joined : unitFieldsIn m k ≡ true → marksIn (decode m) (k + 1) ≡ true → unitIn (word m 0) (unitAt m (word m 0) k) ≡ true
   unfolding unitIn unitFieldsIn marksIn
@@ -110,7 +113,8 @@ sound-joined m s =
               (
                 and-left (eachTwo oneDirection (decode m .orders)) (not (eqb (word m 3) 1) || eachTwo apart (decode m .orders)) (s .pairs),
                 (
-                  rw (phase-held m) (and-right (eachTwo oneDirection (decode m .orders)) (not (eqb (word m 3) 1) || eachTwo apart (decode m .orders)) (s .pairs)),
+                  rw (phase-held m) (and-right (eachTwo oneDirection (decode m .orders)) (not (eqb (word m 3) 1)
+                      || eachTwo apart (decode m .orders)) (s .pairs)),
                   (all-by (length (decode m .units)) _ (λ k h. and-right (marksIn (decode m) (k + 1)) (unitFits (decode m) (k + 1)) (fit k h)), tt),
                 ),
               ),

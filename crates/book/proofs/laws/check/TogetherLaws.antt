@@ -56,7 +56,8 @@ module _ (m : List ℕ) (a b : ℕ) (ha : a < 256) (hb : b < 256) where
       → word m (240 + 6 * a + 2) ≡ word m (240 + 6 * b + 2)
   direction-fact e u p =
       sym (field m a 2 ha (omega arith))
-      ∙ one-direction-fact (orderIn m a) (orderIn m b) e (field m a 1 ha (omega arith) ∙ u ∙ sym (field m b 1 hb (omega arith))) (field m a 3 ha (omega arith) ∙ p
+      ∙ one-direction-fact (orderIn m a) (orderIn m b) e (field m a 1 ha (omega arith) ∙ u
+      ∙ sym (field m b 1 hb (omega arith))) (field m a 3 ha (omega arith) ∙ p
       ∙ sym (field m b 3 hb (omega arith)))
       ∙ field m b 2 hb (omega arith)
 
@@ -171,7 +172,8 @@ module _ (m : List ℕ) (k : ℕ) (hk : k < 256) where
         (false-by _ (λ e. n (sym (direction-fact m k (t - 1) hk (omega arith) e (sym (al .unit (h .0))) (sym (al .period (h .0))))))))
 
     -- those before go one way, so the one found stands for all
-    direction-same : pairsBefore m k ≡ true → word m (240 + 6 * (t - 1) + 2) ≡ word m (240 + 6 * k + 2) → true ≡ all k (λ j. oneDirection (orderIn m k) (orderIn m j))
+    direction-same : pairsBefore m k ≡ true → word m (240 + 6 * (t - 1) + 2) ≡ word m (240 + 6 * k + 2) → true
+        ≡ all k (λ j. oneDirection (orderIn m k) (orderIn m j))
     unfolding pairsBefore
     direction-same pb e = sym (all-by k _ (λ j l. direction-holds m k j hk (omega arith) (λ u p. sym (dirs j l (sym u) (sym p)))))
       where
@@ -189,7 +191,8 @@ module _ (m : List ℕ) (k : ℕ) (hk : k < 256) where
             go : Dec (j < t - 1) → Dec (t - 1 < j) → word m (240 + 6 * j + 2) ≡ word m (240 + 6 * k + 2)
             go (yes a) b =
                 let h = place in
-                sym (direction-fact m (t - 1) j (omega arith) (omega arith) (pair (t - 1) j (h .1) a) (al .unit (h .0) ∙ sym u) (al .period (h .0) ∙ sym p)) ∙ e
+                sym (direction-fact m (t - 1) j (omega arith) (omega arith) (pair (t - 1) j (h .1) a) (al .unit (h .0) ∙ sym u) (al .period (h .0) ∙ sym p))
+                ∙ e
             go (no a) (yes b) =
                 let h = place in
                 direction-fact m j (t - 1) (omega arith) (omega arith) (pair j (t - 1) l b) (u ∙ sym (al .unit (h .0))) (p ∙ sym (al .period (h .0))) ∙ e
@@ -401,7 +404,8 @@ module _ (m : List ℕ) (k : ℕ) (high low : List ℕ) where
       record {
         answer = sym (false-by _ (λ t. not-both _ (all-by k (λ j. oneDirection (orderIn m k) (orderIn m j))
             (λ j h. one-direction-holds (orderIn m k) (orderIn m j)
-            (pair-fact (word m 3) (orderIn m k) (orderIn m j) (all-at k (λ i. pairFits (word m 3) (orderIn m k) (orderIn m i)) j t h) .direction))) (sym e ∙ f)));
+            (pair-fact (word m 3) (orderIn m k) (orderIn m j) (all-at k (λ i. pairFits (word m 3) (orderIn m k) (orderIn m i)) j t h) .direction))) (sym e
+            ∙ f)));
         entered = λ z. both-ways (sym z);
       }
 

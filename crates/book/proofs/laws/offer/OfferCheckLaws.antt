@@ -59,7 +59,8 @@ module _ (m : List ℕ) where
   unfolding decode
   price-out q h = rw (outside (word m 1) (word m 2) q h) refl
 
-  amounts-in : (l : List ℕ) → length l ≡ 24 * word m 0 → In 1 mostEnergy (total l) → not (eqb (length l) (periods (decode m .rules .days)) && energyIn (total l))
+  amounts-in : (l : List ℕ) → length l ≡ 24 * word m 0 → In 1 mostEnergy (total l)
+      → not (eqb (length l) (periods (decode m .rules .days)) && energyIn (total l))
       ≡ false
   unfolding decode
   amounts-in l e h = rw (eq-eqb (length l) (24 * word m 0) e, inside 1 mostEnergy (total l) h) refl

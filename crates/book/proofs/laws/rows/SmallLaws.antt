@@ -47,7 +47,8 @@ module _ (b : Book) (u : ℕ) (fit : unitFits b u ≡ true) where
       let c = hour-most (unitOf b u .kind) (unitOf b u .capacity) (hourOf p) in
       (omega arith, omega arith)
 
-  volume-small : (p : ℕ) → p < periods (b .rules .days) → unitOf b u .capacity ≤ mostCapacity → b .rules .days ≤ mostDays → figuresOf b u p .volume ≤ mostEnergy * 6 / 5
+  volume-small : (p : ℕ) → p < periods (b .rules .days) → unitOf b u .capacity ≤ mostCapacity → b .rules .days ≤ mostDays → figuresOf b u p .volume
+      ≤ mostEnergy * 6 / 5
   unfolding unitFits volumeFits
   volume-small p hp hc hd =
       let t = all-true _ fit in

@@ -99,7 +99,8 @@ sum-zero (suc n) f h =
     omega arith
 
 -- a unit with nothing traded and nothing open fits
-pub idle-fits : (b : Book) (u : ℕ) → ((p : ℕ) → p < periods (b .rules .days) → figuresOf b u p ≡ noFigures) → Each (λ (o : OpenOffer). o .unit ≡ u → ⊥) (b .offers)
+pub idle-fits : (b : Book) (u : ℕ) → ((p : ℕ) → p < periods (b .rules .days) → figuresOf b u p ≡ noFigures)
+    → Each (λ (o : OpenOffer). o .unit ≡ u → ⊥) (b .offers)
     → Each (λ (o : OpenOrder). o .unit ≡ u → ⊥) (b .orders) → Fits b u nothing
 unfolding openRaising openLowering
 idle-fits b u none s t =

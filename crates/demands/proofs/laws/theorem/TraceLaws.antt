@@ -164,7 +164,8 @@ module _ (t : Tally) (x : List ℕ) (h : Holding t x) where
       d : Demand3 t (decode x)
       d = demand-from t (decode x) (h .step .agree) (h .step .sound)
 
-      at : (u day : ℕ) (pts : List ℕ) (a : Answer) (pts′ : List ℕ) → isMember t u ≡ true → day < t .rules .days → 48 ≤ length pts → Curved x pts u day a pts′
+      at : (u day : ℕ) (pts : List ℕ) (a : Answer) (pts′ : List ℕ) → isMember t u ≡ true → day < t .rules .days → 48 ≤ length pts
+          → Curved x pts u day a pts′
           → (toldBy a .refusal ≡ 0)
           × ((i : ℕ) → i < 24 → (getD pts′ (2 * i) 0 + getD pts′ (2 * i + 1) 0 ≡ netOf t u (24 * day + i))
           × (getD pts′ (2 * i) 0 ≤ getD pts′ (2 * i + 1) 0)
@@ -202,6 +203,7 @@ over-every-trace m₀ rules a m x op z tr = claimed (tallyOf (opened rules) tr) 
     start : Holding (opened rules) m
     start =
         record {
-          long = le-leb (bookWords (word m 0)) (length m) (let l = op .long in let w = opening-long (length m₀) (rules .days) (rules .floor) (rules .ceiling) r in omega (arith, d));
+          long = le-leb (bookWords (word m 0)) (length m) (let l = op .long in let w = opening-long (length m₀) (rules .days) (rules .floor)
+              (rules .ceiling) r in omega (arith, d));
           step = rw b (record { agree = agree-start rules; sound = fresh-sound (length m₀) rules r });
         }
