@@ -10,16 +10,16 @@ use Rattle.limits.specs.Units.{periods}
 use Rattle.matching.specs.Orders.{Order as OpenOrder}
 
 -- the figures of a unit in a period: held when the trading day began, raised and lowered by trades today, the volume
--- over the term, and today's direction by ways 3 and 4 (0 none, 1 sold, 2 bought)
+-- over the term, and today's mark of ways 3 and 4 (0 none, 1 sold, 2 bought, 3 both)
 pub record Figures : Type 0 where
   pub held : ℕ
   pub raised : ℕ
   pub lowered : ℕ
   pub volume : ℕ
-  pub way : ℕ
+  pub mark : ℕ
 
 abbrev pub noFigures : Figures
-noFigures = record { held = 0; raised = 0; lowered = 0; volume = 0; way = 0 }
+noFigures = record { held = 0; raised = 0; lowered = 0; volume = 0; mark = 0 }
 
 -- a unit, and its figures by period
 pub record EnrolledUnit : Type 0 where
@@ -54,12 +54,18 @@ callPhase = 0
 abbrev pub rollingPhase : ℕ
 rollingPhase = 1
 
--- a book: its term and prices, the phase, the numbers given today, the units as enrolled, and what stands open, by
--- rising number
-pub record Book : Type 0 where
+-- what an opening chooses: "the days, a floor and a ceiling price"
+pub record Rules : Type 0 where
   pub days : ℕ
   pub floor : ℕ
   pub ceiling : ℕ
+
+abbrev pub rulesOf : ℕ → ℕ → ℕ → Rules
+rulesOf days floor ceiling = record { days = days; floor = floor; ceiling = ceiling }
+
+-- a book: its rules, the phase, the numbers given today, the units as enrolled, and what stands open, by rising number
+pub record Book : Type 0 where
+  pub rules : Rules
   pub phase : ℕ
   pub given : ℕ
   pub units : List EnrolledUnit
@@ -117,9 +123,7 @@ orderOpen b n = ltb 0 (length (ordersOf b n))
 abbrev pub withUnits : Book → List EnrolledUnit → Book
 withUnits b us =
     record {
-      days = b .days;
-      floor = b .floor;
-      ceiling = b .ceiling;
+      rules = b .rules;
       phase = b .phase;
       given = b .given;
       units = us;
@@ -130,15 +134,15 @@ withUnits b us =
 
 abbrev pub withOffers : Book → List OpenOffer → Book
 withOffers b os =
-    record { days = b .days; floor = b .floor; ceiling = b .ceiling; phase = b .phase; given = b .given; units = b .units; offers = os; orders = b .orders }
+    record { rules = b .rules; phase = b .phase; given = b .given; units = b .units; offers = os; orders = b .orders }
 
 abbrev pub withOrders : Book → List OpenOrder → Book
 withOrders b os =
-    record { days = b .days; floor = b .floor; ceiling = b .ceiling; phase = b .phase; given = b .given; units = b .units; offers = b .offers; orders = os }
+    record { rules = b .rules; phase = b .phase; given = b .given; units = b .units; offers = b .offers; orders = os }
 
 abbrev pub inPhase : Book → ℕ → Book
 inPhase b p =
-    record { days = b .days; floor = b .floor; ceiling = b .ceiling; phase = p; given = b .given; units = b .units; offers = b .offers; orders = b .orders }
+    record { rules = b .rules; phase = p; given = b .given; units = b .units; offers = b .offers; orders = b .orders }
 
 -- "the next number of the day"
 abbrev pub nextNumber : Book → ℕ
@@ -147,9 +151,7 @@ nextNumber b = b .given + 1
 abbrev pub numbered : Book → Book
 numbered b =
     record {
-      days = b .days;
-      floor = b .floor;
-      ceiling = b .ceiling;
+      rules = b .rules;
       phase = b .phase;
       given = nextNumber b;
       units = b .units;

@@ -25,6 +25,6 @@ clearFrom p (suc n) os =
 -- "Rests keep their numbers; the rolling phase begins."
 unfoldable pub clearing : Book → ℕ → Outcome
 clearing b lent =
-    let c = clearFrom 0 (periods (b .days)) (b .orders) in
+    let c = clearFrom 0 (periods (b .rules .days)) (b .orders) in
     decided (clearRefusal b lent) b
     (accepted 0 (c .rows) (inPhase (rowsBooked (c .rows) (withOrders b (c .orders))) rollingPhase))

@@ -6,7 +6,7 @@ use Rattle.book.specs.Refusals.{Outcome, firstOf, decided, accepted, uns
 
 -- "held becomes net"; nothing is traded today yet
 abbrev pub dayOver : Figures → Figures
-dayOver f = record { held = net f; raised = 0; lowered = 0; volume = f .volume; way = 0 }
+dayOver f = record { held = net f; raised = 0; lowered = 0; volume = f .volume; mark = 0 }
 
 abbrev pub unitDayOver : EnrolledUnit → EnrolledUnit
 unitDayOver u = record { kind = u .kind; capacity = u .capacity; asset = u .asset; figures = map dayOver (u .figures) }
@@ -14,9 +14,7 @@ unitDayOver u = record { kind = u .kind; capacity = u .capacity; asset = u .asse
 abbrev pub dayClosed : Book → Book
 dayClosed b =
     record {
-      days = b .days;
-      floor = b .floor;
-      ceiling = b .ceiling;
+      rules = b .rules;
       phase = callPhase;
       given = 0;
       units = map unitDayOver (b .units);

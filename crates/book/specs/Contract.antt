@@ -1,13 +1,14 @@
 -- What each call promises of the lent memory: one record for all eight.
 use Prim.Native.Nat.{ℕ, _+_, _*_}
 use mathlib.Core.Path.{_≡_}
-use mathlib.Core.Bool.{Bool, cond, _&&_}
+use mathlib.Core.Bool.{Bool, true, false, cond, _&&_}
 use mathlib.Core.List.{List, [], _∷_, _++_}
 use lib.ListN.{length, drop}
+use lib.Dec.{eqb}
 use Rattle.matching.specs.Memory.{written}
 use Rattle.book.specs.declared.Answer.{Answer}
 use Rattle.book.specs.declared.Answer.the-variants.{Done, Refused}
-use Rattle.book.specs.Book.{Book}
+use Rattle.book.specs.Book.{Rules, Book}
 use Rattle.book.specs.Sound.{sound}
 use Rattle.book.specs.Opening.{bookWords, fresh, openingRefusal}
 use Rattle.book.specs.Curve.{Drawn, curve}
@@ -15,15 +16,20 @@ use Rattle.book.specs.Layout.{word, decode, enough}
 use Rattle.book.specs.Refusals.{Outcome}
 use Rattle.book.specs.Calls.{Call, outcome}
 
--- the paper's numbers of an answer: the refusal (0: none), the number, the count of rows
+-- an answer in the paper's terms: whether the call was done, the refusal (0: none), the number, the count of rows
 pub record Told : Type 0 where
+  pub done : Bool
   pub refusal : ℕ
   pub number : ℕ
   pub count : ℕ
 
 abbrev pub toldBy : Answer → Told
-toldBy (Done number count) = record { refusal = 0; number = number; count = count }
-toldBy (Refused refusal) = record { refusal = refusal; number = 0; count = 0 }
+toldBy (Done number count) = record { done = true; refusal = 0; number = number; count = count }
+toldBy (Refused refusal) = record { done = false; refusal = refusal; number = 0; count = 0 }
+
+-- what a call with this refusal tells: it is done where none applies
+abbrev pub telling : ℕ → ℕ → ℕ → Told
+telling refusal number count = record { done = eqb refusal 0; refusal = refusal; number = number; count = count }
 
 -- whether memory holds a sound book: long enough, and what it decodes to is sound
 unfoldable pub soundIn : List ℕ → Bool
@@ -35,7 +41,7 @@ outcomeOn m c = cond (enough m) (outcome (decode m) c) (record { refusal = 1; nu
 
 -- m and rows are the memory and the lent rows at entry, m′ and rows′ at exit, a the answer
 pub record Made (m rows : List ℕ) (c : Call) (a : Answer) (m′ rows′ : List ℕ) : Type 0 where
-  pub answer : toldBy a ≡ record { refusal = outcomeOn m c .refusal; number = outcomeOn m c .number; count = length (outcomeOn m c .rows) }
+  pub answer : toldBy a ≡ telling (outcomeOn m c .refusal) (outcomeOn m c .number) (length (outcomeOn m c .rows))
   -- "book and lent memory then stand as before"
   pub refused : (outcomeOn m c .refusal ≡ 0 → ⊥) → (m′ ≡ m) × (rows′ ≡ rows)
   pub accepted : outcomeOn m c .refusal ≡ 0 → decode m′ ≡ outcomeOn m c .book
@@ -46,11 +52,11 @@ pub record Made (m rows : List ℕ) (c : Call) (a : Answer) (m′ rows′ : List
   pub long : length m′ ≡ length m
 
 -- what opening promises: m is the memory at entry, m′ at exit
-pub record Opened (m : List ℕ) (days floor ceiling : ℕ) (a : Answer) (m′ : List ℕ) : Type 0 where
-  pub answer : toldBy a ≡ record { refusal = openingRefusal (length m) days floor ceiling; number = 0; count = 0 }
-  pub refused : (openingRefusal (length m) days floor ceiling ≡ 0 → ⊥) → m′ ≡ m
-  pub accepted : openingRefusal (length m) days floor ceiling ≡ 0 → decode m′ ≡ fresh days floor ceiling
-  pub past : drop (bookWords days) m′ ≡ drop (bookWords days) m
+pub record Opened (m : List ℕ) (r : Rules) (a : Answer) (m′ : List ℕ) : Type 0 where
+  pub answer : toldBy a ≡ telling (openingRefusal (length m) r) 0 0
+  pub refused : (openingRefusal (length m) r ≡ 0 → ⊥) → m′ ≡ m
+  pub accepted : openingRefusal (length m) r ≡ 0 → decode m′ ≡ fresh r
+  pub past : drop (bookWords (r .days)) m′ ≡ drop (bookWords (r .days)) m
   pub long : length m′ ≡ length m
 
 -- what the curve gives on memory
@@ -59,6 +65,6 @@ curveOn m u day lent = cond (enough m) (curve (decode m) u day lent) (record { r
 
 -- what the curve promises: pts are the lent numbers at entry, pts′ at exit; "memory past the 48 is kept"
 pub record Curved (m pts : List ℕ) (u day : ℕ) (a : Answer) (pts′ : List ℕ) : Type 0 where
-  pub answer : toldBy a ≡ record { refusal = curveOn m u day (length pts) .refusal; number = 0; count = 0 }
+  pub answer : toldBy a ≡ telling (curveOn m u day (length pts) .refusal) 0 0
   pub refused : (curveOn m u day (length pts) .refusal ≡ 0 → ⊥) → pts′ ≡ pts
   pub accepted : curveOn m u day (length pts) .refusal ≡ 0 → pts′ ≡ curveOn m u day (length pts) .points ++ drop 48 pts

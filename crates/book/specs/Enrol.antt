@@ -13,7 +13,7 @@ enrolRefusal b kind capacity asset = firstOf (unsound b ∷ enrolChecks b kind c
 
 abbrev pub enrolled : Book → ℕ → ℕ → ℕ → Book
 enrolled b kind capacity asset =
-    withUnits b (b .units ++ (record { kind = kind; capacity = capacity; asset = asset; figures = noTrades (b .days) } ∷ []))
+    withUnits b (b .units ++ (record { kind = kind; capacity = capacity; asset = asset; figures = noTrades (b .rules .days) } ∷ []))
 
 -- "An accepted enrol, offer or order returns its number"
 unfoldable pub enrolment : Book → ℕ → ℕ → ℕ → Outcome

@@ -51,22 +51,22 @@ module _ (b : Book) (u : ℕ) (d : Declaration) where
 
   -- "in each of its periods", that is, where it has energy
   unfoldable pub hoursFit : Bool
-  hoursFit = all (periods (b .days)) (λ p. eqb (d .raising p + d .lowering p) 0 || hourFits p)
+  hoursFit = all (periods (b .rules .days)) (λ p. eqb (d .raising p + d .lowering p) 0 || hourFits p)
 
   abbrev pub termOf : ℕ
-  termOf = termLimit (unitOf b u .kind) (unitOf b u .capacity) (unitOf b u .asset) (b .days)
+  termOf = termLimit (unitOf b u .kind) (unitOf b u .capacity) (unitOf b u .asset) (b .rules .days)
 
   -- "over the term, held plus raising declared today is at most the term limit"
   unfoldable pub termFits : Bool
-  termFits = leb (sum (periods (b .days)) (λ p. figuresOf b u p .held + (raisingToday b u p + d .raising p))) termOf
+  termFits = leb (sum (periods (b .rules .days)) (λ p. figuresOf b u p .held + (raisingToday b u p + d .raising p))) termOf
 
   -- "volume plus everything open is at most the volume limit"
   unfoldable pub volumeFits : Bool
   volumeFits =
       leb
-      (sum (periods (b .days)) (λ p. figuresOf b u p .volume + (openRaising b u p + openLowering b u p + (d .raising p + d .lowering p))))
+      (sum (periods (b .rules .days)) (λ p. figuresOf b u p .volume + (openRaising b u p + openLowering b u p + (d .raising p + d .lowering p))))
       (volumeLimit (unitOf b u .kind) termOf)
 
 -- "all units fit so": every period, with nothing added
 unfoldable pub unitFits : Book → ℕ → Bool
-unitFits b u = holds (all (periods (b .days)) (hourFits b u nothing) ∷ termFits b u nothing ∷ volumeFits b u nothing ∷ [])
+unitFits b u = holds (all (periods (b .rules .days)) (hourFits b u nothing) ∷ termFits b u nothing ∷ volumeFits b u nothing ∷ [])

@@ -3,7 +3,7 @@
 --   8    64 units of 3: kind, capacity, asset
 --   200  8 offers of 5: number, unit, partner, price, taken
 --   240  256 orders of 6: number, unit, direction, period, price, quantity
---   1776 for each period 328: 64 units' figures of 5 (held, raised, lowered, volume, way), then 8 offers' amounts
+--   1776 for each period 328: 64 units' figures of 5 (held, raised, lowered, volume, mark), then 8 offers' amounts
 use Prim.Native.Nat.{ℕ, _+_, _*_}
 use mathlib.Core.Bool.{Bool}
 use mathlib.Core.List.{List}
@@ -26,7 +26,7 @@ figuresAt m k p =
       raised = word m (1777 + 328 * p + 5 * k);
       lowered = word m (1778 + 328 * p + 5 * k);
       volume = word m (1779 + 328 * p + 5 * k);
-      way = word m (1780 + 328 * p + 5 * k);
+      mark = word m (1780 + 328 * p + 5 * k);
     }
 
 abbrev pub unitAt : List ℕ → ℕ → ℕ → EnrolledUnit
@@ -55,9 +55,7 @@ ordersPart m = take 1536 (drop 240 m)
 unfoldable pub decode : List ℕ → Book
 decode m =
     record {
-      days = word m 0;
-      floor = word m 1;
-      ceiling = word m 2;
+      rules = record { days = word m 0; floor = word m 1; ceiling = word m 2 };
       phase = word m 3;
       given = word m 4;
       units = table (word m 5) (unitAt m (word m 0));

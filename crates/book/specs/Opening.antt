@@ -4,7 +4,7 @@ use mathlib.Core.Bool.{Bool, cond, _&&_}
 use mathlib.Core.List.{List, [], _∷_}
 use lib.Dec.{ltb}
 use Rattle.limits.specs.Units.{daysIn}
-use Rattle.book.specs.Book.{Book, callPhase}
+use Rattle.book.specs.Book.{Rules, Book, callPhase}
 use Rattle.book.specs.Refusals.{Check, check, firstOf, badOpening}
 
 -- "its needed length depends on the days alone, is published by the library": in words of 64 bits. Before the figures
@@ -18,13 +18,13 @@ unfoldable pub wordsFor : ℕ → ℕ
 wordsFor days = cond (daysIn days) (bookWords days) 0
 
 -- "A fresh book has no units and no open declaration, is on its first trading day and in the call phase."
-abbrev pub fresh : ℕ → ℕ → ℕ → Book
-fresh days floor ceiling =
-    record { days = days; floor = floor; ceiling = ceiling; phase = callPhase; given = 0; units = []; offers = []; orders = [] }
+abbrev pub fresh : Rules → Book
+fresh r =
+    record { rules = r; phase = callPhase; given = 0; units = []; offers = []; orders = [] }
 
 -- "opening: only too short for days of 1 to 31"
-abbrev pub tooShort : ℕ → ℕ → Check
-tooShort words days = check 1 (daysIn days && ltb words (bookWords days))
+abbrev pub tooShort : ℕ → Rules → Check
+tooShort words r = check 1 (daysIn (r .days) && ltb words (bookWords (r .days)))
 
-unfoldable pub openingRefusal : ℕ → ℕ → ℕ → ℕ → ℕ
-openingRefusal words days floor ceiling = firstOf (tooShort words days ∷ badOpening days floor ceiling ∷ [])
+unfoldable pub openingRefusal : ℕ → Rules → ℕ
+openingRefusal words r = firstOf (tooShort words r ∷ badOpening r ∷ [])

@@ -10,6 +10,7 @@ use Rattle.measures.specs.Sharing.{total}
 use Rattle.limits.specs.Units.{daysIn, periods, periodIn, kindIn, generator, capacityIn, assetIn}
 use Rattle.matching.specs.Orders.{Order as OpenOrder, Row, sells, buys}
 use Rattle.book.specs.Book.{
+  Rules,
   OpenOffer,
   Book,
   callPhase,
@@ -61,8 +62,8 @@ abbrev pub unsound : Book → Check
 unsound b = check 1 (not (sound b))
 
 -- 2, opening: "days or prices out of range"
-abbrev pub badOpening : ℕ → ℕ → ℕ → Check
-badOpening days floor ceiling = check 2 (not (daysIn days && pricesIn floor ceiling))
+abbrev pub badOpening : Rules → Check
+badOpening r = check 2 (not (daysIn (r .days) && pricesIn (r .floor) (r .ceiling)))
 
 -- 3, enrol: "kind not 1 to 4"
 abbrev pub badKind : ℕ → Check
@@ -95,21 +96,21 @@ fewPoints lent = check 7 (ltb lent 48)
 
 -- 8, price: "outside floor to ceiling"
 abbrev pub badPrice : Book → ℕ → Check
-badPrice b price = check 8 (not (between (b .floor) (b .ceiling) price))
+badPrice b price = check 8 (not (between (b .rules .floor) (b .rules .ceiling) price))
 
 -- 9, energy: "quantity or total 0 or over 4,000,000,000; wrong list length"
 abbrev pub badQuantity : ℕ → Check
 badQuantity q = check 9 (not (energyIn q))
 
 abbrev pub badAmounts : Book → List ℕ → Check
-badAmounts b amounts = check 9 (not (eqb (length amounts) (periods (b .days)) && energyIn (total amounts)))
+badAmounts b amounts = check 9 (not (eqb (length amounts) (periods (b .rules .days)) && energyIn (total amounts)))
 
 -- 10, period: "no such period or day"
 abbrev pub badPeriod : Book → ℕ → Check
-badPeriod b p = check 10 (not (periodIn (b .days) p))
+badPeriod b p = check 10 (not (periodIn (b .rules .days) p))
 
 abbrev pub badDay : Book → ℕ → Check
-badDay b day = check 10 (not (ltb day (b .days)))
+badDay b day = check 10 (not (ltb day (b .rules .days)))
 
 -- 11, number: "no open offer of that number (cancel: no open order); withdraw, cancel: or another's"
 abbrev pub noSuchOffer : Book → ℕ → Check
@@ -152,12 +153,16 @@ clearInRolling b = check 14 (eqb (b .phase) rollingPhase)
 abbrev pub ordersOfUnit : Book → ℕ → ℕ → List OpenOrder
 ordersOfUnit b u p = keep (λ o. eqb (o .unit) u && eqb (o .period) p) (b .orders)
 
+-- whether today's mark has the direction other than d
+abbrev pub markedAgainst : ℕ → ℕ → Bool
+markedAgainst d mark = cond (sells d) (eqb mark 2) (eqb mark 1) || eqb mark 3
+
 -- 15, day: "order: unit has an open order or a trade of way 3 or 4 today, same period, other direction"
 abbrev pub otherDirection : Book → ℕ → ℕ → ℕ → Check
 otherDirection b u d p =
     check 15
     (ltb 0 (length (keep (λ o. not (eqb (o .direction) d)) (ordersOfUnit b u p)))
-    || cond (sells d) (eqb (figuresOf b u p .way) 2) (eqb (figuresOf b u p .way) 1))
+    || markedAgainst d (figuresOf b u p .mark))
 
 -- 16, day: "order in the call phase: unit has two open in that period"
 abbrev pub twoOpen : Book → ℕ → ℕ → Check

@@ -24,8 +24,8 @@ energyIn q = between 1 mostEnergy q
 unfoldable pub headIn : Book → Bool
 headIn b =
     holds
-    (daysIn (b .days)
-    ∷ pricesIn (b .floor) (b .ceiling)
+    (daysIn (b .rules .days)
+    ∷ pricesIn (b .rules .floor) (b .rules .ceiling)
     ∷ leb (b .phase) rollingPhase
     ∷ leb (b .given) mostNumbers
     ∷ leb (length (b .units)) mostUnits
@@ -40,7 +40,7 @@ unitIn days u =
     ∷ capacityIn (u .capacity)
     ∷ assetIn (u .asset)
     ∷ eqb (length (u .figures)) (periods days)
-    ∷ every (λ (f : Figures). leb (f .way) 2) (u .figures)
+    ∷ every (λ (f : Figures). leb (f .mark) 3) (u .figures)
     ∷ [])
 
 -- "each open declaration names enrolled units of the side its call wants": an order any unit, a listing any unit, a
@@ -57,9 +57,9 @@ offerIn b o =
     (between 1 (b .given) (o .number)
     ∷ known b (o .unit)
     ∷ offerSides b o
-    ∷ between (b .floor) (b .ceiling) (o .price)
+    ∷ between (b .rules .floor) (b .rules .ceiling) (o .price)
     ∷ leb (o .taken) 1
-    ∷ eqb (length (o .amounts)) (periods (b .days))
+    ∷ eqb (length (o .amounts)) (periods (b .rules .days))
     ∷ energyIn (total (o .amounts))
     ∷ [])
 
@@ -69,8 +69,8 @@ orderIn b o =
     (between 1 (b .given) (o .number)
     ∷ known b (o .unit)
     ∷ leb (o .direction) 1
-    ∷ periodIn (b .days) (o .period)
-    ∷ between (b .floor) (b .ceiling) (o .price)
+    ∷ periodIn (b .rules .days) (o .period)
+    ∷ between (b .rules .floor) (b .rules .ceiling) (o .price)
     ∷ energyIn (o .quantity)
     ∷ [])
 
@@ -84,8 +84,8 @@ numbersDiffer b =
     ∷ [])
 
 -- "no unit has open orders both ways in a period"
-abbrev pub oneWay : OpenOrder → OpenOrder → Bool
-oneWay a o = not (eqb (a .unit) (o .unit) && eqb (a .period) (o .period)) || eqb (a .direction) (o .direction)
+abbrev pub oneDirection : OpenOrder → OpenOrder → Bool
+oneDirection a o = not (eqb (a .unit) (o .unit) && eqb (a .period) (o .period)) || eqb (a .direction) (o .direction)
 
 -- "no open buy and sell of one period cross"
 abbrev pub apart : OpenOrder → OpenOrder → Bool
@@ -103,11 +103,11 @@ unfoldable pub sound : Book → Bool
 sound b =
     holds
     (headIn b
-    ∷ every (unitIn (b .days)) (b .units)
+    ∷ every (unitIn (b .rules .days)) (b .units)
     ∷ every (offerIn b) (b .offers)
     ∷ every (orderIn b) (b .orders)
     ∷ numbersDiffer b
-    ∷ eachTwo oneWay (b .orders)
+    ∷ eachTwo oneDirection (b .orders)
     ∷ (not (eqb (b .phase) rollingPhase) || eachTwo apart (b .orders))
     ∷ all (length (b .units)) (λ k. unitFits b (k + 1))
     ∷ [])

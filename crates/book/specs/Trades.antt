@@ -15,16 +15,20 @@ raises kind direction = cond (generator kind) (sells direction) (buys direction)
 abbrev pub lowers : ℕ → ℕ → Bool
 lowers kind direction = cond (generator kind) (buys direction) (sells direction)
 
--- today's direction after a trade: ways 3 and 4 set it
-abbrev pub wayAfter : ℕ → ℕ → ℕ → ℕ
-wayAfter way direction old = cond (leb 3 way) (direction + 1) old
+-- a mark (0 none, 1 sold, 2 bought, 3 both) with one direction more
+abbrev pub markWith : ℕ → ℕ → ℕ
+markWith direction mark = cond (eqb mark 0) (direction + 1) (cond (eqb mark (2 - direction)) 3 mark)
+
+-- today's mark after a trade: ways 3 and 4 add their direction
+abbrev pub markAfter : ℕ → ℕ → ℕ → ℕ
+markAfter way direction mark = cond (leb 3 way) (markWith direction mark) mark
 
 -- the figures of a unit of this kind after a trade in this direction (0 sold, 1 bought)
 unfoldable pub traded : ℕ → ℕ → ℕ → ℕ → Figures → Figures
 traded kind way direction q f =
     cond (raises kind direction)
-    (record { held = f .held; raised = f .raised + q; lowered = f .lowered; volume = f .volume + q; way = wayAfter way direction (f .way) })
-    (record { held = f .held; raised = f .raised; lowered = f .lowered + q; volume = f .volume + q; way = wayAfter way direction (f .way) })
+    (record { held = f .held; raised = f .raised + q; lowered = f .lowered; volume = f .volume + q; mark = markAfter way direction (f .mark) })
+    (record { held = f .held; raised = f .raised; lowered = f .lowered + q; volume = f .volume + q; mark = markAfter way direction (f .mark) })
 
 -- the unit after such a trade in period p
 abbrev pub unitTraded : ℕ → ℕ → ℕ → ℕ → EnrolledUnit → EnrolledUnit

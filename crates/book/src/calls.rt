@@ -29,8 +29,7 @@ ghost use Rattle.book.specs.Calls.{
   callTake,
   callWithdraw,
   callCancel,
-  close as
-      callClose,
+  callClose,
   callClear,
   callOrder,
 };

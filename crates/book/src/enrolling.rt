@@ -74,9 +74,10 @@ pub(crate) fn enrol_effect(book: &mut [u64], kind: u64, capacity: u64, asset: u6
         × (drop (bookWords (word (now (book .entry)) 0)) (now (book .exit)) ≡ drop (bookWords (word (now (book .entry)) 0)) (now (book .entry))) ⌝ }
 {
     let k = book[5] as usize;
+    let unit = Unit::fresh(kind, capacity, Energy(asset));
     clear_unit(book, k);
-    book[8 + 3 * k] = kind;
-    book[9 + 3 * k] = capacity;
-    book[10 + 3 * k] = asset;
+    book[8 + 3 * k] = unit.kind;
+    book[9 + 3 * k] = unit.capacity;
+    book[10 + 3 * k] = unit.asset.0;
     book[5] = k as u64 + 1;
 }

@@ -16,20 +16,20 @@ ghost use Rattle.limits.specs.Limits.{hourOf, hourLimit};
 ghost use Rattle.book.specs.Book.{unitOf};
 ghost use Rattle.book.specs.Layout.{word, decode};
 ghost use Rattle.book.specs.inner.Readable.{Ranged, Fitted, declared, small};
-ghost use Rattle.book.specs.inner.Fitting.{Below, Added, orderShare, offerShare, wayHolds, hourHolds, termAt, volumeAt, periodMisfit, UnitCame};
+ghost use Rattle.book.specs.inner.Fitting.{Below, Added, orderShare, offerShare, markHolds, hourHolds, termAt, volumeAt, periodMisfit, UnitCame};
 
 // What the order at place k has open of a unit in one direction goes to its period.
-fn add_order(book: &[u64], unit: u64, way: u64, k: usize, totals: &mut [u64])
+fn add_order(book: &[u64], unit: u64, direction: u64, k: usize, totals: &mut [u64])
     requires { ⌜ (Ranged (now book)) × (k < word (now book) 7) ⌝ }
     requires { ⌜ (length (now totals) ≡ 744) × (Below 2000000000000 (now totals)) ⌝ }
-    ensures { λ _. ⌜ Added (periods (word (now (book .entry)) 0)) (now (totals .entry)) (now (totals .exit)) (orderShare (now (book .entry)) unit way k)
+    ensures { λ _. ⌜ Added (periods (word (now (book .entry)) 0)) (now (totals .entry)) (now (totals .exit)) (orderShare (now (book .entry)) unit direction k)
         mostEnergy ⌝ }
 {
     let at = 240 + 6 * k;
     if book[at + 1] != unit {
         return;
     }
-    if book[at + 2] != way {
+    if book[at + 2] != direction {
         return;
     }
     let p = book[at + 3] as usize;
@@ -37,16 +37,16 @@ fn add_order(book: &[u64], unit: u64, way: u64, k: usize, totals: &mut [u64])
 }
 
 // All of a unit's orders in one direction.
-fn add_orders(book: &[u64], unit: u64, way: u64, totals: &mut [u64])
+fn add_orders(book: &[u64], unit: u64, direction: u64, totals: &mut [u64])
     requires { ⌜ Ranged (now book) ⌝ }
     requires { ⌜ (length (now totals) ≡ 744) × (Below 40000000000 (now totals)) ⌝ }
     ensures { λ _. ⌜ Added (periods (word (now (book .entry)) 0)) (now (totals .entry)) (now (totals .exit))
-        (λ p. sum (word (now (book .entry)) 7) (λ k. orderShare (now (book .entry)) unit way k p)) 1024000000000 ⌝ }
+        (λ p. sum (word (now (book .entry)) 7) (λ k. orderShare (now (book .entry)) unit direction k p)) 1024000000000 ⌝ }
 {
     let n = book[7] as usize;
     let mut k: usize = 0;
     while k < n {
-        add_order(book, unit, way, k, totals);
+        add_order(book, unit, direction, k, totals);
         k += 1;
     }
 }
@@ -145,9 +145,9 @@ fn hour_at(book: &[u64], k: usize, p: usize) -> u64
 // its hour, or 0.
 pub(crate) fn period_fit(book: &[u64], k: usize, p: usize, x: u64, y: u64) -> u64
     requires { ⌜ (Ranged (now book)) × (k < word (now book) 5) × (p < periods (word (now book) 0)) ⌝ }
-    ensures { λ r. ⌜ r ≡ periodMisfit (wayHolds (now (book .entry)) k p) (hourHolds (now (book .entry)) k p x y) ⌝ }
+    ensures { λ r. ⌜ r ≡ periodMisfit (markHolds (now (book .entry)) k p) (hourHolds (now (book .entry)) k p x y) ⌝ }
 {
-    if 2 < book[1780 + 328 * p + 5 * k] {
+    if 3 < book[1780 + 328 * p + 5 * k] {
         return 1;
     }
     let hour = hour_at(book, k, p);
@@ -206,7 +206,7 @@ fn fit_of(book: &[u64], k: usize, raising: &[u64], lowering: &[u64]) -> u64
 }
 
 // The direction that raises a unit: 0 of a generator, 1 of a load.
-fn raising_way(book: &[u64], unit: u64) -> u64
+fn raising_direction(book: &[u64], unit: u64) -> u64
     requires { ⌜ (Ranged (now book)) × (1 ≤ unit) × (unit ≤ word (now book) 5) ⌝ }
     ensures { λ r. ⌜ (r ≤ 1) × (r ≡ cond (generator (unitOf (decode (now (book .entry))) unit .kind)) 0 1) ⌝ }
 {
@@ -223,9 +223,9 @@ pub(crate) fn misfit(book: &[u64], unit: u64, raising: &mut [u64], lowering: &mu
     requires { ⌜ (length (now raising) ≡ 744) × (length (now lowering) ≡ 744) × (small (now raising)) × (small (now lowering)) ⌝ }
     ensures { λ r. ⌜ Fitted (decode (now (book .entry))) unit (declared (now (raising .entry)) (now (lowering .entry))) r ⌝ }
 {
-    let way = raising_way(book, unit);
+    let direction = raising_direction(book, unit);
     add_offers(book, unit, raising);
-    add_orders(book, unit, way, raising);
-    add_orders(book, unit, 1 - way, lowering);
+    add_orders(book, unit, direction, raising);
+    add_orders(book, unit, 1 - direction, lowering);
     fit_of(book, unit as usize - 1, raising, lowering)
 }

@@ -1,4 +1,5 @@
-// Whether open numbers differ: paper 01, "A book is sound if".
+// Open numbers: whether they differ (paper 01, "A book is sound if"), and the offer of one.
+use crate::ranges::Offer;
 ghost use mathlib.Core.Path.{_≡_};
 ghost use mathlib.Core.Bool.{not};
 ghost use mathlib.Core.List.{List, map};
@@ -10,6 +11,7 @@ ghost use Rattle.matching.specs.Orders.{Order as OpenOrder, rising};
 ghost use Rattle.book.specs.Sound.{numbersDiffer};
 ghost use Rattle.book.specs.Layout.{word, decode};
 ghost use Rattle.book.specs.inner.Readable.{Readable, offerNumbers, numberFree, numbersFree};
+ghost use Rattle.book.specs.inner.RowsIn.{Found};
 
 // Whether the numbers of the open offers rise: each is above the one before it.
 fn offers_rise(book: &[u64]) -> bool
@@ -74,4 +76,20 @@ pub(crate) fn numbers_differ(book: &[u64]) -> bool
         return false;
     }
     numbers_free(book)
+}
+
+// The place of the open offer of a number, or 8.
+pub(crate) fn find_offer(book: &[u64], number: u64) -> usize
+    requires { ⌜ Readable (now book) ⌝ }
+    ensures { λ r. ⌜ Found (now (book .entry)) number r ⌝ }
+{
+    let n = book[6] as usize;
+    let mut j: usize = 0;
+    while j < n {
+        if book[200 + 5 * j] == number {
+            return j;
+        }
+        j += 1;
+    }
+    Offer::MOST as usize
 }

@@ -5,6 +5,7 @@ use measures::Price;
 ghost use mathlib.Core.Path.{_≡_};
 ghost use Prim.Native.Nat.{ℕ, _+_, _*_, _<_, _≤_};
 ghost use lib.ListN.{length, drop};
+ghost use Rattle.book.specs.Book.{rulesOf};
 ghost use Rattle.limits.specs.Units.{mostDays};
 ghost use Rattle.book.specs.Opening.{fresh, bookWords, wordsFor};
 ghost use Rattle.book.specs.Layout.{decode};
@@ -12,7 +13,7 @@ ghost use Rattle.book.specs.Contract.{Opened};
 
 // How many words a book of these days needs; 0 where there is no such book.
 pub fn book_words(days: u64) -> u64
-    ensures { λ r. ⌜ r ≡ wordsFor days ⌝ }
+    ensures { λ r. ⌜ (r ≡ wordsFor days) × (8 * r ≤ 262144 * (days + 1)) ⌝ }
 {
     if days < 1 {
         return 0;
@@ -26,7 +27,7 @@ pub fn book_words(days: u64) -> u64
 // Writes the head of a fresh book.
 fn write_head(book: &mut [u64], days: u64, floor: u64, ceiling: u64)
     requires { ⌜ 1776 ≤ length (now book) ⌝ }
-    ensures { λ _. ⌜ (decode (now (book .exit)) ≡ fresh days floor ceiling) × (drop 1776 (now (book .exit)) ≡ drop 1776 (now (book .entry))) ⌝ }
+    ensures { λ _. ⌜ (decode (now (book .exit)) ≡ fresh (rulesOf days floor ceiling)) × (drop 1776 (now (book .exit)) ≡ drop 1776 (now (book .entry))) ⌝ }
 {
     book[0] = days;
     book[1] = floor;
@@ -40,7 +41,7 @@ fn write_head(book: &mut [u64], days: u64, floor: u64, ceiling: u64)
 
 // Opens a book of these days and prices. What the memory held before is not looked at.
 pub fn open(book: &mut [u64], days: u64, floor: u64, ceiling: u64) -> Answer
-    ensures { λ r. ⌜ Opened (now (book .entry)) days floor ceiling r (now (book .exit)) ⌝ }
+    ensures { λ r. ⌜ Opened (now (book .entry)) (rulesOf days floor ceiling) r (now (book .exit)) ⌝ }
 {
     if days < 1 {
         return Answer::Refused(2);

@@ -20,7 +20,7 @@ ghost use Rattle.matching.specs.Memory.{asOrder, ordersIn};
 ghost use Rattle.book.specs.Book.{numbered};
 ghost use Rattle.book.specs.Opening.{bookWords};
 ghost use Rattle.book.specs.Layout.{word, decode, ordersPart};
-ghost use Rattle.book.specs.Refusals.{firstOf};
+ghost use Rattle.book.specs.Refusals.{firstOf, markedAgainst};
 ghost use Rattle.book.specs.inner.Readable.{Readable};
 ghost use Rattle.book.specs.Contract.{soundIn};
 ghost use Rattle.book.specs.Order.{orderChecks, newOrder, orderedInCall, waiting};
@@ -133,6 +133,17 @@ fn counted(book: &[u64], stand: u64) -> u64
     0
 }
 
+// Whether today's mark has the other direction.
+fn marked_against(direction: u64, mark: u64) -> bool
+    requires { ⌜ direction ≤ 1 ⌝ }
+    ensures { λ r. ⌜ r ≡ markedAgainst direction mark ⌝ }
+{
+    if mark == 3 {
+        return true;
+    }
+    mark == 2 - direction
+}
+
 // The checks of the day and the tables.
 fn order_days(book: &[u64], unit: u64, direction: u64, period: u64) -> u64
     requires { ⌜ (Readable (now book)) × (1 ≤ unit) × (unit ≤ word (now book) 5) × (direction ≤ 1) × (period < 24 * word (now book) 0) ⌝ }
@@ -144,8 +155,8 @@ fn order_days(book: &[u64], unit: u64, direction: u64, period: u64) -> u64
     }
     let p = period as usize;
     let k = unit as usize - 1;
-    let way = book[1780 + 328 * p + 5 * k];
-    if way == 2 - direction {
+    let mark = book[1780 + 328 * p + 5 * k];
+    if marked_against(direction, mark) {
         return 15;
     }
     let two = counted(book, seen.stand);

@@ -6,7 +6,7 @@ ghost use Prim.Native.Nat.{ℕ, _+_, _*_, _-_, _<_, _≤_};
 ghost use lib.ListN.{length, getD};
 ghost use Rattle.measures.specs.Lists.{all};
 ghost use Rattle.matching.specs.Memory.{orderAt};
-ghost use Rattle.book.specs.Sound.{oneWay};
+ghost use Rattle.book.specs.Sound.{oneDirection};
 ghost use Rattle.book.specs.Layout.{word, ordersPart, decode};
 ghost use Rattle.book.specs.inner.Readable.{Ranged, pairsFit};
 ghost use Rattle.book.specs.inner.Whole.{Chained, Alike, highWith, lowWith, Prices, crossless, Priced, pairsBefore, OrderStands};
@@ -37,10 +37,10 @@ fn find_alike(book: &[u64], k: usize, own: &[u64], peers: &[u64]) -> usize
 }
 
 // Whether the order at place k goes the same way as the orders of its unit before it in its period, which go one way.
-fn one_way(book: &[u64], k: usize, own: &[u64], peers: &[u64]) -> bool
+fn one_direction(book: &[u64], k: usize, own: &[u64], peers: &[u64]) -> bool
     requires { ⌜ (Ranged (now book)) × (k < word (now book) 7) × (length (now own) ≡ 256) × (length (now peers) ≡ 256) × (Chained (now book) 1 (now own))
         × (Chained (now book) 3 (now peers)) × (pairsBefore (now book) k ≡ true) ⌝ }
-    ensures { λ r. ⌜ r ≡ all k (λ j. oneWay (orderAt (ordersPart (now (book .entry))) k) (orderAt (ordersPart (now (book .entry))) j)) ⌝ }
+    ensures { λ r. ⌜ r ≡ all k (λ j. oneDirection (orderAt (ordersPart (now (book .entry))) k) (orderAt (ordersPart (now (book .entry))) j)) ⌝ }
 {
     let t = find_alike(book, k, own, peers);
     if t == 0 {
@@ -117,7 +117,7 @@ fn order_stands(
         × (length (now low) ≡ 744) × (word (now book) 3 ≡ 1 → Prices (now book) k (now high) (now low)) ⌝ }
     ensures { λ r. ⌜ OrderStands (now (book .entry)) k r (now (high .exit)) (now (low .exit)) ⌝ }
 {
-    if !one_way(book, k, own, peers) {
+    if !one_direction(book, k, own, peers) {
         return false;
     }
     if book[3] != 1 {

@@ -1,5 +1,6 @@
 // Take: its checks behind that of soundness, and its effect (paper 01, "The eight calls").
 use crate::fits::misfit;
+use crate::numbers::find_offer;
 use crate::ranges::Offer;
 use crate::ranges::is_generator;
 use crate::ranges::offer_total;
@@ -26,7 +27,6 @@ ghost use Rattle.book.specs.Layout.{word, amountAt, offerAt, decode};
 ghost use Rattle.book.specs.inner.Readable.{Readable};
 ghost use Rattle.book.specs.Contract.{soundIn};
 ghost use Rattle.book.specs.inner.RowsIn.{
-  Found,
   takes,
   partyChecks,
   TakeFit,
@@ -40,22 +40,6 @@ ghost use Rattle.book.specs.inner.RowsIn.{
   PartsLent,
   TakeMade,
 };
-
-// The place of the open offer of a number, or 8.
-pub(crate) fn find_offer(book: &[u64], number: u64) -> usize
-    requires { ⌜ Readable (now book) ⌝ }
-    ensures { λ r. ⌜ Found (now (book .entry)) number r ⌝ }
-{
-    let n = book[6] as usize;
-    let mut j: usize = 0;
-    while j < n {
-        if book[200 + 5 * j] == number {
-            return j;
-        }
-        j += 1;
-    }
-    Offer::MOST as usize
-}
 
 // Whether a unit can take a quantity of the offer at place j.
 fn can_take(book: &[u64], j: usize, unit: u64, quantity: u64) -> bool

@@ -6,7 +6,7 @@ ghost use Prim.Native.Nat.{ℕ, _+_, _*_, _-_, _<_, _≤_};
 ghost use lib.ListN.{length};
 ghost use Rattle.measures.specs.Ranges.{mostEnergy};
 ghost use Rattle.book.specs.Book.{Book, unitOf};
-ghost use Rattle.book.specs.Trades.{raises, wayAfter};
+ghost use Rattle.book.specs.Trades.{raises, markWith, markAfter};
 ghost use Rattle.book.specs.Layout.{word, decode};
 ghost use Rattle.book.specs.inner.Readable.{Readable};
 ghost use Rattle.book.specs.inner.RowsIn.{rowAt, Small, SmallAt, FiguresPut, Traded, RowTraded, RowFits, RowsFit, smallFigures, RowsTraded};
@@ -22,15 +22,29 @@ pub(crate) fn raises_net(book: &[u64], unit: u64, direction: u64) -> bool
     direction == 1
 }
 
-// Today's direction of a unit after a trade.
-fn way_after(way: u64, direction: u64, old: u64) -> u64
+// A mark with one direction more.
+fn mark_with(direction: u64, mark: u64) -> u64
     requires { ⌜ direction ≤ 1 ⌝ }
-    ensures { λ r. ⌜ r ≡ wayAfter way direction old ⌝ }
+    ensures { λ r. ⌜ r ≡ markWith direction mark ⌝ }
 {
-    if 3 <= way {
+    if mark == 0 {
         return direction + 1;
     }
-    old
+    if mark == 2 - direction {
+        return 3;
+    }
+    mark
+}
+
+// Today's mark of a unit after a trade.
+fn mark_after(way: u64, direction: u64, mark: u64) -> u64
+    requires { ⌜ direction ≤ 1 ⌝ }
+    ensures { λ r. ⌜ r ≡ markAfter way direction mark ⌝ }
+{
+    if way < 3 {
+        return mark;
+    }
+    mark_with(direction, mark)
 }
 
 // New figures of the unit at place k in period p.
@@ -41,15 +55,15 @@ fn put_figures(
     raised: u64,
     lowered: u64,
     volume: u64,
-    way: u64,
+    mark: u64,
 )
     requires { ⌜ (1780 + 328 * p + 5 * k < length (now book)) × (k < 64) × (p < 744) ⌝ }
-    ensures { λ _. ⌜ FiguresPut (now (book .entry)) (now (book .exit)) k p raised lowered volume way ⌝ }
+    ensures { λ _. ⌜ FiguresPut (now (book .entry)) (now (book .exit)) k p raised lowered volume mark ⌝ }
 {
     book[1777 + 328 * p + 5 * k] = raised;
     book[1778 + 328 * p + 5 * k] = lowered;
     book[1779 + 328 * p + 5 * k] = volume;
-    book[1780 + 328 * p + 5 * k] = way;
+    book[1780 + 328 * p + 5 * k] = mark;
 }
 
 // One party of a row.
@@ -70,11 +84,11 @@ pub(crate) fn book_trade(
     let raised = book[1777 + 328 * p + 5 * k];
     let lowered = book[1778 + 328 * p + 5 * k];
     let volume = book[1779 + 328 * p + 5 * k] + quantity;
-    let w = way_after(way, direction, book[1780 + 328 * p + 5 * k]);
+    let mark = mark_after(way, direction, book[1780 + 328 * p + 5 * k]);
     if raises_net(book, unit, direction) {
-        put_figures(book, k, p, raised + quantity, lowered, volume, w);
+        put_figures(book, k, p, raised + quantity, lowered, volume, mark);
     } else {
-        put_figures(book, k, p, raised, lowered + quantity, volume, w);
+        put_figures(book, k, p, raised, lowered + quantity, volume, mark);
     }
 }
 

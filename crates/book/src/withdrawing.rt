@@ -1,4 +1,6 @@
 // Withdraw (paper 01): "Withdraw removes an own offer of which nothing is taken."
+use crate::numbers::find_offer;
+use crate::ranges::Offer;
 ghost use mathlib.Core.Path.{_≡_};
 ghost use mathlib.Core.Bool.{true, not};
 ghost use Prim.Native.Nat.{ℕ, _+_, _*_, _-_, _<_, _≤_};
@@ -13,23 +15,6 @@ ghost use Rattle.book.specs.inner.Readable.{Readable};
 ghost use Rattle.book.specs.Contract.{soundIn};
 ghost use Rattle.book.specs.Withdraw.{withdrawChecks};
 
-// The place of the open offer of a number, or how many stand open.
-pub(crate) fn offer_place(book: &[u64], number: u64) -> usize
-    requires { ⌜ Readable (now book) ⌝ }
-    ensures { λ r. ⌜ (r ≤ word (now (book .entry)) 6) × ((j : ℕ) → j < r → word (now (book .entry)) (200 + 5 * j) ≡ number → ⊥)
-        × (r < word (now (book .entry)) 6 → word (now (book .entry)) (200 + 5 * r) ≡ number) ⌝ }
-{
-    let n = book[6] as usize;
-    let mut j: usize = 0;
-    while j < n {
-        if book[200 + 5 * j] == number {
-            return j;
-        }
-        j += 1;
-    }
-    j
-}
-
 // The checks of a withdraw behind that of soundness.
 pub(crate) fn withdraw_checks(book: &[u64], unit: u64, number: u64) -> u64
     requires { ⌜ soundIn (now book) ≡ true ⌝ }
@@ -41,9 +26,8 @@ pub(crate) fn withdraw_checks(book: &[u64], unit: u64, number: u64) -> u64
     if book[5] < unit {
         return 6;
     }
-    let n = book[6] as usize;
-    let j = offer_place(book, number);
-    if n <= j {
+    let j = find_offer(book, number);
+    if Offer::MOST as usize <= j {
         return 11;
     }
     if book[201 + 5 * j] != unit {
@@ -95,7 +79,7 @@ pub(crate) fn withdraw_effect(book: &mut [u64], number: u64)
         × (drop (bookWords (word (now (book .entry)) 0)) (now (book .exit)) ≡ drop (bookWords (word (now (book .entry)) 0)) (now (book .entry))) ⌝ }
 {
     let n = book[6] as usize;
-    let j = offer_place(book, number);
+    let j = find_offer(book, number);
     shift_amounts(book, n, j);
     shift(book, 200 + 5 * j, 195 + 5 * n, 5);
     book[6] = n as u64 - 1;

@@ -3,6 +3,7 @@ use Prim.Native.Nat.{ℕ}
 use mathlib.Core.Path.{_≡_, ap, _∙_}
 use mathlib.Core.List.{List, [], _∷_}
 use lib.ListN.{length}
+use Rattle.book.specs.Book.{rulesOf}
 use Rattle.book.specs.Calls.{Call}
 use Rattle.book.specs.Opening.{openingRefusal}
 use Rattle.book.specs.Contract.{Told, outcomeOn, curveOn}
@@ -19,7 +20,7 @@ pub settled-refusal : (m : List ℕ) (c : Call) (r : ℕ) (m′ : List ℕ) → 
 settled-refusal m c r m′ k = k .refusal ∙ ap (λ (t : Told). t .refusal) (k .made .answer)
 
 pub opened-refusal : (m : List ℕ) (days floor ceiling r : ℕ) (m′ : List ℕ) → BookOpened m days floor ceiling r m′ → r
-    ≡ openingRefusal (length m) days floor ceiling
+    ≡ openingRefusal (length m) (rulesOf days floor ceiling)
 opened-refusal m days floor ceiling r m′ k = k .refusal ∙ ap (λ (t : Told). t .refusal) (k .opened .answer)
 
 pub drawn-refusal : (m pts : List ℕ) (unit day r : ℕ) (pts′ : List ℕ) → CurveDrawn m pts unit day r pts′ → r ≡ curveOn m unit day (length pts) .refusal

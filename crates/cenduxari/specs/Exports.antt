@@ -2,6 +2,7 @@
 use Prim.Native.Nat.{ℕ}
 use mathlib.Core.Path.{_≡_}
 use mathlib.Core.List.{List, [], _∷_}
+use Rattle.book.specs.Book.{rulesOf}
 use Rattle.book.specs.declared.Answer.{Answer}
 use Rattle.book.specs.Calls.{Call}
 use Rattle.book.specs.Contract.{Made, Opened, Curved, toldBy}
@@ -22,7 +23,7 @@ pub record Settled (m : List ℕ) (c : Call) (r : ℕ) (m′ : List ℕ) : Type 
 -- opening
 pub record BookOpened (m : List ℕ) (days floor ceiling r : ℕ) (m′ : List ℕ) : Type 0 where
   pub answer : Answer
-  pub opened : Opened m days floor ceiling answer m′
+  pub opened : Opened m (rulesOf days floor ceiling) answer m′
   pub refusal : r ≡ toldBy answer .refusal
 
 -- the curve

@@ -10,7 +10,7 @@ use Rattle.measures.specs.Lists.{Each, sumOf, sum}
 use Rattle.limits.specs.Units.{periods, generator}
 use Rattle.limits.specs.Limits.{hourOf, hourLimit, termLimit, volumeLimit}
 use Rattle.matching.specs.Orders.{Order as OpenOrder, Row}
-use Rattle.book.specs.Book.{Figures, Book, figuresOf, net}
+use Rattle.book.specs.Book.{Figures, Rules, Book, figuresOf, net}
 use Rattle.book.specs.Trades.{raises, lowers}
 use Rattle.book.specs.Opening.{fresh, openingRefusal}
 use Rattle.book.specs.Curve.{firstHalf, secondHalf, points}
@@ -44,7 +44,7 @@ netOf t u p = raisedBy t u p - loweredBy t u p
 
 -- "Volume is all traded energy, bought and sold"
 abbrev pub volumeOf : Tally → ℕ → ℕ
-volumeOf t u = sum (periods (t .days)) (λ p. sold t u p + bought t u p)
+volumeOf t u = sum (periods (t .rules .days)) (λ p. sold t u p + bought t u p)
 
 -- "any part, from none to all, of each open amount", by number and period
 pub record Part (t : Tally) : Type 0 where
@@ -71,27 +71,27 @@ netsOf side t p = sum (length (t .units)) (λ k. cond (side (memberOf t (k + 1) 
 -- of a unit, with a part of what is open added
 pub record Bounded (t : Tally) (x : Part t) (u : ℕ) : Type 0 where
   -- "nets stay within 0 and the hour limit"
-  pub atLeastNone : (p : ℕ) → p < periods (t .days) → loweredBy t u p + loweringPart t x u p ≤ raisedBy t u p + raisingPart t x u p
-  pub withinHour : (p : ℕ) → p < periods (t .days)
+  pub atLeastNone : (p : ℕ) → p < periods (t .rules .days) → loweredBy t u p + loweringPart t x u p ≤ raisedBy t u p + raisingPart t x u p
+  pub withinHour : (p : ℕ) → p < periods (t .rules .days)
       → raisedBy t u p + raisingPart t x u p - (loweredBy t u p + loweringPart t x u p) ≤ hourLimit (memberOf t u .kind) (memberOf t u .capacity) (hourOf p)
   -- "term and volume limits hold"
   pub withinTerm :
-      sum (periods (t .days)) (λ p. raisedBy t u p + raisingPart t x u p - (loweredBy t u p + loweringPart t x u p))
-      ≤ termLimit (memberOf t u .kind) (memberOf t u .capacity) (memberOf t u .asset) (t .days)
+      sum (periods (t .rules .days)) (λ p. raisedBy t u p + raisingPart t x u p - (loweredBy t u p + loweringPart t x u p))
+      ≤ termLimit (memberOf t u .kind) (memberOf t u .capacity) (memberOf t u .asset) (t .rules .days)
   pub withinVolume :
-      volumeOf t u + sum (periods (t .days)) (λ p. raisingPart t x u p + loweringPart t x u p)
-      ≤ volumeLimit (memberOf t u .kind) (termLimit (memberOf t u .kind) (memberOf t u .capacity) (memberOf t u .asset) (t .days))
+      volumeOf t u + sum (periods (t .rules .days)) (λ p. raisingPart t x u p + loweringPart t x u p)
+      ≤ volumeLimit (memberOf t u .kind) (termLimit (memberOf t u .kind) (memberOf t u .capacity) (memberOf t u .asset) (t .rules .days))
 
 pub record Demand3 (t : Tally) (b : Book) : Type 0 where
   -- "nets and volumes are what the rows sum to"
-  pub nets : (u : ℕ) → isMember t u ≡ true → (p : ℕ) → p < periods (t .days) → net (figuresOf b u p) ≡ netOf t u p
-  pub volumes : (u : ℕ) → isMember t u ≡ true → sum (periods (t .days)) (λ p. figuresOf b u p .volume) ≡ volumeOf t u
+  pub nets : (u : ℕ) → isMember t u ≡ true → (p : ℕ) → p < periods (t .rules .days) → net (figuresOf b u p) ≡ netOf t u p
+  pub volumes : (u : ℕ) → isMember t u ≡ true → sum (periods (t .rules .days)) (λ p. figuresOf b u p .volume) ≡ volumeOf t u
   -- "generators' nets total loads' nets in every hour"
-  pub balance : (p : ℕ) → p < periods (t .days) → netsOf generator t p ≡ netsOf (λ kind. not (generator kind)) t p
+  pub balance : (p : ℕ) → p < periods (t .rules .days) → netsOf generator t p ≡ netsOf (λ kind. not (generator kind)) t p
   -- "whatever part of the open amounts still trades, nets stay within 0 and the hour limit, term and volume limits hold"
   pub bounds : (x : Part t) (u : ℕ) → isMember t u ≡ true → Bounded t x u
   -- "each hour's two curve points sum to the net and differ by at most 1"
-  pub curves : (u day : ℕ) → isMember t u ≡ true → day < t .days → (h : ℕ) → h < 24
+  pub curves : (u day : ℕ) → isMember t u ≡ true → day < t .rules .days → (h : ℕ) → h < 24
       → (getD (points b u day) (2 * h) 0 + getD (points b u day) (2 * h + 1) 0 ≡ netOf t u (24 * day + h))
       × (getD (points b u day) (2 * h) 0 ≤ getD (points b u day) (2 * h + 1) 0)
       × (getD (points b u day) (2 * h + 1) 0 ≤ getD (points b u day) (2 * h) 0 + 1)
@@ -104,5 +104,5 @@ tallyAfter t b (c ∷ cs) = tallyAfter (tallied t c (answered (outcome b c))) (o
 -- "One theorem over every list of calls from a newly opened book, counted from the handed-out rows by 01's tally"
 abbrev pub OverEveryList : Type 0
 OverEveryList =
-    (words days floor ceiling : ℕ) (cs : List Call) → openingRefusal words days floor ceiling ≡ 0
-    → Demand3 (tallyAfter (opened days) (fresh days floor ceiling) cs) (bookAfter (fresh days floor ceiling) cs)
+    (words : ℕ) (r : Rules) (cs : List Call) → openingRefusal words r ≡ 0
+    → Demand3 (tallyAfter (opened r) (fresh r) cs) (bookAfter (fresh r) cs)

@@ -3,6 +3,7 @@ use Prim.Native.Nat.{ℕ}
 use mathlib.Core.Path.{_≡_}
 use mathlib.Core.List.{List, [], _∷_, _++_, map}
 use lib.ListN.{replicate}
+use Rattle.book.specs.Book.{rulesOf}
 use Rattle.measures.specs.Figures.{AllShared, figure1}
 use Rattle.limits.specs.Figures.{AllLimited, figure5, figure6}
 use Rattle.matching.specs.Orders.{Row}
@@ -27,7 +28,7 @@ abbrev pub order1 : ℕ → ℕ → ℕ → Call
 order1 direction period quantity = callOrder 1 direction period 5 quantity 4_464
 
 abbrev pub On1Day : List Call → List Answer → Type 0
-On1Day cs expected = answers (fresh 1 0 1_000_000) cs ≡ expected
+On1Day cs expected = answers (fresh (rulesOf 1 0 1_000_000)) cs ≡ expected
 
 -- "Kind 2, 100 kW, one day: limits 100, 2,400, 2,880. Sell 100 accepted, 101 gives 19."
 abbrev pub Figure5 : Type 0
@@ -66,7 +67,7 @@ Figure8 = map halves (7 ∷ 1 ∷ 0 ∷ []) ≡ (3 ∷ 4 ∷ []) ∷ (0 ∷ 1 �
 -- the transcript of program `rehearse`: O 1 0 1000000, then these
 abbrev pub Transcript : Type 0
 Transcript =
-    (openingRefusal (bookWords 1) 1 0 1_000_000 ≡ 0)
+    (openingRefusal (bookWords 1) (rulesOf 1 0 1_000_000) ≡ 0)
     × On1Day
     (callEnrol 2 100 0 ∷ callEnrol 3 100 0 ∷ callClear 4_464 ∷ callOrder 1 0 8 455_000 5 4_464 ∷ callOrder 2 1 8 460_000 7 4_464 ∷ callClose ∷ [])
     (ok 1 [] ∷ ok 2 [] ∷ ok 0 [] ∷ ok 1 []

@@ -8,6 +8,7 @@ use Rattle.measures.specs.Lists.{keep, sumOf}
 use Rattle.limits.specs.Units.{periods}
 use Rattle.matching.specs.Orders.{Order as OpenOrder, Row, buys, less, orderWith}
 use Rattle.matching.specs.Clearing.{Cleared}
+use Rattle.book.specs.Book.{Rules}
 use Rattle.book.specs.Clear.{clearFrom}
 use Rattle.book.specs.Calls.{Call, callEnrol, callOffer, callTake, callWithdraw, callOrder, callCancel, callClear, callClose, Answer}
 
@@ -24,15 +25,15 @@ pub record Amounts : Type 0 where
   pub amounts : List ℕ
 
 pub record Tally : Type 0 where
-  pub days : ℕ
+  pub rules : Rules
   pub units : List Member
   pub rows : List Row
   pub offers : List Amounts
   pub orders : List OpenOrder
 
--- "It starts with the opening's days and nothing else."
-abbrev pub opened : ℕ → Tally
-opened days = record { days = days; units = []; rows = []; offers = []; orders = [] }
+-- "It starts with the opening's days and nothing else.": of the rules, only the days are ever read
+abbrev pub opened : Rules → Tally
+opened r = record { rules = r; units = []; rows = []; offers = []; orders = [] }
 
 -- "Take: each row lessens the named offer in its period."
 abbrev pub lessAt : Amounts → Row → Amounts
@@ -78,7 +79,7 @@ unfoldable pub accounted : Tally → Call → Answer → Tally
 -- "Enrol: the next unit, with the fields given."
 accounted t (callEnrol kind capacity asset) a =
     record {
-      days = t .days;
+      rules = t .rules;
       units = t .units ++ (record { kind = kind; capacity = capacity; asset = asset } ∷ []);
       rows = t .rows
           ++ a .rows;
@@ -88,7 +89,7 @@ accounted t (callEnrol kind capacity asset) a =
 -- "Offer: its amounts are open under its number."
 accounted t (callOffer unit partner price amounts) a =
     record {
-      days = t .days;
+      rules = t .rules;
       units = t .units;
       rows = t .rows ++ a .rows;
       offers = t .offers
@@ -96,11 +97,11 @@ accounted t (callOffer unit partner price amounts) a =
       orders = t .orders;
     }
 accounted t (callTake unit number quantity lent) a =
-    record { days = t .days; units = t .units; rows = t .rows ++ a .rows; offers = takeTallied number (a .rows) (t .offers); orders = t .orders }
+    record { rules = t .rules; units = t .units; rows = t .rows ++ a .rows; offers = takeTallied number (a .rows) (t .offers); orders = t .orders }
 -- "Withdraw, cancel: the named number is gone."
 accounted t (callWithdraw unit number) a =
     record {
-      days = t .days;
+      rules = t .rules;
       units = t .units;
       rows = t .rows
           ++ a .rows;
@@ -109,7 +110,7 @@ accounted t (callWithdraw unit number) a =
     }
 accounted t (callOrder unit direction period price quantity lent) a =
     record {
-      days = t .days;
+      rules = t .rules;
       units = t .units;
       rows = t .rows ++ a .rows;
       offers = t .offers;
@@ -118,7 +119,7 @@ accounted t (callOrder unit direction period price quantity lent) a =
     }
 accounted t (callCancel unit number) a =
     record {
-      days = t .days;
+      rules = t .rules;
       units = t .units;
       rows = t .rows
           ++ a .rows;
@@ -127,10 +128,10 @@ accounted t (callCancel unit number) a =
     }
 -- "Clear: each open order loses the fill that the rule for clear gives it, worked out from the tally's open orders."
 accounted t (callClear lent) a =
-    record { days = t .days; units = t .units; rows = t .rows ++ a .rows; offers = t .offers; orders = clearFrom 0 (periods (t .days)) (t .orders) .orders }
+    record { rules = t .rules; units = t .units; rows = t .rows ++ a .rows; offers = t .offers; orders = clearFrom 0 (periods (t .rules .days)) (t .orders) .orders }
 -- "Close: nothing is open."
 accounted t callClose a =
-    record { days = t .days; units = t .units; rows = t .rows ++ a .rows; offers = []; orders = [] }
+    record { rules = t .rules; units = t .units; rows = t .rows ++ a .rows; offers = []; orders = [] }
 
 -- "Refused: nothing changes."
 abbrev pub tallied : Tally → Call → Answer → Tally

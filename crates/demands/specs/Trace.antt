@@ -7,6 +7,7 @@ use lib.ListN.{length, getD}
 use Rattle.book.specs.declared.Answer.{Answer}
 use Rattle.book.specs.Calls.{Call, callEnrol, callOffer, callTake, callWithdraw, callOrder, callCancel, callClear, callClose}
 use Rattle.book.specs.Calls.{Answer as Heard}
+use Rattle.book.specs.Book.{Rules}
 use Rattle.book.specs.Contract.{Told, toldBy, Made, Opened, Curved}
 use Rattle.book.specs.Layout.{decode}
 use Rattle.book.specs.inner.RowsIn.{rowsIn}
@@ -45,7 +46,7 @@ pub record Claimed (t : Tally) (x : List ℕ) : Type 0 where
   pub book : Demand3 t (decode x)
   -- "Curves are called after the list, for any enrolled unit and any day of the term, 48 numbers lent": each hour's two
   -- points sum to the net from the rows and differ by at most 1
-  pub curves : (u day : ℕ) (pts : List ℕ) (a : Answer) (pts′ : List ℕ) → isMember t u ≡ true → day < t .days → 48 ≤ length pts → Curved x pts u day a pts′
+  pub curves : (u day : ℕ) (pts : List ℕ) (a : Answer) (pts′ : List ℕ) → isMember t u ≡ true → day < t .rules .days → 48 ≤ length pts → Curved x pts u day a pts′
       → (toldBy a .refusal ≡ 0)
       × ((h : ℕ) → h < 24 → (getD pts′ (2 * h) 0 + getD pts′ (2 * h + 1) 0 ≡ netOf t u (24 * day + h))
       × (getD pts′ (2 * h) 0 ≤ getD pts′ (2 * h + 1) 0)
@@ -54,5 +55,5 @@ pub record Claimed (t : Tally) (x : List ℕ) : Type 0 where
 -- "One theorem over every list of calls from a newly opened book"
 abbrev pub OverEveryTrace : Type 0
 OverEveryTrace =
-    (m₀ : List ℕ) (days floor ceiling : ℕ) (a : Answer) (m x : List ℕ) → Opened m₀ days floor ceiling a m → toldBy a .refusal ≡ 0
-    → (tr : Trace m x) → Claimed (tallyOf (opened days) tr) x
+    (m₀ : List ℕ) (r : Rules) (a : Answer) (m x : List ℕ) → Opened m₀ r a m → toldBy a .refusal ≡ 0
+    → (tr : Trace m x) → Claimed (tallyOf (opened r) tr) x

@@ -12,7 +12,7 @@ use Rattle.measures.proofs.ListLaws.{both-ways, table-length}
 use Rattle.matching.specs.Orders.{Row}
 use Rattle.matching.specs.Memory.{flatRow, flat, written}
 use Rattle.matching.proofs.laws.orders.RowLaws.{flat-length, written-none}
-use Rattle.book.specs.Book.{Book}
+use Rattle.book.specs.Book.{rulesOf, Book}
 use Rattle.book.specs.Refusals.{Outcome}
 use Rattle.book.specs.declared.Answer.{Answer}
 use Rattle.book.specs.Layout.{decode}
@@ -315,8 +315,8 @@ module _ (m rows : List ℕ) (c : Call) (a : Answer) (m′ rows′ : List ℕ) (
       (t ∙ ok-rows n k rows rows′ (outcomeOn m c .rows) (ek ∙ told-count) (f .handed y)
       ∙ ap (λ (x : ℕ). printedOk x (outcomeOn m c .rows)) (en ∙ told-number))
 
-module _ (started : Bool) (m : List ℕ) (days floor ceiling : ℕ) (a : Answer) (m′ : List ℕ) (f : Opened m days floor ceiling a m′) (up : days ≤ 1) where
-  opened-refusal : toldBy a .refusal ≡ openingRefusal (length m) days floor ceiling
+module _ (started : Bool) (m : List ℕ) (days floor ceiling : ℕ) (a : Answer) (m′ : List ℕ) (f : Opened m (rulesOf days floor ceiling) a m′) (up : days ≤ 1) where
+  opened-refusal : toldBy a .refusal ≡ openingRefusal (length m) (rulesOf days floor ceiling)
   opened-refusal = ap (λ (t : Told). t .refusal) (f .answer)
 
   opened-number : toldBy a .number ≡ 0
@@ -326,10 +326,10 @@ module _ (started : Bool) (m : List ℕ) (days floor ceiling : ℕ) (a : Answer)
       → Answered started m (opening days floor ceiling) started m′ text
   unfolding openedOn
   opening-no r text e ne t =
-      let q : r ≡ openingRefusal (length m) days floor ceiling = e ∙ opened-refusal in
-      let ne′ : openingRefusal (length m) days floor ceiling ≡ 0 → ⊥ = λ z. ne (q ∙ z) in
-      let d : openedOn m days floor ceiling ≡ record { refusal = openingRefusal (length m) days floor ceiling; number = 0; rows = []; book = decode m } = rw
-      (ne-eqb (openingRefusal (length m) days floor ceiling) 0 ne′) in
+      let q : r ≡ openingRefusal (length m) (rulesOf days floor ceiling) = e ∙ opened-refusal in
+      let ne′ : openingRefusal (length m) (rulesOf days floor ceiling) ≡ 0 → ⊥ = λ z. ne (q ∙ z) in
+      let d : openedOn m days floor ceiling ≡ record { refusal = openingRefusal (length m) (rulesOf days floor ceiling); number = 0; rows = []; book = decode m } = rw
+      (ne-eqb (openingRefusal (length m) (rulesOf days floor ceiling)) 0 ne′) in
       said-no started m (opening days floor ceiling) _ (days-taken started m days floor ceiling up ∙ ap said d) m′ text started refl ne′ (f .refused ne′) (t
       ∙ ap printedNo q)
 
@@ -337,9 +337,9 @@ module _ (started : Bool) (m : List ℕ) (days floor ceiling : ℕ) (a : Answer)
       → Answered started m (opening days floor ceiling) true m′ text
   unfolding openedOn okText rowsText printedOk printedRows
   opening-ok r n ws text e z en t =
-      let y : openingRefusal (length m) days floor ceiling ≡ 0 = sym opened-refusal ∙ sym e ∙ z in
-      let d : openedOn m days floor ceiling ≡ record { refusal = 0; number = 0; rows = []; book = fresh days floor ceiling } = rw
-      (eq-eqb (openingRefusal (length m) days floor ceiling) 0 y) in
+      let y : openingRefusal (length m) (rulesOf days floor ceiling) ≡ 0 = sym opened-refusal ∙ sym e ∙ z in
+      let d : openedOn m days floor ceiling ≡ record { refusal = 0; number = 0; rows = []; book = fresh (rulesOf days floor ceiling) } = rw
+      (eq-eqb (openingRefusal (length m) (rulesOf days floor ceiling)) 0 y) in
       said-ok started m (opening days floor ceiling) _ (days-taken started m days floor ceiling up ∙ ap said d) m′ text refl (f .accepted y)
       (t ∙ ap (λ (x : ℕ). printedOk x []) (en ∙ opened-number))
 

@@ -5,7 +5,7 @@ use mathlib.Core.Bool.{Bool, true, false, cond, _&&_}
 use mathlib.Core.List.{List, []}
 use lib.ListN.{length}
 use lib.Dec.{eqb, leb, ltb}
-use Rattle.book.specs.Book.{Book}
+use Rattle.book.specs.Book.{rulesOf, Book}
 use Rattle.book.specs.Refusals.{Outcome, decided, accepted}
 use Rattle.book.specs.Opening.{fresh, openingRefusal}
 use Rattle.book.specs.Layout.{decode}
@@ -32,7 +32,7 @@ isEnrol callClose = false
 -- what opening gives on the memory m
 unfoldable pub openedOn : List ℕ → ℕ → ℕ → ℕ → Outcome
 openedOn m days floor ceiling =
-    decided (openingRefusal (length m) days floor ceiling) (decode m) (accepted 0 [] (fresh days floor ceiling))
+    decided (openingRefusal (length m) (rulesOf days floor ceiling)) (decode m) (accepted 0 [] (fresh (rulesOf days floor ceiling)))
 
 -- 0 "looked at first: line not understood ..; before an accepted O; or beyond this program's size: days over 1, an enrol
 -- when 8 units stand"; `started` says whether an O was accepted, m holds the book

@@ -24,9 +24,9 @@ pub record Added (n : ℕ) (l x : List ℕ) (f : ℕ → ℕ) (g : ℕ) : Type 0
 
 -- what the order at place k has open of unit u in a direction and a period
 unfoldable pub orderShare : List ℕ → ℕ → ℕ → ℕ → ℕ → ℕ
-orderShare m u way k p =
+orderShare m u direction k p =
     cond
-    (eqb (word m (240 + 6 * k + 1)) u && eqb (word m (240 + 6 * k + 3)) p && eqb (word m (240 + 6 * k + 2)) way)
+    (eqb (word m (240 + 6 * k + 1)) u && eqb (word m (240 + 6 * k + 3)) p && eqb (word m (240 + 6 * k + 2)) direction)
     (word m (240 + 6 * k + 5))
     0
 
@@ -35,8 +35,8 @@ unfoldable pub offerShare : List ℕ → ℕ → ℕ → ℕ → ℕ
 offerShare m u j p = cond (eqb (word m (201 + 5 * j)) u) (amountAt m j p) 0
 
 -- the tests and sums of the unit at place k in period p, where x raises and y lowers, open and new together
-unfoldable pub wayHolds : List ℕ → ℕ → ℕ → Bool
-wayHolds m k p = leb (word m (1780 + 328 * p + 5 * k)) 2
+unfoldable pub markHolds : List ℕ → ℕ → ℕ → Bool
+markHolds m k p = leb (word m (1780 + 328 * p + 5 * k)) 3
 
 unfoldable pub hourHolds : List ℕ → ℕ → ℕ → ℕ → ℕ → Bool
 hourHolds m k p x y =
@@ -59,24 +59,24 @@ volumeAt m k = volumeLimit (word m (8 + 3 * k)) (termAt m k)
 
 -- 1 for a direction out of range, 19 for an hour that does not fit, or 0
 abbrev pub periodMisfit : Bool → Bool → ℕ
-periodMisfit way hour = cond way (cond hour 0 19) 1
+periodMisfit mark hour = cond mark (cond hour 0 19) 1
 
 -- r is what n periods with these tests, sums and limits come to
-pub record Came (n : ℕ) (ways hours : ℕ → Bool) (term volume : ℕ → ℕ) (termMost volumeMost r : ℕ) : Type 0 where
-  pub clean : all n ways ≡ true
+pub record Came (n : ℕ) (marks hours : ℕ → Bool) (term volume : ℕ → ℕ) (termMost volumeMost r : ℕ) : Type 0 where
+  pub clean : all n marks ≡ true
       → r
       ≡ firstOf
       (check 19 (not (all n hours))
       ∷ check 20 (not (leb (sum n term) termMost))
       ∷ check 21 (not (leb (sum n volume) volumeMost))
       ∷ [])
-  pub dirty : all n ways ≡ false → r ≡ 0 → ⊥
+  pub dirty : all n marks ≡ false → r ≡ 0 → ⊥
 
 -- the same of the unit at place k, with raising and lowering by period
 abbrev pub UnitCame : List ℕ → ℕ → List ℕ → List ℕ → ℕ → Type 0
 UnitCame m k raising lowering r =
     Came (periods (word m 0))
-    (wayHolds m k)
+    (markHolds m k)
     (λ p. hourHolds m k p (getD raising p 0) (getD lowering p 0))
     (λ p. termPart m k p (getD raising p 0))
     (λ p. volumePart m k p (getD raising p 0) (getD lowering p 0))

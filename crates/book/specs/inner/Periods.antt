@@ -50,7 +50,7 @@ pub record ClearsAll (m rows : List ℕ) (n end count n′ : ℕ) (m′ rows′ 
 
 -- what clearing all periods of a book gives
 abbrev pub clearedAll : Book → Cleared
-clearedAll b = clearFrom 0 (periods (b .days)) (b .orders)
+clearedAll b = clearFrom 0 (periods (b .rules .days)) (b .orders)
 
 -- the orders of the book in m were cleared
 pub record Swept (m rows : List ℕ) (count : ℕ) (m′ rows′ : List ℕ) : Type 0 where

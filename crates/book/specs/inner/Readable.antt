@@ -11,7 +11,7 @@ use Rattle.limits.specs.Units.{mostDays, mostCapacity, periods, kindIn, capacit
 use Rattle.matching.specs.Orders.{Order as OpenOrder}
 use Rattle.book.specs.Book.{Figures, OpenOffer, Book, rollingPhase, known, unitOf}
 use Rattle.book.specs.Fit.{Declaration, hourFits, termFits, volumeFits, unitFits}
-use Rattle.book.specs.Sound.{bilateralSides, offerIn, orderIn, oneWay, apart, eachTwo}
+use Rattle.book.specs.Sound.{bilateralSides, offerIn, orderIn, oneDirection, apart, eachTwo}
 use Rattle.book.specs.Refusals.{check, firstOf}
 use Rattle.book.specs.Opening.{bookWords}
 use Rattle.book.specs.Layout.{word, decode, netIn}
@@ -43,8 +43,8 @@ pub record Ranged (m : List ℕ) : Type 0 where
   pub orders : every (orderIn (decode m)) (decode m .orders) ≡ true
 
 -- whether today's directions of a unit are in range
-unfoldable pub waysIn : Book → ℕ → Bool
-waysIn b u = every (λ (f : Figures). leb (f .way) 2) (unitOf b u .figures)
+unfoldable pub marksIn : Book → ℕ → Bool
+marksIn b u = every (λ (f : Figures). leb (f .mark) 3) (unitOf b u .figures)
 
 -- what a declaration lent as amounts by period raises and lowers
 abbrev pub declared : List ℕ → List ℕ → Declaration
@@ -59,15 +59,15 @@ small l = (i : ℕ) → getD l i 0 ≤ mostEnergy
 unfoldable pub misfitOf : Book → ℕ → Declaration → ℕ
 misfitOf b u d =
     firstOf
-    (check 19 (not (all (periods (b .days)) (hourFits b u d)))
+    (check 19 (not (all (periods (b .rules .days)) (hourFits b u d)))
     ∷ check 20 (not (termFits b u d))
     ∷ check 21 (not (volumeFits b u d))
     ∷ [])
 
 -- r is what the fit of a unit came to: 0 only if today's directions are in range too
 pub record Fitted (b : Book) (u : ℕ) (d : Declaration) (r : ℕ) : Type 0 where
-  pub clean : waysIn b u ≡ true → r ≡ misfitOf b u d
-  pub dirty : waysIn b u ≡ false → r ≡ 0 → ⊥
+  pub clean : marksIn b u ≡ true → r ≡ misfitOf b u d
+  pub dirty : marksIn b u ≡ false → r ≡ 0 → ⊥
 
 -- the numbers of the open offers
 abbrev pub offerNumbers : Book → List ℕ
@@ -82,10 +82,10 @@ numbersFree b = every (λ (f : OpenOffer). numberFree b (f .number)) (b .offers)
 
 -- whether two orders may stand together in a phase, and whether all of a list may
 unfoldable pub pairFits : ℕ → OpenOrder → OpenOrder → Bool
-pairFits phase a b = oneWay a b && (not (eqb phase rollingPhase) || (apart a b && apart b a))
+pairFits phase a b = oneDirection a b && (not (eqb phase rollingPhase) || (apart a b && apart b a))
 
 unfoldable pub pairsFit : ℕ → List OpenOrder → Bool
-pairsFit phase os = eachTwo oneWay os && (not (eqb phase rollingPhase) || eachTwo apart os)
+pairsFit phase os = eachTwo oneDirection os && (not (eqb phase rollingPhase) || eachTwo apart os)
 
 -- that the figures of the unit at place k come to a net in every period
 pub record Netted (m : List ℕ) (k : ℕ) : Type 0 where
@@ -94,7 +94,7 @@ pub record Netted (m : List ℕ) (k : ℕ) : Type 0 where
 
 -- whether a unit fits, with today's directions in range, and whether all do
 unfoldable pub unitWhole : Book → ℕ → Bool
-unitWhole b u = waysIn b u && unitFits b u
+unitWhole b u = marksIn b u && unitFits b u
 
 unfoldable pub unitsWhole : Book → Bool
 unitsWhole b = all (length (b .units)) (λ k. unitWhole b (k + 1))

@@ -63,7 +63,7 @@ pub record FiguresPut (m x : List ℕ) (k p r l v w : ℕ) : Type 0 where
   pub raised : word x (1777 + 328 * p + 5 * k) ≡ r
   pub lowered : word x (1778 + 328 * p + 5 * k) ≡ l
   pub volume : word x (1779 + 328 * p + 5 * k) ≡ v
-  pub way : word x (1780 + 328 * p + 5 * k) ≡ w
+  pub mark : word x (1780 + 328 * p + 5 * k) ≡ w
   pub before : (i : ℕ) → i < 1777 + 328 * p + 5 * k → word x i ≡ word m i
   pub behind : (i : ℕ) → 1780 + 328 * p + 5 * k < i → word x i ≡ word m i
 

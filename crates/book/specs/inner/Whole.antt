@@ -12,7 +12,7 @@ use Rattle.matching.specs.Memory.{orderAt}
 use Rattle.book.specs.Sound.{apart}
 use Rattle.book.specs.Layout.{word, ordersPart}
 use Rattle.book.specs.inner.Readable.{pairFits}
-use Rattle.book.specs.inner.Fitting.{Below, Added, orderShare, offerShare, wayHolds, hourHolds, termPart, volumePart, termAt, volumeAt}
+use Rattle.book.specs.inner.Fitting.{Below, Added, orderShare, offerShare, markHolds, hourHolds, termPart, volumePart, termAt, volumeAt}
 
 -- t is one more than the place of the last order with value v in field f among the first n, or 0 where there is none
 pub record Latest (m : List ℕ) (f v t n : ℕ) : Type 0 where
@@ -74,15 +74,15 @@ pub record OrderStands (m : List ℕ) (k : ℕ) (r : Bool) (high low : List ℕ)
   pub entered : r ≡ true → word m 3 ≡ 1 → Prices m (k + 1) high low
 
 -- the direction that raises the unit at place k
-unfoldable pub raisingWay : List ℕ → ℕ → ℕ
-raisingWay m k = cond (generator (word m (8 + 3 * k))) 0 1
+unfoldable pub raisingDirection : List ℕ → ℕ → ℕ
+raisingDirection m k = cond (generator (word m (8 + 3 * k))) 0 1
 
 -- what the order at place i raises and lowers of the unit at place k in a period
 unfoldable pub orderRaises : List ℕ → ℕ → ℕ → ℕ → ℕ
-orderRaises m i p k = orderShare m (k + 1) (raisingWay m k) i p
+orderRaises m i p k = orderShare m (k + 1) (raisingDirection m k) i p
 
 unfoldable pub orderLowers : List ℕ → ℕ → ℕ → ℕ → ℕ
-orderLowers m i p k = orderShare m (k + 1) (1 - raisingWay m k) i p
+orderLowers m i p k = orderShare m (k + 1) (1 - raisingDirection m k) i p
 
 -- what all offers, and all orders, raise and lower of it
 unfoldable pub offersRaise : List ℕ → ℕ → ℕ → ℕ
@@ -101,7 +101,7 @@ pub record BothAdded (x y x′ y′ : List ℕ) (f h : ℕ → ℕ) (g : ℕ) : 
 
 -- the tests of the unit at place k in period p, where x raises and y lowers
 unfoldable pub cellHolds : List ℕ → ℕ → ℕ → ℕ → ℕ → Bool
-cellHolds m p k x y = holds (wayHolds m k p ∷ hourHolds m k p x y ∷ leb (word m (1779 + 328 * p + 5 * k)) 4_800_000_000 ∷ [])
+cellHolds m p k x y = holds (markHolds m k p ∷ hourHolds m k p x y ∷ leb (word m (1779 + 328 * p + 5 * k)) 4_800_000_000 ∷ [])
 
 -- r says whether the unit at place k passes in period p with nothing open; if so, what it adds stands in the sums
 pub record CellDone (m : List ℕ) (p k : ℕ) (w v : List ℕ) (r : Bool) (w′ v′ : List ℕ) : Type 0 where
@@ -143,7 +143,7 @@ pub record NoneWaits (x y : List ℕ) : Type 0 where
 
 -- r says whether the unit at place k passes with what waits for it; if so, that is in the sums
 pub record Settled (m : List ℕ) (p k : ℕ) (x y w v : List ℕ) (r : Bool) (x′ y′ w′ v′ : List ℕ) : Type 0 where
-  pub answer : r ≡ holds (wayHolds m k p ∷ hourHolds m k p (getD x k 0) (getD y k 0) ∷ [])
+  pub answer : r ≡ holds (markHolds m k p ∷ hourHolds m k p (getD x k 0) (getD y k 0) ∷ [])
   pub up : r ≡ true → x′ ≡ set x k 0
   pub down : r ≡ true → y′ ≡ set y k 0
   pub whole : r ≡ true → w′ ≡ set w k (getD w k 0 + getD x k 0)

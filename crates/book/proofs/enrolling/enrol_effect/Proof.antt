@@ -14,8 +14,11 @@ ok c = sound-readable _ (c .pre .0)
 slice-read-k : tie.Need-slice-read-k
 slice-read-k c = let r = ok (c .before .before) in omega arith
 
+fresh-requires : tie.Need-fresh-requires
+fresh-requires c κs = search needs
+
 clear-unit-requires : tie.Need-clear-unit-requires
-clear-unit-requires c κs = (ok (c .before .before .before), c .before .before .before .pre .1)
+clear-unit-requires c κs = (ok (c .before .before .before .before), c .before .before .before .before .pre .1)
 
 mul-book : tie.Need-mul-book
 mul-book c = search needs
@@ -28,8 +31,8 @@ mul-book-2 c = search needs
 
 slice-write-book : tie.Need-slice-write-book
 slice-write-book c =
-    let c6 = c .before .before .before .before .before .before in
-    let r = ok c6 in omega arith
+    let c7 = c .before .before .before .before .before .before .before in
+    let r = ok c7 in omega arith
 
 mul-book-3 : tie.Need-mul-book-3
 mul-book-3 c = search needs
@@ -42,8 +45,8 @@ mul-book-4 c = search needs
 
 slice-write-book-2 : tie.Need-slice-write-book-2
 slice-write-book-2 c =
-    let c6 = c .before .before .before .before .before .before in
-    let r = ok c6 in simp length-set (omega arith)
+    let c7 = c .before .before .before .before .before .before .before in
+    let r = ok c7 in simp length-set (omega arith)
 
 mul-book-5 : tie.Need-mul-book-5
 mul-book-5 c = search needs
@@ -56,25 +59,27 @@ mul-book-6 c = search needs
 
 slice-write-book-3 : tie.Need-slice-write-book-3
 slice-write-book-3 c =
-    let c6 = c .before .before .before .before .before .before in
-    let r = ok c6 in simp length-set (omega arith)
+    let c7 = c .before .before .before .before .before .before .before in
+    let r = ok c7 in simp length-set (omega arith)
 
 add-book-4 : tie.Need-add-book-4
 add-book-4 c = search needs
 
 slice-write-book-4 : tie.Need-slice-write-book-4
 slice-write-book-4 c =
-    let c6 = c .before .before .before .before .before .before in
-    let r = ok c6 in simp length-set (omega arith)
+    let c7 = c .before .before .before .before .before .before .before in
+    let r = ok c7 in simp length-set (omega arith)
 
 same-length : tie.Need-same-length
 same-length c = simp length-set (c .before .before .clear-unit .kept .0)
 
 returns : tie.Need-returns
 returns c =
-    let s = c .before .before .before .before .before .before in
+    let s = c .before .before .before .before .before .before .before in
     let a = s .args in
-    let w = c .before .before .clear-unit in (
+    let e = c .before .before .before .before .fresh .ensures in
+    let w = c .before .before .clear-unit in
+    rw (e .0, e .1, e .2) (
       enrolled-in (a .book .now) (w .last .0) (a .kind) (a .capacity) (a .asset) (ok s) (s .pre .1) (w .kept .0) (w .ensures .0) (w .ensures .1)
           (w .ensures .2),
       enrolled-past (a .book .now) (w .last .0) (a .kind) (a .capacity) (a .asset) (ok s) (s .pre .1) (w .kept .0) (w .ensures .0) (w .ensures .1)
@@ -86,6 +91,7 @@ enrol-effect-spec =
     tie.close
     (tie.spec
     slice-read-k
+    fresh-requires
     clear-unit-requires
     mul-book
     add-book

@@ -12,11 +12,11 @@ use Rattle.book.proofs.fits.add_orders.Statement.{statement}
 use Rattle.book.proofs.fits.add_orders.Tie as tie
 
 abbrev Inv-loop : tie.InvT-loop
-Inv-loop book unit way totals₀ n k₀ totals k = (k ≤ word book 7)
-    × (Added (periods (word book 0)) totals₀ totals (λ p. sum k (λ i. orderShare book unit way i p)) (mostEnergy * k))
+Inv-loop book unit direction totals₀ n k₀ totals k = (k ≤ word book 7)
+    × (Added (periods (word book 0)) totals₀ totals (λ p. sum k (λ i. orderShare book unit direction i p)) (mostEnergy * k))
 
 abbrev μ-loop : tie.MeasureT-loop
-μ-loop book unit way totals₀ n k₀ totals k = word book 7 - k
+μ-loop book unit direction totals₀ n k₀ totals k = word book 7 - k
 
 shared-slice-read-n : tie.Need-shared-slice-read-n Inv-loop μ-loop
 shared-slice-read-n c = search needs

@@ -5,7 +5,7 @@ use mathlib.Core.Bool.{true}
 use native.Mathlib.Omega.{arith}
 use lib.ListN.{getD}
 use Rattle.book.specs.Layout.{word}
-use Rattle.book.specs.inner.Fitting.{wayHolds, hourHolds, termPart, volumePart}
+use Rattle.book.specs.inner.Fitting.{markHolds, hourHolds, termPart, volumePart}
 use Rattle.book.proofs.laws.check.PeriodLaws.{
   Passing,
   passing-none,
@@ -26,7 +26,7 @@ abbrev Inv-loop : tie.InvT-loop
 Inv-loop book k raising lowering most top whole₀ volume₀ p₀ whole volume p =
     (p ≤ 24 * word book 0)
     × (Passing
-    (wayHolds book k)
+    (markHolds book k)
     (λ i. hourHolds book k i (getD raising i 0) (getD lowering i 0))
     (λ i. termPart book k i (getD raising i 0))
     (λ i. volumePart book k i (getD raising i 0) (getD lowering i 0))
@@ -36,18 +36,14 @@ abbrev μ-loop : tie.MeasureT-loop
 μ-loop book k raising lowering most top whole₀ volume₀ p₀ whole volume p = 24 * word book 0 - p
 
 abbrev turn : tie.Else1 Inv-loop μ-loop → tie.At-loop Inv-loop μ-loop
-turn c =
-    let c5 = c .before .before .before .before .before in
-    c5
+turn c = c .before .before .before .before .before
 
 abbrev start : tie.Else1 Inv-loop μ-loop → tie.Start Inv-loop μ-loop
-start c =
-    let c6 = c .before .before .before .before .before .before in
-    turn c6
+start c = turn c .before .before .before .before .before .before
 
 -- what a period that passed says
 passed : (c : tie.Else1 Inv-loop μ-loop)
-    → (wayHolds (start c .args .book .now) (start c .args .k) (turn c .loop .p) ≡ true)
+    → (markHolds (start c .args .book .now) (start c .args .k) (turn c .loop .p) ≡ true)
     × (hourHolds (start c .args .book .now) (start c .args .k) (turn c .loop .p)
     (getD (start c .args .raising .now) (turn c .loop .p) 0)
     (getD (start c .args .lowering .now) (turn c .loop .p) 0)

@@ -5,8 +5,8 @@ use borrow.Author.Needs.{needs}
 use Rattle.book.proofs.fits.misfit.Statement.{statement}
 use Rattle.book.proofs.fits.misfit.Tie as tie
 
-raising-way-requires : tie.Need-raising-way-requires
-raising-way-requires c κs = search needs
+raising-direction-requires : tie.Need-raising-direction-requires
+raising-direction-requires c κs = search needs
 
 add-offers-requires : tie.Need-add-offers-requires
 add-offers-requires c κs = search needs
@@ -57,16 +57,16 @@ returns c =
     let lowers = c .before .before .before .before .before in
     let raises = lowers .before .before .before .before in
     let offers = raises .before .before .before .before in
-    let way = offers .before .before in
-    let pre = way .before .before .before .before .pre .0 in
-    fitted-all _ _ _ _ _ _ _ _ _ _ _ _ (pre .1, pre .2) (pre .0 .readable .ordersTo) (way .raising-way .ensures .1)
+    let direction = offers .before .before in
+    let pre = direction .before .before .before .before .pre .0 in
+    fitted-all _ _ _ _ _ _ _ _ _ _ _ _ (pre .1, pre .2) (pre .0 .readable .ordersTo) (direction .raising-direction .ensures .1)
     (offers .add-offers .ensures) (raises .add-orders .ensures) (lowers .add-orders2 .ensures) (c .fit-of .ensures)
 
 pub misfit-spec : {M : Type 1} → statement M
 misfit-spec =
     tie.close
     (tie.spec
-    raising-way-requires
+    raising-direction-requires
     add-offers-requires
     add-orders-requires
     sub-add-orders

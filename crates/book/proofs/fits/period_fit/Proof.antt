@@ -1,6 +1,6 @@
 -- `period_fit`: a test that fails contradicts one of the two facts of the hour.
 use native.Mathlib.Omega.{arith}
-use Rattle.book.proofs.laws.check.PeriodLaws.{period-way, period-not, period-fits}
+use Rattle.book.proofs.laws.check.PeriodLaws.{period-mark, period-not, period-fits}
 use borrow.Author.Needs.{needs}
 use Rattle.book.proofs.fits.period_fit.Statement.{statement}
 use Rattle.book.proofs.fits.period_fit.Tie as tie
@@ -24,7 +24,7 @@ shared-slice-read-if1 : tie.Need-shared-slice-read-if1
 shared-slice-read-if1 c = search needs
 
 returns : tie.Need-returns
-returns c = period-way _ _ _ _ _ (omega arith)
+returns c = period-mark _ _ _ _ _ (omega arith)
 
 hour-at-requires : tie.Need-hour-at-requires
 hour-at-requires c κs = search needs

@@ -78,7 +78,7 @@ outcome-sound m c e = cond-true (enough m) (outcome (decode m) c) _ (sound-enoug
 pub made-refused : (m rows : List ℕ) (c : Call) (r : ℕ) → outcomeOn m c ≡ record { refusal = r; number = 0; rows = []; book = decode m } → (r ≡ 0 → ⊥)
     → Made m rows c (Refused r) m rows
 made-refused m rows c r e n = record {
-  answer = rw e refl;
+  answer = rw (e, ne-eqb r 0 n) refl;
   refused = λ h. (refl, refl);
   accepted = λ h. absurd (n (sym (ap (λ (o : Outcome). o .refusal) e) ∙ h));
   handed = λ h. absurd (n (sym (ap (λ (o : Outcome). o .refusal) e) ∙ h));
@@ -124,8 +124,8 @@ effectOf b (callOrder unit direction period price quantity lent) =
     (orderedInRolling b (newOrder b unit direction period price quantity))
 effectOf b (callCancel unit number) = accepted 0 [] (withOrders b (keep (λ o. not (eqb (o .number) number)) (b .orders)))
 effectOf b (callClear lent) =
-    accepted 0 (clearFrom 0 (periods (b .days)) (b .orders) .rows)
-    (inPhase (rowsBooked (clearFrom 0 (periods (b .days)) (b .orders) .rows) (withOrders b (clearFrom 0 (periods (b .days)) (b .orders) .orders)))
+    accepted 0 (clearFrom 0 (periods (b .rules .days)) (b .orders) .rows)
+    (inPhase (rowsBooked (clearFrom 0 (periods (b .rules .days)) (b .orders) .rows) (withOrders b (clearFrom 0 (periods (b .rules .days)) (b .orders) .orders)))
     rollingPhase)
 effectOf b callClose = accepted 0 [] (dayClosed b)
 

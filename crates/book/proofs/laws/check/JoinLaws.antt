@@ -31,8 +31,8 @@ use Rattle.book.specs.Fit.{
   volumeFits,
 }
 use Rattle.book.specs.Layout.{word, figuresAt, amountAt, offerAt, decode, ordersPart}
-use Rattle.book.specs.inner.Readable.{waysIn, unitWhole, declared, misfitOf, Fitted}
-use Rattle.book.specs.inner.Fitting.{Added, orderShare, offerShare, wayHolds, hourHolds, termPart, volumePart, termAt, volumeAt, UnitCame}
+use Rattle.book.specs.inner.Readable.{marksIn, unitWhole, declared, misfitOf, Fitted}
+use Rattle.book.specs.inner.Fitting.{Added, orderShare, offerShare, markHolds, hourHolds, termPart, volumePart, termAt, volumeAt, UnitCame}
 use Rattle.book.proofs.laws.memory.RangeFacts.{unit-at, order-word}
 
 -- the direction that raises a unit of a kind, and the one that lowers it
@@ -52,22 +52,22 @@ lowers-by kind d = go (generator kind)
 
 -- what is open, by places
 module _ (m : List ℕ) (u p : ℕ) where
-  order-is : (f : ℕ → Bool) (way k : ℕ) → ((d : ℕ) → f d ≡ eqb d way) → k < 256
+  order-is : (f : ℕ → Bool) (direction k : ℕ) → ((d : ℕ) → f d ≡ eqb d direction) → k < 256
       → cond (eqb (orderAt (ordersPart m) k .unit) u && eqb (orderAt (ordersPart m) k .period) p
       && f (orderAt (ordersPart m) k .direction)) (orderAt (ordersPart m) k .quantity) 0
-      ≡ orderShare m u way k p
+      ≡ orderShare m u direction k p
   unfolding orderShare
-  order-is f way k e h = rw (e (orderAt (ordersPart m) k .direction), at 1 (omega arith), at 2 (omega arith), at 3 (omega arith), at 5 (omega arith))
+  order-is f direction k e h = rw (e (orderAt (ordersPart m) k .direction), at 1 (omega arith), at 2 (omega arith), at 3 (omega arith), at 5 (omega arith))
     where
       at : (i : ℕ) → i < 6 → getD (ordersPart m) (6 * k + i) 0 ≡ word m (240 + 6 * k + i)
       at i l = order-word m (6 * k + i) (omega arith) ∙ ap (word m) (omega arith)
 
-  pub orders-open : (f : ℕ → Bool) (way : ℕ) → ((d : ℕ) → f d ≡ eqb d way) → word m 7 ≤ 256
-      → openOrders f u p (decode m .orders) ≡ sum (word m 7) (λ k. orderShare m u way k p)
+  pub orders-open : (f : ℕ → Bool) (direction : ℕ) → ((d : ℕ) → f d ≡ eqb d direction) → word m 7 ≤ 256
+      → openOrders f u p (decode m .orders) ≡ sum (word m 7) (λ k. orderShare m u direction k p)
   unfolding openOrders decode ordersIn
-  orders-open f way e h =
+  orders-open f direction e h =
       sumOf-table (λ (o : OpenOrder). cond (eqb (o .unit) u && eqb (o .period) p && f (o .direction)) (o .quantity) 0) (word m 7) (orderAt (ordersPart m))
-      ∙ sum-ext (word m 7) _ _ (λ k l. order-is f way k e (omega arith))
+      ∙ sum-ext (word m 7) _ _ (λ k l. order-is f direction k e (omega arith))
 
   pub offers-open : p < periods (word m 0) → openOffers u p (decode m .offers) ≡ sum (word m 6) (λ j. offerShare m u j p)
   unfolding openOffers decode offerShare
@@ -80,11 +80,11 @@ module _ (m : List ℕ) (u : ℕ) (h : In 1 (word m 5) u) where
   pub figures-at : (p : ℕ) → p < periods (word m 0) → figuresOf (decode m) u p ≡ figuresAt m (u - 1) p
   figures-at p l = ap (λ (x : EnrolledUnit). getD (x .figures) p noFigures) (unit-at m u h) ∙ table-at (periods (word m 0)) (figuresAt m (u - 1)) p noFigures l
 
-  pub ways-at : waysIn (decode m) u ≡ all (periods (word m 0)) (wayHolds m (u - 1))
-  unfolding waysIn wayHolds
-  ways-at =
-      ap (λ (x : EnrolledUnit). every (λ (f : Figures). leb (f .way) 2) (x .figures)) (unit-at m u h)
-      ∙ every-table (λ (f : Figures). leb (f .way) 2) (periods (word m 0)) (figuresAt m (u - 1))
+  pub marks-at : marksIn (decode m) u ≡ all (periods (word m 0)) (markHolds m (u - 1))
+  unfolding marksIn markHolds
+  marks-at =
+      ap (λ (x : EnrolledUnit). every (λ (f : Figures). leb (f .mark) 3) (x .figures)) (unit-at m u h)
+      ∙ every-table (λ (f : Figures). leb (f .mark) 3) (periods (word m 0)) (figuresAt m (u - 1))
 
 -- two tests of the same numbers
 tests-same : (a b c d x y z w : ℕ) → a ≡ x → b ≡ y → c ≡ z → d ≡ w → (leb a b && leb c d) ≡ (leb x y && leb z w)
@@ -133,7 +133,7 @@ module _ (m : List ℕ) (u : ℕ) (h : In 1 (word m 5) u) (d : Declaration) (up 
   unfolding volumeAt
   volume-at = ap (volumeLimit (word m (8 + 3 * (u - 1)))) term-at ∙ sym (ap (λ (x : EnrolledUnit). volumeLimit (x .kind) (termOf (decode m) u d)) (unit-at m u h))
 
-  hours-all : all (periods (word m 0)) (λ p. hourHolds m (u - 1) p (getD up p 0) (getD down p 0)) ≡ all (periods (decode m .days)) (hourFits (decode m) u d)
+  hours-all : all (periods (word m 0)) (λ p. hourHolds m (u - 1) p (getD up p 0) (getD down p 0)) ≡ all (periods (decode m .rules .days)) (hourFits (decode m) u d)
   unfolding decode
   hours-all = all-ext (periods (word m 0)) _ _ hour-same
 
@@ -149,8 +149,8 @@ module _ (m : List ℕ) (u : ℕ) (h : In 1 (word m 5) u) (d : Declaration) (up 
   unfolding misfitOf
   fitted r c =
       record {
-        clean = λ w. rw (hours-all, term-all, volume-all) at (c .clean (sym (ways-at m u h) ∙ w));
-        dirty = λ w. c .dirty (sym (ways-at m u h) ∙ w);
+        clean = λ w. rw (hours-all, term-all, volume-all) at (c .clean (sym (marks-at m u h) ∙ w));
+        dirty = λ w. c .dirty (sym (marks-at m u h) ∙ w);
       }
 
 -- a unit that fits with nothing declared, by the totals of what is open
@@ -158,7 +158,7 @@ pub whole-is : (m : List ℕ) (u : ℕ) → In 1 (word m 5) u → (up down : Lis
     → ((p : ℕ) → p < periods (word m 0) → getD up p 0 ≡ openRaising (decode m) u p)
     → ((p : ℕ) → p < periods (word m 0) → getD down p 0 ≡ openLowering (decode m) u p)
     → unitWhole (decode m) u
-    ≡ (all (periods (word m 0)) (wayHolds m (u - 1))
+    ≡ (all (periods (word m 0)) (markHolds m (u - 1))
     && holds
     (all (periods (word m 0)) (λ p. hourHolds m (u - 1) p (getD up p 0) (getD down p 0))
     ∷ leb (sum (periods (word m 0)) (λ p. termPart m (u - 1) p (getD up p 0))) (termAt m (u - 1))
@@ -168,49 +168,49 @@ unfolding unitWhole unitFits
 whole-is m u h up down ups downs =
     let a : (p : ℕ) → p < periods (word m 0) → getD up p 0 ≡ 0 + openRaising (decode m) u p = λ p l. let e = ups p l in omega arith in
     let b : (p : ℕ) → p < periods (word m 0) → getD down p 0 ≡ 0 + openLowering (decode m) u p = λ p l. let e = downs p l in omega arith in
-    sym (rw (ways-at m u h, hours-all m u h nothing up down a b, term-all m u h nothing up down a b, volume-all m u h nothing up down a b) refl)
+    sym (rw (marks-at m u h, hours-all m u h nothing up down a b, term-all m u h nothing up down a b, volume-all m u h nothing up down a b) refl)
 
 -- the totals that the passes over offers and orders leave
 module _ (m : List ℕ) (u : ℕ) (h : In 1 (word m 5) u) (few : word m 7 ≤ 256) where
-  pub raising-open : (l x y : List ℕ) (g e way : ℕ) → way ≡ cond (generator (unitOf (decode m) u .kind)) 0 1
+  pub raising-open : (l x y : List ℕ) (g e direction : ℕ) → direction ≡ cond (generator (unitOf (decode m) u .kind)) 0 1
       → Added (periods (word m 0)) l x (λ p. sum (word m 6) (λ j. offerShare m u j p)) g
-      → Added (periods (word m 0)) x y (λ p. sum (word m 7) (λ k. orderShare m u way k p)) e
+      → Added (periods (word m 0)) x y (λ p. sum (word m 7) (λ k. orderShare m u direction k p)) e
       → (p : ℕ) → p < periods (word m 0) → getD y p 0 ≡ getD l p 0 + openRaising (decode m) u p
   unfolding openRaising
-  raising-open l x y g e way w a b p i =
+  raising-open l x y g e direction w a b p i =
       let s = a .each p i in
       let t = b .each p i in
       let v = offers-open m u p i in
-      let z = orders-open m u p (raises (unitOf (decode m) u .kind)) way (λ d. raises-by (unitOf (decode m) u .kind) d ∙ ap (eqb d) (sym w)) few in
+      let z = orders-open m u p (raises (unitOf (decode m) u .kind)) direction (λ d. raises-by (unitOf (decode m) u .kind) d ∙ ap (eqb d) (sym w)) few in
       omega arith
 
-  pub lowering-open : (l x : List ℕ) (g way : ℕ) → way ≡ cond (generator (unitOf (decode m) u .kind)) 1 0
-      → Added (periods (word m 0)) l x (λ p. sum (word m 7) (λ k. orderShare m u way k p)) g
+  pub lowering-open : (l x : List ℕ) (g direction : ℕ) → direction ≡ cond (generator (unitOf (decode m) u .kind)) 1 0
+      → Added (periods (word m 0)) l x (λ p. sum (word m 7) (λ k. orderShare m u direction k p)) g
       → (p : ℕ) → p < periods (word m 0) → getD x p 0 ≡ getD l p 0 + openLowering (decode m) u p
   unfolding openLowering
-  lowering-open l x g way w a p i =
+  lowering-open l x g direction w a p i =
       let s = a .each p i in
-      let z = orders-open m u p (lowers (unitOf (decode m) u .kind)) way (λ d. lowers-by (unitOf (decode m) u .kind) d ∙ ap (eqb d) (sym w)) few in
+      let z = orders-open m u p (lowers (unitOf (decode m) u .kind)) direction (λ d. lowers-by (unitOf (decode m) u .kind) d ∙ ap (eqb d) (sym w)) few in
       omega arith
 
 -- a direction and its other
-pub way-generator : (g : Bool) (r : ℕ) → r ≡ 0 → g ≡ true → r ≡ cond g 0 1
-way-generator g r h e = rw e h
+pub direction-generator : (g : Bool) (r : ℕ) → r ≡ 0 → g ≡ true → r ≡ cond g 0 1
+direction-generator g r h e = rw e h
 
-pub way-load : (g : Bool) (r : ℕ) → r ≡ 1 → g ≡ false → r ≡ cond g 0 1
-way-load g r h e = rw e h
+pub direction-load : (g : Bool) (r : ℕ) → r ≡ 1 → g ≡ false → r ≡ cond g 0 1
+direction-load g r h e = rw e h
 
-pub way-other : (g : Bool) (way : ℕ) → way ≡ cond g 0 1 → 1 - way ≡ cond g 1 0
-way-other true way e = omega arith
-way-other false way e = omega arith
+pub direction-other : (g : Bool) (direction : ℕ) → direction ≡ cond g 0 1 → 1 - direction ≡ cond g 1 0
+direction-other true direction e = omega arith
+direction-other false direction e = omega arith
 
 -- the passes over offers and orders, and then over the periods
-pub fitted-all : (m : List ℕ) (u way : ℕ) (l x y k z : List ℕ) (g e f r : ℕ) → In 1 (word m 5) u → word m 7 ≤ 256 → way
+pub fitted-all : (m : List ℕ) (u direction : ℕ) (l x y k z : List ℕ) (g e f r : ℕ) → In 1 (word m 5) u → word m 7 ≤ 256 → direction
     ≡ cond (generator (unitOf (decode m) u .kind)) 0 1
     → Added (periods (word m 0)) l x (λ p. sum (word m 6) (λ j. offerShare m u j p)) g
-    → Added (periods (word m 0)) x y (λ p. sum (word m 7) (λ i. orderShare m u way i p)) e
-    → Added (periods (word m 0)) k z (λ p. sum (word m 7) (λ i. orderShare m u (1 - way) i p)) f
+    → Added (periods (word m 0)) x y (λ p. sum (word m 7) (λ i. orderShare m u direction i p)) e
+    → Added (periods (word m 0)) k z (λ p. sum (word m 7) (λ i. orderShare m u (1 - direction) i p)) f
     → UnitCame m (u - 1) y z r → Fitted (decode m) u (declared l k) r
-fitted-all m u way l x y k z g e f r h few w a b c =
-    fitted m u h (declared l k) y z (raising-open m u h few l x y g e way w a b)
-    (lowering-open m u h few k z f (1 - way) (way-other (generator (unitOf (decode m) u .kind)) way w) c) r
+fitted-all m u direction l x y k z g e f r h few w a b c =
+    fitted m u h (declared l k) y z (raising-open m u h few l x y g e direction w a b)
+    (lowering-open m u h few k z f (1 - direction) (direction-other (generator (unitOf (decode m) u .kind)) direction w) c) r

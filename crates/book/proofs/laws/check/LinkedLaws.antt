@@ -20,7 +20,7 @@ use Rattle.book.specs.Trades.{raises}
 use Rattle.book.specs.Layout.{word, amountAt, decode}
 use Rattle.book.specs.inner.Readable.{Ranged}
 use Rattle.book.specs.inner.Fitting.{Below, Added, orderShare, offerShare}
-use Rattle.book.specs.inner.Whole.{Latest, Linked, raisingWay, orderRaises, orderLowers, offersRaise, ordersRaise, ordersLower, BothAdded}
+use Rattle.book.specs.inner.Whole.{Latest, Linked, raisingDirection, orderRaises, orderLowers, offersRaise, ordersRaise, ordersLower, BothAdded}
 use Rattle.book.proofs.laws.memory.RangeFacts.{OrderWords, kind-at}
 use Rattle.book.proofs.laws.check.ShareLaws.{
   order-words,
@@ -155,10 +155,10 @@ lowers-other : (m : List ℕ) (i p k : ℕ) → (word m (240 + 6 * i + 1) ≡ k 
 unfolding orderLowers
 lowers-other m i p k n = share-other m _ _ i n p
 
-pub share-apart : (m : List ℕ) (u way i p : ℕ) → (word m (240 + 6 * i + 3) ≡ p → ⊥) → orderShare m u way i p ≡ 0
+pub share-apart : (m : List ℕ) (u direction i p : ℕ) → (word m (240 + 6 * i + 3) ≡ p → ⊥) → orderShare m u direction i p ≡ 0
 unfolding orderShare
-share-apart m u way i p n =
-    rw (and-left-false (eqb (word m (240 + 6 * i + 1)) u && eqb (word m (240 + 6 * i + 3)) p) (eqb (word m (240 + 6 * i + 2)) way)
+share-apart m u direction i p n =
+    rw (and-left-false (eqb (word m (240 + 6 * i + 1)) u && eqb (word m (240 + 6 * i + 3)) p) (eqb (word m (240 + 6 * i + 2)) direction)
     (and-right-false (eqb (word m (240 + 6 * i + 1)) u) (eqb (word m (240 + 6 * i + 3)) p) (ne-eqb _ _ n)))
 
 raises-apart : (m : List ℕ) (i p k : ℕ) → (word m (240 + 6 * i + 3) ≡ p → ⊥) → orderRaises m i p k ≡ 0
@@ -170,13 +170,13 @@ unfolding orderLowers
 lowers-apart m i p k n = share-apart m _ _ i p n
 
 -- the direction that raises a unit
-way-small : (m : List ℕ) (k : ℕ) → raisingWay m k ≤ 1
-unfolding raisingWay
-way-small m k = cond-case (λ (x : ℕ). x ≤ 1) (generator (word m (8 + 3 * k))) 0 1 (λ e. omega arith) (λ e. omega arith)
+mark-small : (m : List ℕ) (k : ℕ) → raisingDirection m k ≤ 1
+unfolding raisingDirection
+mark-small m k = cond-case (λ (x : ℕ). x ≤ 1) (generator (word m (8 + 3 * k))) 0 1 (λ e. omega arith) (λ e. omega arith)
 
-raises-way : (m : List ℕ) (u d : ℕ) → In 1 (word m 5) u → raises (unitOf (decode m) u .kind) d ≡ eqb d (raisingWay m (u - 1))
-unfolding raisingWay
-raises-way m u d h = rw (kind-at m u h) (raises-by (word m (8 + 3 * (u - 1))) d)
+raises-direction : (m : List ℕ) (u d : ℕ) → In 1 (word m 5) u → raises (unitOf (decode m) u .kind) d ≡ eqb d (raisingDirection m (u - 1))
+unfolding raisingDirection
+raises-direction m u d h = rw (kind-at m u h) (raises-by (word m (8 + 3 * (u - 1))) d)
 
 -- an order of the period goes to its unit, by its direction
 module _ (m : List ℕ) (i p : ℕ) (r : Ranged m) (h : i < word m 7) (e : word m (240 + 6 * i + 3) ≡ p) where
@@ -192,27 +192,27 @@ module _ (m : List ℕ) (i p : ℕ) (r : Ranged m) (h : i < word m 7) (e : word 
   back : word m (240 + 6 * i + 1) ≡ word m (240 + 6 * i + 1) - 1 + 1
   back = let u = facts .unit in omega arith
 
-  raises-there : word m (240 + 6 * i + 2) ≡ raisingWay m (word m (240 + 6 * i + 1) - 1) → orderRaises m i p (word m (240 + 6 * i + 1) - 1)
+  raises-there : word m (240 + 6 * i + 2) ≡ raisingDirection m (word m (240 + 6 * i + 1) - 1) → orderRaises m i p (word m (240 + 6 * i + 1) - 1)
       ≡ word m (240 + 6 * i + 5)
   unfolding orderRaises
   raises-there w = share-there m _ _ i back w p e
 
-  raises-against : (word m (240 + 6 * i + 2) ≡ raisingWay m (word m (240 + 6 * i + 1) - 1) → ⊥) → orderRaises m i p (word m (240 + 6 * i + 1) - 1) ≡ 0
+  raises-against : (word m (240 + 6 * i + 2) ≡ raisingDirection m (word m (240 + 6 * i + 1) - 1) → ⊥) → orderRaises m i p (word m (240 + 6 * i + 1) - 1) ≡ 0
   unfolding orderRaises
   raises-against w = share-against m _ _ i w p
 
-  lowers-there : (word m (240 + 6 * i + 2) ≡ raisingWay m (word m (240 + 6 * i + 1) - 1) → ⊥) → orderLowers m i p (word m (240 + 6 * i + 1) - 1)
+  lowers-there : (word m (240 + 6 * i + 2) ≡ raisingDirection m (word m (240 + 6 * i + 1) - 1) → ⊥) → orderLowers m i p (word m (240 + 6 * i + 1) - 1)
       ≡ word m (240 + 6 * i + 5)
   unfolding orderLowers
   lowers-there w =
-      let s = way-small m (word m (240 + 6 * i + 1) - 1) in
+      let s = mark-small m (word m (240 + 6 * i + 1) - 1) in
       let d = facts .direction in
       share-there m _ _ i back (omega arith) p e
 
-  lowers-against : word m (240 + 6 * i + 2) ≡ raisingWay m (word m (240 + 6 * i + 1) - 1) → orderLowers m i p (word m (240 + 6 * i + 1) - 1) ≡ 0
+  lowers-against : word m (240 + 6 * i + 2) ≡ raisingDirection m (word m (240 + 6 * i + 1) - 1) → orderLowers m i p (word m (240 + 6 * i + 1) - 1) ≡ 0
   unfolding orderLowers
   lowers-against w =
-      let s = way-small m (word m (240 + 6 * i + 1) - 1) in
+      let s = mark-small m (word m (240 + 6 * i + 1) - 1) in
       share-against m _ _ i (λ z. omega arith) p
 
   -- nothing, where the unit's own place gets nothing
@@ -235,8 +235,8 @@ module _ (m : List ℕ) (i p : ℕ) (r : Ranged m) (h : i < word m 7) (e : word 
         → BothAdded x y (set x (word m (240 + 6 * i + 1) - 1) (getD x (word m (240 + 6 * i + 1) - 1) 0 + word m (240 + 6 * i + 5))) y (orderRaises m i p)
         (orderLowers m i p) mostEnergy
     order-raised n t =
-        let w : word m (240 + 6 * i + 2) ≡ raisingWay m (word m (240 + 6 * i + 1) - 1) = eqb-true _ _
-        (sym (raises-way m (word m (240 + 6 * i + 1)) _ (facts .unit)) ∙ sym s ∙ t) in
+        let w : word m (240 + 6 * i + 2) ≡ raisingDirection m (word m (240 + 6 * i + 1) - 1) = eqb-true _ _
+        (sym (raises-direction m (word m (240 + 6 * i + 1)) _ (facts .unit)) ∙ sym s ∙ t) in
         record {
           raising = there-at x (orderRaises m i p) n (raises-there w) (raises-other m i p);
           lowering = nothing-at y (orderLowers m i p) (lowers-against w) (lowers-other m i p);
@@ -246,8 +246,8 @@ module _ (m : List ℕ) (i p : ℕ) (r : Ranged m) (h : i < word m 7) (e : word 
         → BothAdded x y x (set y (word m (240 + 6 * i + 1) - 1) (getD y (word m (240 + 6 * i + 1) - 1) 0 + word m (240 + 6 * i + 5))) (orderRaises m i p)
         (orderLowers m i p) mostEnergy
     order-lowered n t =
-        let w : (word m (240 + 6 * i + 2) ≡ raisingWay m (word m (240 + 6 * i + 1) - 1)
-        → ⊥) = eqb-false _ _ (sym (raises-way m (word m (240 + 6 * i + 1)) _ (facts .unit)) ∙ sym s ∙ t) in
+        let w : (word m (240 + 6 * i + 2) ≡ raisingDirection m (word m (240 + 6 * i + 1) - 1)
+        → ⊥) = eqb-false _ _ (sym (raises-direction m (word m (240 + 6 * i + 1)) _ (facts .unit)) ∙ sym s ∙ t) in
         record {
           raising = nothing-at x (orderRaises m i p) (raises-against w) (raises-other m i p);
           lowering = there-at y (orderLowers m i p) n (lowers-there w) (lowers-other m i p);

@@ -31,7 +31,7 @@ module _ (b : Book) (u : ℕ) where
       ≡ misfitOf b u e
   unfolding misfitOf termFits volumeFits
   misfit-ext d e f g =
-      let n = periods (b .days) in
+      let n = periods (b .rules .days) in
       rw (
         all-ext n (hourFits b u d) (hourFits b u e) (λ p l. hour-ext d e p (f p) (g p)),
         sum-ext n _ (λ p. figuresOf b u p .held + (raisingToday b u p + e .raising p)) (λ p l. held p),
@@ -47,7 +47,7 @@ module _ (b : Book) (u : ℕ) where
       volume p = rw (f p, g p)
 
   -- an hour without energy fits where the unit does
-  hour-alone : (d : Declaration) → unitFits b u ≡ true → (p : ℕ) → p < periods (b .days) → hourFits b u d p
+  hour-alone : (d : Declaration) → unitFits b u ≡ true → (p : ℕ) → p < periods (b .rules .days) → hourFits b u d p
       ≡ (eqb (d .raising p + d .lowering p) 0 || hourFits b u d p)
   unfolding unitFits
   hour-alone d e p h = go (eqb (d .raising p + d .lowering p) 0) refl
@@ -55,10 +55,10 @@ module _ (b : Book) (u : ℕ) where
       go : (z : Bool) → eqb (d .raising p + d .lowering p) 0 ≡ z → hourFits b u d p ≡ (z || hourFits b u d p)
       go true f =
           let s = eqb-true (d .raising p + d .lowering p) 0 f in
-          hour-ext d nothing p (omega arith) (omega arith) ∙ all-at (periods (b .days)) (hourFits b u nothing) p (all-true _ e .0) h
+          hour-ext d nothing p (omega arith) (omega arith) ∙ all-at (periods (b .rules .days)) (hourFits b u nothing) p (all-true _ e .0) h
       go false f = refl
 
   -- on a unit that fits, the misfit of a declaration is the first that its checks name
   pub misfit-declared : (d : Declaration) → unitFits b u ≡ true → misfitOf b u d ≡ firstOf (hourMisfit b u d ∷ termMisfit b u d ∷ volumeMisfit b u d ∷ [])
   unfolding misfitOf hoursFit
-  misfit-declared d e = rw (all-ext (periods (b .days)) (hourFits b u d) (λ p. eqb (d .raising p + d .lowering p) 0 || hourFits b u d p) (hour-alone d e))
+  misfit-declared d e = rw (all-ext (periods (b .rules .days)) (hourFits b u d) (λ p. eqb (d .raising p + d .lowering p) 0 || hourFits b u d p) (hour-alone d e))

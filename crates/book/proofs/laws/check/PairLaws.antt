@@ -28,15 +28,15 @@ use Rattle.matching.specs.Orders.{Order as OpenOrder, buys, sells}
 use Rattle.matching.specs.Memory.{orderAt, ordersIn, noOrder}
 use Rattle.matching.proofs.laws.orders.OrderLaws.{orders-length, orders-at}
 use Rattle.book.specs.Book.{rollingPhase}
-use Rattle.book.specs.Sound.{oneWay, apart, eachTwo}
+use Rattle.book.specs.Sound.{oneDirection, apart, eachTwo}
 use Rattle.book.specs.inner.Readable.{pairFits, pairsFit}
 
 -- one way, as a fact
-abbrev pub OneWay : OpenOrder → OpenOrder → Type 0
-OneWay a b = a .unit ≡ b .unit → a .period ≡ b .period → a .direction ≡ b .direction
+abbrev pub OneDirection : OpenOrder → OpenOrder → Type 0
+OneDirection a b = a .unit ≡ b .unit → a .period ≡ b .period → a .direction ≡ b .direction
 
-pub one-way-holds : (a b : OpenOrder) → OneWay a b → oneWay a b ≡ true
-one-way-holds a b h = go (ℕ-discrete (a .unit) (b .unit)) (ℕ-discrete (a .period) (b .period))
+pub one-direction-holds : (a b : OpenOrder) → OneDirection a b → oneDirection a b ≡ true
+one-direction-holds a b h = go (ℕ-discrete (a .unit) (b .unit)) (ℕ-discrete (a .period) (b .period))
   where
     same : Bool
     same = eqb (a .unit) (b .unit) && eqb (a .period) (b .period)
@@ -47,8 +47,8 @@ one-way-holds a b h = go (ℕ-discrete (a .unit) (b .unit)) (ℕ-discrete (a .pe
     go (yes u) (no p) = rw (ne-eqb (a .period) (b .period) p, eq-eqb (a .unit) (b .unit) u)
     go (no u) p = rw (ne-eqb (a .unit) (b .unit) u)
 
-pub one-way-fact : (a b : OpenOrder) → oneWay a b ≡ true → OneWay a b
-one-way-fact a b e u p = eqb-true _ _ (rw (eq-eqb (a .unit) (b .unit) u, eq-eqb (a .period) (b .period) p) at e)
+pub one-direction-fact : (a b : OpenOrder) → oneDirection a b ≡ true → OneDirection a b
+one-direction-fact a b e u p = eqb-true _ _ (rw (eq-eqb (a .unit) (b .unit) u, eq-eqb (a .period) (b .period) p) at e)
 
 -- apart, as a fact
 abbrev pub Apart : OpenOrder → OpenOrder → Type 0
@@ -69,13 +69,13 @@ apart-fact a b e d f p = ltb-true _ _ (rw (eq-eqb (a .direction) 1 d, eq-eqb (b 
 
 -- a pair, as facts
 pub record Pair (phase : ℕ) (a b : OpenOrder) : Type 0 where
-  pub way : OneWay a b
+  pub direction : OneDirection a b
   pub buy : phase ≡ 1 → Apart a b
   pub sale : phase ≡ 1 → Apart b a
 
 pub pair-holds : (phase : ℕ) (a b : OpenOrder) → Pair phase a b → pairFits phase a b ≡ true
 unfolding pairFits
-pair-holds phase a b f = and-true (oneWay a b) _ (one-way-holds a b (f .way)) (go (ℕ-discrete phase 1))
+pair-holds phase a b f = and-true (oneDirection a b) _ (one-direction-holds a b (f .direction)) (go (ℕ-discrete phase 1))
   where
     go : Dec (phase ≡ 1) → (not (eqb phase 1) || (apart a b && apart b a)) ≡ true
     go (yes e) = or-right (not (eqb phase 1)) _ (and-true (apart a b) (apart b a) (apart-holds a b (f .buy e)) (apart-holds b a (f .sale e)))
@@ -84,18 +84,18 @@ pair-holds phase a b f = and-true (oneWay a b) _ (one-way-holds a b (f .way)) (g
 pub pair-fact : (phase : ℕ) (a b : OpenOrder) → pairFits phase a b ≡ true → Pair phase a b
 unfolding pairFits
 pair-fact phase a b e =
-    let r : (not (eqb phase 1) || (apart a b && apart b a)) ≡ true = and-right (oneWay a b) (not (eqb phase 1) || (apart a b && apart b a)) e in
+    let r : (not (eqb phase 1) || (apart a b && apart b a)) ≡ true = and-right (oneDirection a b) (not (eqb phase 1) || (apart a b && apart b a)) e in
     record {
-      way = one-way-fact a b (and-left (oneWay a b) (not (eqb phase 1) || (apart a b && apart b a)) e);
+      direction = one-direction-fact a b (and-left (oneDirection a b) (not (eqb phase 1) || (apart a b && apart b a)) e);
       buy = λ z. apart-fact a b (and-left (apart a b) (apart b a) (rw (eq-eqb phase 1 z) at r));
       sale = λ z. apart-fact b a (and-right (apart a b) (apart b a) (rw (eq-eqb phase 1 z) at r));
     }
 
 pub pair-turned : (phase : ℕ) (a b : OpenOrder) → Pair phase a b → Pair phase b a
-pair-turned phase a b f = record { way = λ u p. sym (f .way (sym u) (sym p)); buy = f .sale; sale = f .buy }
+pair-turned phase a b f = record { direction = λ u p. sym (f .direction (sym u) (sym p)); buy = f .sale; sale = f .buy }
 
 pub pair-alone : (phase : ℕ) (a : OpenOrder) → Pair phase a a
-pair-alone phase a = record { way = λ u p. refl; buy = λ z d e. absurd (omega arith); sale = λ z d e. absurd (omega arith) }
+pair-alone phase a = record { direction = λ u p. refl; buy = λ z d e. absurd (omega arith); sale = λ z d e. absurd (omega arith) }
 
 -- each two of a list
 module _ (phase : ℕ) (os : List OpenOrder) where
@@ -105,9 +105,9 @@ module _ (phase : ℕ) (os : List OpenOrder) where
   pub pairs-hold : Together → pairsFit phase os ≡ true
   unfolding pairsFit eachTwo
   pairs-hold h =
-      and-true (every (λ (a : OpenOrder). every (oneWay a) os) os) _
-      (every-by (λ (a : OpenOrder). every (oneWay a) os) os noOrder
-      (λ k l. every-by (oneWay (getD os k noOrder)) os noOrder (λ j m. one-way-holds (getD os k noOrder) (getD os j noOrder) (h k j l m .way))))
+      and-true (every (λ (a : OpenOrder). every (oneDirection a) os) os) _
+      (every-by (λ (a : OpenOrder). every (oneDirection a) os) os noOrder
+      (λ k l. every-by (oneDirection (getD os k noOrder)) os noOrder (λ j m. one-direction-holds (getD os k noOrder) (getD os j noOrder) (h k j l m .direction))))
       (go (ℕ-discrete phase 1))
     where
       go : Dec (phase ≡ 1) → (not (eqb phase 1) || every (λ (a : OpenOrder). every (apart a) os) os) ≡ true
@@ -120,14 +120,14 @@ module _ (phase : ℕ) (os : List OpenOrder) where
   pub pairs-fact : pairsFit phase os ≡ true → Together
   unfolding pairsFit eachTwo
   pairs-fact e k j l m =
-      let w : every (λ (a : OpenOrder). every (oneWay a) os) os ≡ true = and-left (every (λ (a : OpenOrder). every (oneWay a) os) os) (not (eqb phase 1)
+      let w : every (λ (a : OpenOrder). every (oneDirection a) os) os ≡ true = and-left (every (λ (a : OpenOrder). every (oneDirection a) os) os) (not (eqb phase 1)
       || every (λ (a : OpenOrder). every (apart a) os) os) e in
       let r : (not (eqb phase 1) || every (λ (a : OpenOrder). every (apart a) os) os)
-      ≡ true = and-right (every (λ (a : OpenOrder). every (oneWay a) os) os) (not (eqb phase 1)
+      ≡ true = and-right (every (λ (a : OpenOrder). every (oneDirection a) os) os) (not (eqb phase 1)
       || every (λ (a : OpenOrder). every (apart a) os) os) e in
       record {
-        way = one-way-fact (getD os k noOrder) (getD os j noOrder)
-            (every-at (oneWay (getD os k noOrder)) os j noOrder (every-at (λ (a : OpenOrder). every (oneWay a) os) os k noOrder w l) m);
+        direction = one-direction-fact (getD os k noOrder) (getD os j noOrder)
+            (every-at (oneDirection (getD os k noOrder)) os j noOrder (every-at (λ (a : OpenOrder). every (oneDirection a) os) os k noOrder w l) m);
         buy = λ z. apart-fact (getD os k noOrder) (getD os j noOrder)
             (every-at (apart (getD os k noOrder)) os j noOrder
             (every-at (λ (a : OpenOrder). every (apart a) os) os k noOrder (rw (eq-eqb phase 1 z) at r) l) m);

@@ -16,7 +16,7 @@ use Rattle.limits.proofs.LimitLaws.{all-in, hour-most, term-most, volume-most}
 use Rattle.book.specs.Refusals.{firstOf}
 use Rattle.book.specs.Layout.{word}
 use Rattle.book.specs.inner.Readable.{Ranged, unitFieldsIn}
-use Rattle.book.specs.inner.Fitting.{wayHolds, hourHolds, termAt, volumeAt, periodMisfit, Came}
+use Rattle.book.specs.inner.Fitting.{markHolds, hourHolds, termAt, volumeAt, periodMisfit, Came}
 use Rattle.book.proofs.laws.memory.RangeFacts.{UnitFields, unit-facts}
 
 -- the fields of a unit in a memory that is in range
@@ -25,9 +25,9 @@ unit-words m k r h = unit-facts m k (all-at (word m 5) (unitFieldsIn m) k (r .un
 
 -- a period, by cases
 module _ (m : List ℕ) (k p x y : ℕ) where
-  pub period-way : 2 < word m (1780 + 328 * p + 5 * k) → 1 ≡ periodMisfit (wayHolds m k p) (hourHolds m k p x y)
-  unfolding wayHolds
-  period-way h = rw (lt-leb _ _ h)
+  pub period-mark : 3 < word m (1780 + 328 * p + 5 * k) → 1 ≡ periodMisfit (markHolds m k p) (hourHolds m k p x y)
+  unfolding markHolds
+  period-mark h = rw (lt-leb _ _ h)
 
   abbrev pub HourFacts : Type 0
   HourFacts =
@@ -42,13 +42,13 @@ module _ (m : List ℕ) (k p x y : ℕ) where
       let b = leb (word m (1778 + 328 * p + 5 * k) + y) (word m (1776 + 328 * p + 5 * k)) in
       (leb-true _ _ (and-left a b t), leb-true _ _ (and-right a b t))
 
-  module _ (w : word m (1780 + 328 * p + 5 * k) ≤ 2) where
-    pub period-not : (HourFacts → ⊥) → 19 ≡ periodMisfit (wayHolds m k p) (hourHolds m k p x y)
-    unfolding wayHolds
+  module _ (w : word m (1780 + 328 * p + 5 * k) ≤ 3) where
+    pub period-not : (HourFacts → ⊥) → 19 ≡ periodMisfit (markHolds m k p) (hourHolds m k p x y)
+    unfolding markHolds
     period-not n = rw (le-leb _ _ w, false-by (hourHolds m k p x y) (λ t. n (hour-facts t)))
 
-    pub period-fits : HourFacts → 0 ≡ periodMisfit (wayHolds m k p) (hourHolds m k p x y)
-    unfolding wayHolds hourHolds
+    pub period-fits : HourFacts → 0 ≡ periodMisfit (markHolds m k p) (hourHolds m k p x y)
+    unfolding markHolds hourHolds
     period-fits f = rw (le-leb _ _ w, le-leb _ _ (f .0), le-leb _ _ (f .1))
 
 -- a period that passed its tests
@@ -103,18 +103,18 @@ pub bounds-same : (a t v x y z : ℕ) → given a t v ≡ given x y z → (t ≡
 bounds-same a t v x y z e = (ap (λ (i : Answer). getD (i .values) 1 0) e, ap (λ (i : Answer). getD (i .values) 2 0) e)
 
 -- the periods below p fit, and their sums
-pub record Passing (ways hours : ℕ → Bool) (term volume : ℕ → ℕ) (p t v : ℕ) : Type 0 where
-  pub waysSo : all p ways ≡ true
+pub record Passing (marks hours : ℕ → Bool) (term volume : ℕ → ℕ) (p t v : ℕ) : Type 0 where
+  pub marksSo : all p marks ≡ true
   pub hoursSo : all p hours ≡ true
   pub whole : t ≡ sum p term
   pub little : t ≤ 5_000_000 * p
   pub traded : v ≡ min (sum p volume) 4_800_000_001
 
-module _ (ways hours : ℕ → Bool) (term volume : ℕ → ℕ) where
-  pub passing-none : Passing ways hours term volume 0 0 0
+module _ (marks hours : ℕ → Bool) (term volume : ℕ → ℕ) where
+  pub passing-none : Passing marks hours term volume 0 0 0
   passing-none =
       record {
-        waysSo = all-none ways;
+        marksSo = all-none marks;
         hoursSo = all-none hours;
         whole = sym (sum-none term);
         little = omega arith;
@@ -122,8 +122,8 @@ module _ (ways hours : ℕ → Bool) (term volume : ℕ → ℕ) where
             omega arith;
       }
 
-  pub passing-more : (p t v s w : ℕ) → Passing ways hours term volume p t v → ways p ≡ true → hours p ≡ true → s ≡ t + term p → term p ≤ 5_000_000
-      → w ≡ min (v + volume p) 4_800_000_001 → Passing ways hours term volume (p + 1) s w
+  pub passing-more : (p t v s w : ℕ) → Passing marks hours term volume p t v → marks p ≡ true → hours p ≡ true → s ≡ t + term p → term p ≤ 5_000_000
+      → w ≡ min (v + volume p) 4_800_000_001 → Passing marks hours term volume (p + 1) s w
   passing-more p t v s w g a b e l f =
       let x = sum-more p term in
       let y = sum-more p volume in
@@ -131,7 +131,7 @@ module _ (ways hours : ℕ → Bool) (term volume : ℕ → ℕ) where
       let i = g .little in
       let q = g .traded in
       record {
-        waysSo = all-more p ways (g .waysSo) a;
+        marksSo = all-more p marks (g .marksSo) a;
         hoursSo = all-more p hours (g .hoursSo) b;
         whole = omega arith;
         little = omega arith;
@@ -141,18 +141,18 @@ module _ (ways hours : ℕ → Bool) (term volume : ℕ → ℕ) where
 
   module _ (n termMost volumeMost : ℕ) where
     -- a period that does not fit
-    pub came-early : (p r : ℕ) → p < n → r ≡ periodMisfit (ways p) (hours p) → 0 < r → Came n ways hours term volume termMost volumeMost r
+    pub came-early : (p r : ℕ) → p < n → r ≡ periodMisfit (marks p) (hours p) → 0 < r → Came n marks hours term volume termMost volumeMost r
     unfolding firstOf
-    came-early p r h e l = go (ways p) (hours p) refl refl e
+    came-early p r h e l = go (marks p) (hours p) refl refl e
       where
-        go : (a b : Bool) → ways p ≡ a → hours p ≡ b → r ≡ periodMisfit a b → Came n ways hours term volume termMost volumeMost r
+        go : (a b : Bool) → marks p ≡ a → hours p ≡ b → r ≡ periodMisfit a b → Came n marks hours term volume termMost volumeMost r
         go true true f g i = absurd (omega arith)
         go true false f g i = record { clean = λ c. rw (all-fails n hours p h g) i; dirty = λ c z. omega arith }
-        go false b f g i = record { clean = λ c. absurd (not-both (ways p) (all-at n ways p c h) f); dirty = λ c z. omega arith }
+        go false b f g i = record { clean = λ c. absurd (not-both (marks p) (all-at n marks p c h) f); dirty = λ c z. omega arith }
 
-    module _ (p t v : ℕ) (g : Passing ways hours term volume p t v) (e : p ≡ n) where
-      ways-all : all n ways ≡ true
-      ways-all = rw (← e) (g .waysSo)
+    module _ (p t v : ℕ) (g : Passing marks hours term volume p t v) (e : p ≡ n) where
+      marks-all : all n marks ≡ true
+      marks-all = rw (← e) (g .marksSo)
 
       hours-all : all n hours ≡ true
       hours-all = rw (← e) (g .hoursSo)
@@ -163,22 +163,22 @@ module _ (ways hours : ℕ → Bool) (term volume : ℕ → ℕ) where
       volume-all : v ≡ min (sum n volume) 4_800_000_001
       volume-all = g .traded ∙ ap (λ (i : ℕ). min (sum i volume) 4_800_000_001) e
 
-      pub came-term : termMost < t → Came n ways hours term volume termMost volumeMost 20
+      pub came-term : termMost < t → Came n marks hours term volume termMost volumeMost 20
       unfolding firstOf
       came-term h =
           let s : termMost < sum n term = omega (arith, term-all) in
-          record { clean = λ c. rw (hours-all, lt-leb _ _ s); dirty = λ c. absurd (not-both _ ways-all c) }
+          record { clean = λ c. rw (hours-all, lt-leb _ _ s); dirty = λ c. absurd (not-both _ marks-all c) }
 
-      pub came-volume : t ≤ termMost → volumeMost < v → Came n ways hours term volume termMost volumeMost 21
+      pub came-volume : t ≤ termMost → volumeMost < v → Came n marks hours term volume termMost volumeMost 21
       unfolding firstOf
       came-volume h l =
           let s : sum n term ≤ termMost = omega (arith, term-all) in
           let q : volumeMost < sum n volume = omega (arith, volume-all) in
-          record { clean = λ c. rw (hours-all, le-leb _ _ s, lt-leb _ _ q); dirty = λ c. absurd (not-both _ ways-all c) }
+          record { clean = λ c. rw (hours-all, le-leb _ _ s, lt-leb _ _ q); dirty = λ c. absurd (not-both _ marks-all c) }
 
-      pub came-fits : t ≤ termMost → v ≤ volumeMost → volumeMost ≤ 4_800_000_000 → Came n ways hours term volume termMost volumeMost 0
+      pub came-fits : t ≤ termMost → v ≤ volumeMost → volumeMost ≤ 4_800_000_000 → Came n marks hours term volume termMost volumeMost 0
       unfolding firstOf
       came-fits h l small =
           let s : sum n term ≤ termMost = omega (arith, term-all) in
           let q : sum n volume ≤ volumeMost = omega (arith, volume-all) in
-          record { clean = λ c. rw (hours-all, le-leb _ _ s, le-leb _ _ q); dirty = λ c. absurd (not-both _ ways-all c) }
+          record { clean = λ c. rw (hours-all, le-leb _ _ s, le-leb _ _ q); dirty = λ c. absurd (not-both _ marks-all c) }

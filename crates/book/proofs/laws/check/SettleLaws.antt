@@ -14,10 +14,10 @@ use Rattle.measures.proofs.ListLaws.{both-ways, false-by, not-both, and-true, a
 use Rattle.limits.specs.Limits.{hourOf, hourLimit}
 use Rattle.book.specs.Layout.{word}
 use Rattle.book.specs.inner.Readable.{Ranged}
-use Rattle.book.specs.inner.Fitting.{Below, Added, orderShare, offerShare, wayHolds, hourHolds, termPart, volumePart, periodMisfit}
+use Rattle.book.specs.inner.Fitting.{Below, Added, orderShare, offerShare, markHolds, hourHolds, termPart, volumePart, periodMisfit}
 use Rattle.book.specs.inner.Whole.{
   Latest,
-  raisingWay,
+  raisingDirection,
   orderRaises,
   orderLowers,
   offersRaise,
@@ -39,7 +39,7 @@ use Rattle.book.specs.inner.Whole.{
 use Rattle.book.proofs.laws.check.ShareLaws.{getD-past, share-other, offer-other}
 use Rattle.book.proofs.laws.check.PeriodLaws.{hour-facts, period-passed, period-failed}
 use Rattle.book.proofs.laws.check.LinkedLaws.{share-apart}
-use Rattle.book.proofs.laws.check.UnitsFitLaws.{cell-way, cell-hour, cell-volume, cell-term, cell-most, sum-zero, zeros-below}
+use Rattle.book.proofs.laws.check.UnitsFitLaws.{cell-mark, cell-hour, cell-volume, cell-term, cell-most, sum-zero, zeros-below}
 
 -- a cell that passes with something open passes with nothing open
 module _ (m : List ℕ) (p k x y : ℕ) where
@@ -54,11 +54,11 @@ module _ (m : List ℕ) (p k x y : ℕ) where
 
   cell-idle : cellHolds m p k x y ≡ true → cellHolds m p k 0 0 ≡ true
   unfolding cellHolds
-  cell-idle c = holds-all _ (cell-way m p k x y c, (hour-idle (cell-hour m p k x y c), (le-leb _ _ (cell-volume m p k x y c), tt)))
+  cell-idle c = holds-all _ (cell-mark m p k x y c, (hour-idle (cell-hour m p k x y c), (le-leb _ _ (cell-volume m p k x y c), tt)))
 
   cell-open : cellHolds m p k 0 0 ≡ true → hourHolds m k p x y ≡ true → cellHolds m p k x y ≡ true
   unfolding cellHolds
-  cell-open c h = holds-all _ (cell-way m p k 0 0 c, (h, (le-leb _ _ (cell-volume m p k 0 0 c), tt)))
+  cell-open c h = holds-all _ (cell-mark m p k 0 0 c, (h, (le-leb _ _ (cell-volume m p k 0 0 c), tt)))
 
 -- a list with one place set
 set-here : (l l′ : List ℕ) (k v : ℕ) → l′ ≡ set l k v → k < length l → getD l′ k 0 ≡ v
@@ -71,11 +71,11 @@ set-long : (l l′ : List ℕ) (k v : ℕ) → l′ ≡ set l k v → length l �
 set-long l l′ k v e h = rw e (length-set l k v ∙ h)
 
 -- a unit is settled, by cases
-module _ (m : List ℕ) (p k : ℕ) (x y w v : List ℕ) (r : ℕ) (e : r ≡ periodMisfit (wayHolds m k p) (hourHolds m k p (getD x k 0) (getD y k 0))) where
+module _ (m : List ℕ) (p k : ℕ) (x y w v : List ℕ) (r : ℕ) (e : r ≡ periodMisfit (markHolds m k p) (hourHolds m k p (getD x k 0) (getD y k 0))) where
   pub settle-fails : 0 < r → (x′ y′ w′ v′ : List ℕ) → Settled m p k x y w v false x′ y′ w′ v′
   settle-fails h x′ y′ w′ v′ =
       record {
-        answer = sym (false-by _ (λ t. let u = all-true (wayHolds m k p ∷ hourHolds m k p (getD x k 0) (getD y k 0)
+        answer = sym (false-by _ (λ t. let u = all-true (markHolds m k p ∷ hourHolds m k p (getD x k 0) (getD y k 0)
             ∷ []) t in period-failed _ _ r e h (u .0) (u .1 .0)));
         up = λ z. both-ways (sym z);
         down = λ z. both-ways (sym z);
@@ -83,8 +83,8 @@ module _ (m : List ℕ) (p k : ℕ) (x y w v : List ℕ) (r : ℕ) (e : r ≡ pe
         volume = λ z. both-ways (sym z);
       }
 
-  pub settle-passes : r ≤ 0 → true ≡ holds (wayHolds m k p ∷ hourHolds m k p (getD x k 0) (getD y k 0) ∷ [])
-  settle-passes h = let t = period-passed _ _ r e h in sym (holds-all (wayHolds m k p ∷ hourHolds m k p (getD x k 0) (getD y k 0) ∷ []) (t .0, (t .1, tt)))
+  pub settle-passes : r ≤ 0 → true ≡ holds (markHolds m k p ∷ hourHolds m k p (getD x k 0) (getD y k 0) ∷ [])
+  settle-passes h = let t = period-passed _ _ r e h in sym (holds-all (markHolds m k p ∷ hourHolds m k p (getD x k 0) (getD y k 0) ∷ []) (t .0, (t .1, tt)))
 
 -- the units that are settled
 pub settling-none : (m : List ℕ) (p : ℕ) (x y w v : List ℕ) → Waiting x y w v → Settling m p x y w v x y w v
@@ -115,7 +115,7 @@ module _ (m : List ℕ) (p : ℕ) (x y w v x′ y′ w′ v′ : List ℕ) (s : 
         all-fails (word m 5) (λ i. cellHolds m p i (getD x i 0) (getD y i 0)) k h
         (false-by _ (λ c.
         let n = cell-now k c in
-        not-both _ (holds-all (wayHolds m k p ∷ hourHolds m k p (getD x′ k 0) (getD y′ k 0) ∷ []) (cell-way m p k _ _ n, (cell-hour m p k _ _ n, tt)))
+        not-both _ (holds-all (markHolds m k p ∷ hourHolds m k p (getD x′ k 0) (getD y′ k 0) ∷ []) (cell-mark m p k _ _ n, (cell-hour m p k _ _ n, tt)))
         (sym (d .answer) ∙ f)))
 
     module _ (t : r ≡ true) where
@@ -199,7 +199,7 @@ module _ (m : List ℕ) (p : ℕ) (x y w v x′ y′ w′ v′ : List ℕ) (s : 
           here : 0 < getD x k 0 + getD y k 0 → Dec (0 < getD x′ k 0 + getD y′ k 0) → (k < word m 5) × (hourHolds m k p (getD x k 0) (getD y k 0) ≡ true)
           here z (yes l) =
               let u = s .waits k l in
-              let c = all-true (wayHolds m k p ∷ hourHolds m k p (getD x′ k 0) (getD y′ k 0) ∷ []) (sym (d .answer) ∙ t) .1 .0 in
+              let c = all-true (markHolds m k p ∷ hourHolds m k p (getD x′ k 0) (getD y′ k 0) ∷ []) (sym (d .answer) ∙ t) .1 .0 in
               (h, rw (u .0, u .1) at c)
           here z (no l) = s .passed k (omega arith) z
 
@@ -277,20 +277,20 @@ module _ (m : List ℕ) (p k : ℕ) where
   no-offers n = sum-zero (word m 6) _ (λ j h. offer-other m (k + 1) j (n j h) p)
 
   module _ (n : (i : ℕ) → i < word m 7 → word m (240 + 6 * i + 3) ≡ p → word m (240 + 6 * i + 1) ≡ k + 1 → ⊥) where
-    no-share : (way i : ℕ) → i < word m 7 → orderShare m (k + 1) way i p ≡ 0
-    no-share way i h = go (ℕ-discrete (word m (240 + 6 * i + 3)) p)
+    no-share : (direction i : ℕ) → i < word m 7 → orderShare m (k + 1) direction i p ≡ 0
+    no-share direction i h = go (ℕ-discrete (word m (240 + 6 * i + 3)) p)
       where
-        go : Dec (word m (240 + 6 * i + 3) ≡ p) → orderShare m (k + 1) way i p ≡ 0
-        go (yes e) = share-other m (k + 1) way i (n i h e) p
-        go (no e) = share-apart m (k + 1) way i p e
+        go : Dec (word m (240 + 6 * i + 3) ≡ p) → orderShare m (k + 1) direction i p ≡ 0
+        go (yes e) = share-other m (k + 1) direction i (n i h e) p
+        go (no e) = share-apart m (k + 1) direction i p e
 
     no-raising : ordersRaise m p k ≡ 0
     unfolding ordersRaise orderRaises
-    no-raising = sum-zero (word m 7) _ (λ i h. no-share (raisingWay m k) i h)
+    no-raising = sum-zero (word m 7) _ (λ i h. no-share (raisingDirection m k) i h)
 
     no-lowering : ordersLower m p k ≡ 0
     unfolding ordersLower orderLowers
-    no-lowering = sum-zero (word m 7) _ (λ i h. no-share (1 - raisingWay m k) i h)
+    no-lowering = sum-zero (word m 7) _ (λ i h. no-share (1 - raisingDirection m k) i h)
 
 -- at first nothing waits
 pub none-zeros : NoneWaits (replicate 64 0) (replicate 64 0)

@@ -68,28 +68,28 @@ placed n l k q f h s e z = record { long = length-set l _ _; each = λ i b. each
     grown i (no w) = rw (getD-set-other l k i (getD l k 0 + q) 0 w) (omega arith)
 
 -- the share of an order, by cases
-module _ (m : List ℕ) (u way k : ℕ) where
-  pub share-other : (word m (240 + 6 * k + 1) ≡ u → ⊥) → (p : ℕ) → orderShare m u way k p ≡ 0
+module _ (m : List ℕ) (u direction k : ℕ) where
+  pub share-other : (word m (240 + 6 * k + 1) ≡ u → ⊥) → (p : ℕ) → orderShare m u direction k p ≡ 0
   unfolding orderShare
   share-other n p = rw (ne-eqb _ _ n)
 
-  pub share-against : (word m (240 + 6 * k + 2) ≡ way → ⊥) → (p : ℕ) → orderShare m u way k p ≡ 0
+  pub share-against : (word m (240 + 6 * k + 2) ≡ direction → ⊥) → (p : ℕ) → orderShare m u direction k p ≡ 0
   unfolding orderShare
   share-against n p =
-      rw (and-right-false (eqb (word m (240 + 6 * k + 1)) u && eqb (word m (240 + 6 * k + 3)) p) (eqb (word m (240 + 6 * k + 2)) way) (ne-eqb _ _ n))
+      rw (and-right-false (eqb (word m (240 + 6 * k + 1)) u && eqb (word m (240 + 6 * k + 3)) p) (eqb (word m (240 + 6 * k + 2)) direction) (ne-eqb _ _ n))
 
-  module _ (e : word m (240 + 6 * k + 1) ≡ u) (f : word m (240 + 6 * k + 2) ≡ way) where
-    pub share-there : (p : ℕ) → word m (240 + 6 * k + 3) ≡ p → orderShare m u way k p ≡ word m (240 + 6 * k + 5)
+  module _ (e : word m (240 + 6 * k + 1) ≡ u) (f : word m (240 + 6 * k + 2) ≡ direction) where
+    pub share-there : (p : ℕ) → word m (240 + 6 * k + 3) ≡ p → orderShare m u direction k p ≡ word m (240 + 6 * k + 5)
     unfolding orderShare
     share-there p q = rw (eq-eqb _ _ e, eq-eqb _ _ f, eq-eqb _ _ q)
 
-    pub share-elsewhere : (p : ℕ) → (word m (240 + 6 * k + 3) ≡ p → ⊥) → orderShare m u way k p ≡ 0
+    pub share-elsewhere : (p : ℕ) → (word m (240 + 6 * k + 3) ≡ p → ⊥) → orderShare m u direction k p ≡ 0
     unfolding orderShare
     share-elsewhere p q = rw (eq-eqb _ _ e, ne-eqb _ _ q)
 
     pub order-added : (n : ℕ) (l : List ℕ) → word m (240 + 6 * k + 3) < length l → word m (240 + 6 * k + 5) ≤ mostEnergy
-        → Added n l (set l (word m (240 + 6 * k + 3)) (getD l (word m (240 + 6 * k + 3)) 0 + word m (240 + 6 * k + 5))) (orderShare m u way k) mostEnergy
-    order-added n l h s = placed n l (word m (240 + 6 * k + 3)) (word m (240 + 6 * k + 5)) (orderShare m u way k) h s (share-there _ refl)
+        → Added n l (set l (word m (240 + 6 * k + 3)) (getD l (word m (240 + 6 * k + 3)) 0 + word m (240 + 6 * k + 5))) (orderShare m u direction k) mostEnergy
+    order-added n l h s = placed n l (word m (240 + 6 * k + 3)) (word m (240 + 6 * k + 5)) (orderShare m u direction k) h s (share-there _ refl)
         (λ p w. share-elsewhere p (λ z. w (sym z)))
 
 -- the periods below p have f added, the others not yet

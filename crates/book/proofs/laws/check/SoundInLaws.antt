@@ -14,11 +14,11 @@ use Rattle.measures.proofs.RangeLaws.{In}
 use Rattle.limits.specs.Units.{periods, kindIn, capacityIn, assetIn}
 use Rattle.book.specs.Book.{Figures, EnrolledUnit, Book, rollingPhase, unitOf}
 use Rattle.book.specs.Fit.{unitFits}
-use Rattle.book.specs.Sound.{headIn, unitIn, offerIn, orderIn, numbersDiffer, oneWay, apart, eachTwo, sound}
+use Rattle.book.specs.Sound.{headIn, unitIn, offerIn, orderIn, numbersDiffer, oneDirection, apart, eachTwo, sound}
 use Rattle.book.specs.Opening.{bookWords}
 use Rattle.book.specs.Layout.{word, figuresAt, unitAt, decode, enough}
 use Rattle.book.specs.Contract.{soundIn}
-use Rattle.book.specs.inner.Readable.{Readable, Ranged, unitFieldsIn, unitsFieldsIn, waysIn, unitWhole, unitsWhole, pairsFit}
+use Rattle.book.specs.inner.Readable.{Readable, Ranged, unitFieldsIn, unitsFieldsIn, marksIn, unitWhole, unitsWhole, pairsFit}
 use Rattle.book.proofs.laws.memory.RangeFacts.{Head, head-facts, head-holds, readable, units-held, unit-at}
 use Rattle.book.proofs.laws.check.MisfitLaws.{zeros-at}
 
@@ -27,14 +27,14 @@ module _ (m : List ℕ) (k : ℕ) (h : k < word m 5) where
   at : unitOf (decode m) (k + 1) ≡ unitAt m (word m 0) k
   at = unit-at m (k + 1) (omega arith, omega arith) ∙ ap (unitAt m (word m 0)) (omega arith)
 
-  pub unit-parts : unitIn (word m 0) (unitAt m (word m 0) k) ≡ true → (unitFieldsIn m k ≡ true) × (waysIn (decode m) (k + 1) ≡ true)
-  unfolding unitIn unitFieldsIn waysIn
+  pub unit-parts : unitIn (word m 0) (unitAt m (word m 0) k) ≡ true → (unitFieldsIn m k ≡ true) × (marksIn (decode m) (k + 1) ≡ true)
+  unfolding unitIn unitFieldsIn marksIn
   unit-parts e =
       let t = all-true _ e in
-      (holds-all _ (t .0, (t .1 .0, (t .1 .1 .0, tt))), ap (λ (u : EnrolledUnit). every (λ (f : Figures). leb (f .way) 2) (u .figures)) at ∙ t .1 .1 .1 .1 .0)
+      (holds-all _ (t .0, (t .1 .0, (t .1 .1 .0, tt))), ap (λ (u : EnrolledUnit). every (λ (f : Figures). leb (f .mark) 3) (u .figures)) at ∙ t .1 .1 .1 .1 .0)
 
-  pub unit-joined : unitFieldsIn m k ≡ true → waysIn (decode m) (k + 1) ≡ true → unitIn (word m 0) (unitAt m (word m 0) k) ≡ true
-  unfolding unitIn unitFieldsIn waysIn
+  pub unit-joined : unitFieldsIn m k ≡ true → marksIn (decode m) (k + 1) ≡ true → unitIn (word m 0) (unitAt m (word m 0) k) ≡ true
+  unfolding unitIn unitFieldsIn marksIn
   unit-joined e w =
       let t = all-true _ e in
       holds-all _ (
@@ -45,7 +45,7 @@ module _ (m : List ℕ) (k : ℕ) (h : k < word m 5) where
             t .1 .1 .0,
             (
               eq-eqb _ _ (table-length _ _),
-              (sym (ap (λ (u : EnrolledUnit). every (λ (f : Figures). leb (f .way) 2) (u .figures)) at) ∙ w, tt),
+              (sym (ap (λ (u : EnrolledUnit). every (λ (f : Figures). leb (f .mark) 3) (u .figures)) at) ∙ w, tt),
             ),
           ),
         ),
@@ -62,7 +62,7 @@ pub record SoundWords (m : List ℕ) : Type 0 where
   pub pairs : pairsFit (word m 3) (decode m .orders) ≡ true
   pub whole : unitsWhole (decode m) ≡ true
 
-units-every : (m : List ℕ) → every (unitIn (decode m .days)) (decode m .units) ≡ all (word m 5) (λ k. unitIn (word m 0) (unitAt m (word m 0) k))
+units-every : (m : List ℕ) → every (unitIn (decode m .rules .days)) (decode m .units) ≡ all (word m 5) (λ k. unitIn (word m 0) (unitAt m (word m 0) k))
 unfolding decode
 units-every m = every-table (unitIn (word m 0)) (word m 5) (unitAt m (word m 0))
 
@@ -76,7 +76,7 @@ sound-words m e =
     let t = all-true _ (and-right (enough m) (sound (decode m)) e) in
     let us : all (word m 5) (λ k. unitIn (word m 0) (unitAt m (word m 0) k)) ≡ true = sym (units-every m) ∙ t .1 .0 in
     let part : (k : ℕ) → k < word m 5 → (unitFieldsIn m k ≡ true)
-    × (waysIn (decode m) (k + 1) ≡ true) = λ k h. unit-parts m k h (all-at (word m 5) (λ i. unitIn (word m 0) (unitAt m (word m 0) i)) k us h) in
+    × (marksIn (decode m) (k + 1) ≡ true) = λ k h. unit-parts m k h (all-at (word m 5) (λ i. unitIn (word m 0) (unitAt m (word m 0) i)) k us h) in
     record {
       long = leb-true _ _ (and-left (enough m) (sound (decode m)) e);
       head = t .0;
@@ -84,23 +84,23 @@ sound-words m e =
       offers = t .1 .1 .0;
       orders = t .1 .1 .1 .0;
       numbers = t .1 .1 .1 .1 .0;
-      pairs = and-true (eachTwo oneWay (decode m .orders)) _ (t .1 .1 .1 .1 .1 .0) (rw (phase-held m) at (t .1 .1 .1 .1 .1 .1 .0));
-      whole = all-by (length (decode m .units)) (λ k. waysIn (decode m) (k + 1) && unitFits (decode m) (k + 1))
-          (λ k h. and-true (waysIn (decode m) (k + 1)) (unitFits (decode m) (k + 1)) (part k (rw (units-held m) at h) .1)
+      pairs = and-true (eachTwo oneDirection (decode m .orders)) _ (t .1 .1 .1 .1 .1 .0) (rw (phase-held m) at (t .1 .1 .1 .1 .1 .1 .0));
+      whole = all-by (length (decode m .units)) (λ k. marksIn (decode m) (k + 1) && unitFits (decode m) (k + 1))
+          (λ k h. and-true (marksIn (decode m) (k + 1)) (unitFits (decode m) (k + 1)) (part k (rw (units-held m) at h) .1)
           (all-at (length (decode m .units)) (λ i. unitFits (decode m) (i + 1)) k (t .1 .1 .1 .1 .1 .1 .1 .0) h));
     }
 
 pub sound-joined : (m : List ℕ) → SoundWords m → soundIn m ≡ true
 unfolding soundIn sound pairsFit unitsWhole unitWhole
 sound-joined m s =
-    let fit : (k : ℕ) → k < length (decode m .units) → (waysIn (decode m) (k + 1) && unitFits (decode m) (k + 1))
-    ≡ true = λ k h. all-at (length (decode m .units)) (λ i. waysIn (decode m) (i + 1) && unitFits (decode m) (i + 1)) k (s .whole) h in
+    let fit : (k : ℕ) → k < length (decode m .units) → (marksIn (decode m) (k + 1) && unitFits (decode m) (k + 1))
+    ≡ true = λ k h. all-at (length (decode m .units)) (λ i. marksIn (decode m) (i + 1) && unitFits (decode m) (i + 1)) k (s .whole) h in
     and-true (enough m) (sound (decode m)) (le-leb _ _ (s .long))
     (holds-all _ (
       s .head,
       (
         units-every m ∙ all-by (word m 5) _ (λ k h. unit-joined m k h (all-at (word m 5) (unitFieldsIn m) k (s .units) h)
-            (and-left (waysIn (decode m) (k + 1)) (unitFits (decode m) (k + 1)) (fit k (rw (units-held m) h)))),
+            (and-left (marksIn (decode m) (k + 1)) (unitFits (decode m) (k + 1)) (fit k (rw (units-held m) h)))),
         (
           s .offers,
           (
@@ -108,10 +108,10 @@ sound-joined m s =
             (
               s .numbers,
               (
-                and-left (eachTwo oneWay (decode m .orders)) (not (eqb (word m 3) 1) || eachTwo apart (decode m .orders)) (s .pairs),
+                and-left (eachTwo oneDirection (decode m .orders)) (not (eqb (word m 3) 1) || eachTwo apart (decode m .orders)) (s .pairs),
                 (
-                  rw (phase-held m) (and-right (eachTwo oneWay (decode m .orders)) (not (eqb (word m 3) 1) || eachTwo apart (decode m .orders)) (s .pairs)),
-                  (all-by (length (decode m .units)) _ (λ k h. and-right (waysIn (decode m) (k + 1)) (unitFits (decode m) (k + 1)) (fit k h)), tt),
+                  rw (phase-held m) (and-right (eachTwo oneDirection (decode m .orders)) (not (eqb (word m 3) 1) || eachTwo apart (decode m .orders)) (s .pairs)),
+                  (all-by (length (decode m .units)) _ (λ k h. and-right (marksIn (decode m) (k + 1)) (unitFits (decode m) (k + 1)) (fit k h)), tt),
                 ),
               ),
             ),

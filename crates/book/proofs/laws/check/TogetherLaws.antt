@@ -14,7 +14,7 @@ use Rattle.measures.proofs.ListLaws.{both-ways, false-by, not-both, all-true, h
 use Rattle.limits.specs.Units.{periods}
 use Rattle.matching.specs.Orders.{Order as OpenOrder}
 use Rattle.matching.specs.Memory.{orderAt, ordersIn}
-use Rattle.book.specs.Sound.{oneWay, apart}
+use Rattle.book.specs.Sound.{oneDirection, apart}
 use Rattle.book.specs.Layout.{word, ordersPart, decode}
 use Rattle.book.specs.inner.Readable.{Ranged, pairFits, pairsFit}
 use Rattle.book.specs.inner.Whole.{Latest, Alike, highWith, lowWith, Prices, crossless, Priced, pairsBefore, OrderStands}
@@ -22,9 +22,9 @@ use Rattle.book.proofs.laws.memory.RangeFacts.{order-word}
 use Rattle.book.proofs.laws.check.ShareLaws.{order-words}
 use Rattle.book.proofs.laws.check.MisfitLaws.{zeros-at}
 use Rattle.book.proofs.laws.check.PairLaws.{
-  OneWay,
-  one-way-holds,
-  one-way-fact,
+  OneDirection,
+  one-direction-holds,
+  one-direction-fact,
   Apart,
   apart-holds,
   apart-fact,
@@ -43,20 +43,20 @@ field m k i h l = order-word m (6 * k + i) (omega arith) ∙ ap (word m) (omega 
 
 -- two orders, by their words
 module _ (m : List ℕ) (a b : ℕ) (ha : a < 256) (hb : b < 256) where
-  way-holds : (word m (240 + 6 * a + 1) ≡ word m (240 + 6 * b + 1) → word m (240 + 6 * a + 3) ≡ word m (240 + 6 * b + 3) → word m (240 + 6 * a + 2)
+  direction-holds : (word m (240 + 6 * a + 1) ≡ word m (240 + 6 * b + 1) → word m (240 + 6 * a + 3) ≡ word m (240 + 6 * b + 3) → word m (240 + 6 * a + 2)
       ≡ word m (240 + 6 * b + 2))
-      → oneWay (orderIn m a) (orderIn m b) ≡ true
-  way-holds f =
-      one-way-holds (orderIn m a) (orderIn m b)
+      → oneDirection (orderIn m a) (orderIn m b) ≡ true
+  direction-holds f =
+      one-direction-holds (orderIn m a) (orderIn m b)
       (λ u p. field m a 2 ha (omega arith) ∙ f (sym (field m a 1 ha (omega arith)) ∙ u ∙ field m b 1 hb (omega arith)) (sym (field m a 3 ha (omega arith))
       ∙ p ∙ field m b 3 hb (omega arith)) ∙ sym (field m b 2 hb (omega arith)))
 
-  way-fact : oneWay (orderIn m a) (orderIn m b) ≡ true → word m (240 + 6 * a + 1) ≡ word m (240 + 6 * b + 1) → word m (240 + 6 * a + 3)
+  direction-fact : oneDirection (orderIn m a) (orderIn m b) ≡ true → word m (240 + 6 * a + 1) ≡ word m (240 + 6 * b + 1) → word m (240 + 6 * a + 3)
       ≡ word m (240 + 6 * b + 3)
       → word m (240 + 6 * a + 2) ≡ word m (240 + 6 * b + 2)
-  way-fact e u p =
+  direction-fact e u p =
       sym (field m a 2 ha (omega arith))
-      ∙ one-way-fact (orderIn m a) (orderIn m b) e (field m a 1 ha (omega arith) ∙ u ∙ sym (field m b 1 hb (omega arith))) (field m a 3 ha (omega arith) ∙ p
+      ∙ one-direction-fact (orderIn m a) (orderIn m b) e (field m a 1 ha (omega arith) ∙ u ∙ sym (field m b 1 hb (omega arith))) (field m a 3 ha (omega arith) ∙ p
       ∙ sym (field m b 3 hb (omega arith)))
       ∙ field m b 2 hb (omega arith)
 
@@ -153,8 +153,8 @@ module _ (m : List ℕ) (k : ℕ) where
 
 -- the order at place k beside one of its unit and period, or none
 module _ (m : List ℕ) (k : ℕ) (hk : k < 256) where
-  pub way-alone : (t : ℕ) → t ≡ 0 → Alike m k t → true ≡ all k (λ j. oneWay (orderIn m k) (orderIn m j))
-  way-alone t e al = sym (all-by k _ (λ j l. way-holds m k j hk (omega arith) (λ u p. absurd (al .none e j l (sym u) (sym p)))))
+  pub direction-alone : (t : ℕ) → t ≡ 0 → Alike m k t → true ≡ all k (λ j. oneDirection (orderIn m k) (orderIn m j))
+  direction-alone t e al = sym (all-by k _ (λ j l. direction-holds m k j hk (omega arith) (λ u p. absurd (al .none e j l (sym u) (sym p)))))
 
   module _ (t : ℕ) (some : t ≡ 0 → ⊥) (al : Alike m k t) where
     place : (0 < t) × (t - 1 < k)
@@ -164,23 +164,23 @@ module _ (m : List ℕ) (k : ℕ) (hk : k < 256) where
         go (yes h) = let z = al .to in (h, omega arith)
         go (no h) = absurd (some (omega arith))
 
-    way-other : (word m (240 + 6 * (t - 1) + 2) ≡ word m (240 + 6 * k + 2) → ⊥) → false ≡ all k (λ j. oneWay (orderIn m k) (orderIn m j))
-    way-other n =
+    direction-other : (word m (240 + 6 * (t - 1) + 2) ≡ word m (240 + 6 * k + 2) → ⊥) → false ≡ all k (λ j. oneDirection (orderIn m k) (orderIn m j))
+    direction-other n =
         let h = place in
-        sym (all-fails k (λ j. oneWay (orderIn m k) (orderIn m j)) (t - 1) (h .1)
-        (false-by _ (λ e. n (sym (way-fact m k (t - 1) hk (omega arith) e (sym (al .unit (h .0))) (sym (al .period (h .0))))))))
+        sym (all-fails k (λ j. oneDirection (orderIn m k) (orderIn m j)) (t - 1) (h .1)
+        (false-by _ (λ e. n (sym (direction-fact m k (t - 1) hk (omega arith) e (sym (al .unit (h .0))) (sym (al .period (h .0))))))))
 
     -- those before go one way, so the one found stands for all
-    way-same : pairsBefore m k ≡ true → word m (240 + 6 * (t - 1) + 2) ≡ word m (240 + 6 * k + 2) → true ≡ all k (λ j. oneWay (orderIn m k) (orderIn m j))
+    direction-same : pairsBefore m k ≡ true → word m (240 + 6 * (t - 1) + 2) ≡ word m (240 + 6 * k + 2) → true ≡ all k (λ j. oneDirection (orderIn m k) (orderIn m j))
     unfolding pairsBefore
-    way-same pb e = sym (all-by k _ (λ j l. way-holds m k j hk (omega arith) (λ u p. sym (dirs j l (sym u) (sym p)))))
+    direction-same pb e = sym (all-by k _ (λ j l. direction-holds m k j hk (omega arith) (λ u p. sym (dirs j l (sym u) (sym p)))))
       where
-        pair : (i j : ℕ) → i < k → j < i → oneWay (orderIn m i) (orderIn m j) ≡ true
+        pair : (i j : ℕ) → i < k → j < i → oneDirection (orderIn m i) (orderIn m j) ≡ true
         pair i j h l =
-            one-way-holds (orderIn m i) (orderIn m j)
+            one-direction-holds (orderIn m i) (orderIn m j)
             (pair-fact (word m 3) (orderIn m i) (orderIn m j)
             (all-at i (λ x. pairFits (word m 3) (orderIn m i) (orderIn m x)) j
-            (all-at k (λ y. all y (λ x. pairFits (word m 3) (orderIn m y) (orderIn m x))) i pb h) l) .way)
+            (all-at k (λ y. all y (λ x. pairFits (word m 3) (orderIn m y) (orderIn m x))) i pb h) l) .direction)
 
         dirs : (j : ℕ) → j < k → word m (240 + 6 * j + 1) ≡ word m (240 + 6 * k + 1) → word m (240 + 6 * j + 3) ≡ word m (240 + 6 * k + 3)
             → word m (240 + 6 * j + 2) ≡ word m (240 + 6 * k + 2)
@@ -189,19 +189,19 @@ module _ (m : List ℕ) (k : ℕ) (hk : k < 256) where
             go : Dec (j < t - 1) → Dec (t - 1 < j) → word m (240 + 6 * j + 2) ≡ word m (240 + 6 * k + 2)
             go (yes a) b =
                 let h = place in
-                sym (way-fact m (t - 1) j (omega arith) (omega arith) (pair (t - 1) j (h .1) a) (al .unit (h .0) ∙ sym u) (al .period (h .0) ∙ sym p)) ∙ e
+                sym (direction-fact m (t - 1) j (omega arith) (omega arith) (pair (t - 1) j (h .1) a) (al .unit (h .0) ∙ sym u) (al .period (h .0) ∙ sym p)) ∙ e
             go (no a) (yes b) =
                 let h = place in
-                way-fact m j (t - 1) (omega arith) (omega arith) (pair j (t - 1) l b) (u ∙ sym (al .unit (h .0))) (p ∙ sym (al .period (h .0))) ∙ e
+                direction-fact m j (t - 1) (omega arith) (omega arith) (pair j (t - 1) l b) (u ∙ sym (al .unit (h .0))) (p ∙ sym (al .period (h .0))) ∙ e
             go (no a) (no b) = let q : j ≡ t - 1 = omega arith in ap (λ (i : ℕ). word m (240 + 6 * i + 2)) q ∙ e
 
-    pub way-tested : pairsBefore m k ≡ true → eqb (word m (240 + 6 * (t - 1) + 2)) (word m (240 + 6 * k + 2))
-        ≡ all k (λ j. oneWay (orderIn m k) (orderIn m j))
-    way-tested pb = go (eqb (word m (240 + 6 * (t - 1) + 2)) (word m (240 + 6 * k + 2))) refl
+    pub direction-tested : pairsBefore m k ≡ true → eqb (word m (240 + 6 * (t - 1) + 2)) (word m (240 + 6 * k + 2))
+        ≡ all k (λ j. oneDirection (orderIn m k) (orderIn m j))
+    direction-tested pb = go (eqb (word m (240 + 6 * (t - 1) + 2)) (word m (240 + 6 * k + 2))) refl
       where
-        go : (b : Bool) → eqb (word m (240 + 6 * (t - 1) + 2)) (word m (240 + 6 * k + 2)) ≡ b → b ≡ all k (λ j. oneWay (orderIn m k) (orderIn m j))
-        go true e = way-same pb (eqb-true _ _ e)
-        go false e = way-other (eqb-false _ _ e)
+        go : (b : Bool) → eqb (word m (240 + 6 * (t - 1) + 2)) (word m (240 + 6 * k + 2)) ≡ b → b ≡ all k (λ j. oneDirection (orderIn m k) (orderIn m j))
+        go true e = direction-same pb (eqb-true _ _ e)
+        go false e = direction-other (eqb-false _ _ e)
 
 -- an order's price entered, by cases
 module _ (d p price : ℕ) (l : List ℕ) where
@@ -396,22 +396,22 @@ not-priced m k high low e = record { answer = e; entered = λ z. both-ways (sym 
 
 -- an order that stands, or does not
 module _ (m : List ℕ) (k : ℕ) (high low : List ℕ) where
-  pub stands-not : (r : Bool) → r ≡ all k (λ j. oneWay (orderIn m k) (orderIn m j)) → r ≡ false → OrderStands m k false high low
+  pub stands-not : (r : Bool) → r ≡ all k (λ j. oneDirection (orderIn m k) (orderIn m j)) → r ≡ false → OrderStands m k false high low
   stands-not r e f =
       record {
-        answer = sym (false-by _ (λ t. not-both _ (all-by k (λ j. oneWay (orderIn m k) (orderIn m j))
-            (λ j h. one-way-holds (orderIn m k) (orderIn m j)
-            (pair-fact (word m 3) (orderIn m k) (orderIn m j) (all-at k (λ i. pairFits (word m 3) (orderIn m k) (orderIn m i)) j t h) .way))) (sym e ∙ f)));
+        answer = sym (false-by _ (λ t. not-both _ (all-by k (λ j. oneDirection (orderIn m k) (orderIn m j))
+            (λ j h. one-direction-holds (orderIn m k) (orderIn m j)
+            (pair-fact (word m 3) (orderIn m k) (orderIn m j) (all-at k (λ i. pairFits (word m 3) (orderIn m k) (orderIn m i)) j t h) .direction))) (sym e ∙ f)));
         entered = λ z. both-ways (sym z);
       }
 
-  pub stands-called : (r : Bool) → r ≡ all k (λ j. oneWay (orderIn m k) (orderIn m j)) → r ≡ true → (word m 3 ≡ 1 → ⊥) → OrderStands m k true high low
+  pub stands-called : (r : Bool) → r ≡ all k (λ j. oneDirection (orderIn m k) (orderIn m j)) → r ≡ true → (word m 3 ≡ 1 → ⊥) → OrderStands m k true high low
   stands-called r e t n =
       record {
         answer = sym (all-by k (λ j. pairFits (word m 3) (orderIn m k) (orderIn m j))
             (λ j h. pair-holds (word m 3) (orderIn m k) (orderIn m j)
             (record {
-              way = one-way-fact (orderIn m k) (orderIn m j) (all-at k (λ i. oneWay (orderIn m k) (orderIn m i)) j (sym e ∙ t) h);
+              direction = one-direction-fact (orderIn m k) (orderIn m j) (all-at k (λ i. oneDirection (orderIn m k) (orderIn m i)) j (sym e ∙ t) h);
               buy = λ z. absurd
                   (n z);
               sale = λ z. absurd (n z);
@@ -419,7 +419,7 @@ module _ (m : List ℕ) (k : ℕ) (high low : List ℕ) where
         entered = λ z y. absurd (n y);
       }
 
-  pub stands-rolling : (r q : Bool) → r ≡ all k (λ j. oneWay (orderIn m k) (orderIn m j)) → r ≡ true → word m 3 ≡ 1 → Priced m k q high low
+  pub stands-rolling : (r q : Bool) → r ≡ all k (λ j. oneDirection (orderIn m k) (orderIn m j)) → r ≡ true → word m 3 ≡ 1 → Priced m k q high low
       → OrderStands m k q high low
   unfolding pairFits holds
   stands-rolling r q e t y d =
@@ -428,7 +428,7 @@ module _ (m : List ℕ) (k : ℕ) (high low : List ℕ) where
         entered = λ z x. d .entered z;
       }
     where
-      both : (j : ℕ) → oneWay (orderIn m k) (orderIn m j) ≡ true → holds (apart (orderIn m k) (orderIn m j) ∷ apart (orderIn m j) (orderIn m k) ∷ [])
+      both : (j : ℕ) → oneDirection (orderIn m k) (orderIn m j) ≡ true → holds (apart (orderIn m k) (orderIn m j) ∷ apart (orderIn m j) (orderIn m k) ∷ [])
           ≡ pairFits (word m 3) (orderIn m k) (orderIn m j)
       both j w = rw (w, eq-eqb (word m 3) 1 y) (go (apart (orderIn m k) (orderIn m j)) (apart (orderIn m j) (orderIn m k)))
         where

@@ -38,10 +38,10 @@ use Rattle.book.specs.Trades.{raises, lowers}
 use Rattle.book.specs.Fit.{nothing, openRaising, openLowering}
 use Rattle.book.specs.Layout.{word, decode}
 use Rattle.book.specs.inner.Readable.{Ranged, unitWhole, unitsWhole}
-use Rattle.book.specs.inner.Fitting.{Below, Added, orderShare, offerShare, wayHolds, hourHolds, termPart, volumePart, termAt, volumeAt, periodMisfit}
+use Rattle.book.specs.inner.Fitting.{Below, Added, orderShare, offerShare, markHolds, hourHolds, termPart, volumePart, termAt, volumeAt, periodMisfit}
 use Rattle.book.specs.inner.Whole.{
   Latest,
-  raisingWay,
+  raisingDirection,
   orderRaises,
   orderLowers,
   offersRaise,
@@ -60,28 +60,28 @@ use Rattle.book.proofs.laws.memory.RangeFacts.{kind-at}
 use Rattle.book.proofs.laws.check.ShareLaws.{added-none, added-more, Adding, adding-none, adding-more, adding-ends}
 use Rattle.book.proofs.laws.check.MisfitLaws.{zeros-at}
 use Rattle.book.proofs.laws.check.PeriodLaws.{period-passed, period-failed, hour-small, volume-at-most}
-use Rattle.book.proofs.laws.check.JoinLaws.{raises-by, lowers-by, way-other, orders-open, offers-open, whole-is}
+use Rattle.book.proofs.laws.check.JoinLaws.{raises-by, lowers-by, direction-other, orders-open, offers-open, whole-is}
 use Rattle.book.proofs.laws.check.LinkedLaws.{sum-rest, share-apart}
 use Rattle.book.proofs.laws.check.SoundInLaws.{units-by-places}
 
 -- a cell, by cases
 module _ (m : List ℕ) (p k : ℕ) where
-  pub cell-misfit : (r : ℕ) → r ≡ periodMisfit (wayHolds m k p) (hourHolds m k p 0 0) → 0 < r → false ≡ cellHolds m p k 0 0
+  pub cell-misfit : (r : ℕ) → r ≡ periodMisfit (markHolds m k p) (hourHolds m k p 0 0) → 0 < r → false ≡ cellHolds m p k 0 0
   unfolding cellHolds
   cell-misfit r e h =
       sym (false-by _ (λ t.
-      let u = all-true (wayHolds m k p ∷ hourHolds m k p 0 0 ∷ leb (word m (1779 + 328 * p + 5 * k)) 4_800_000_000 ∷ []) t in
+      let u = all-true (markHolds m k p ∷ hourHolds m k p 0 0 ∷ leb (word m (1779 + 328 * p + 5 * k)) 4_800_000_000 ∷ []) t in
       period-failed _ _ r e h (u .0) (u .1 .0)))
 
   pub cell-over : 4_800_000_000 < word m (1779 + 328 * p + 5 * k) → false ≡ cellHolds m p k 0 0
   unfolding cellHolds
-  cell-over h = sym (false-by _ (λ t. not-both _ (all-true (wayHolds m k p ∷ hourHolds m k p 0 0 ∷ leb (word m (1779 + 328 * p + 5 * k)) 4_800_000_000
+  cell-over h = sym (false-by _ (λ t. not-both _ (all-true (markHolds m k p ∷ hourHolds m k p 0 0 ∷ leb (word m (1779 + 328 * p + 5 * k)) 4_800_000_000
       ∷ []) t .1 .1 .0) (lt-leb _ _ h)))
 
   pub cell-refused : (w v w′ v′ : List ℕ) → false ≡ cellHolds m p k 0 0 → CellDone m p k w v false w′ v′
   cell-refused w v w′ v′ e = record { answer = e; whole = λ z. both-ways (sym z); volume = λ z. both-ways (sym z) }
 
-  pub cell-passed : (r : ℕ) → r ≡ periodMisfit (wayHolds m k p) (hourHolds m k p 0 0) → r ≤ 0 → word m (1779 + 328 * p + 5 * k) ≤ 4_800_000_000
+  pub cell-passed : (r : ℕ) → r ≡ periodMisfit (markHolds m k p) (hourHolds m k p 0 0) → r ≤ 0 → word m (1779 + 328 * p + 5 * k) ≤ 4_800_000_000
       → (w v : List ℕ)
       → CellDone m p k w v true (set w k (getD w k 0 + (word m (1776 + 328 * p + 5 * k) + word m (1777 + 328 * p + 5 * k))))
       (set v k (getD v k 0 + word m (1779 + 328 * p + 5 * k)))
@@ -89,7 +89,7 @@ module _ (m : List ℕ) (p k : ℕ) where
   cell-passed r e h b w v =
       let t = period-passed _ _ r e h in
       record {
-        answer = sym (holds-all (wayHolds m k p ∷ hourHolds m k p 0 0 ∷ leb (word m (1779 + 328 * p + 5 * k)) 4_800_000_000
+        answer = sym (holds-all (markHolds m k p ∷ hourHolds m k p 0 0 ∷ leb (word m (1779 + 328 * p + 5 * k)) 4_800_000_000
             ∷ []) (t .0, (t .1, (le-leb _ _ b, tt))));
         whole = λ z. ap (λ (n : ℕ). set w k n) (omega arith);
         volume = λ z. ap (λ (n : ℕ). set v k n) (omega arith);
@@ -98,9 +98,9 @@ module _ (m : List ℕ) (p k : ℕ) where
 -- a cell that passes
 module _ (m : List ℕ) (p k x y : ℕ) where
   module _ (c : cellHolds m p k x y ≡ true) where
-    pub cell-way : wayHolds m k p ≡ true
+    pub cell-mark : markHolds m k p ≡ true
     unfolding cellHolds
-    cell-way = all-true _ c .0
+    cell-mark = all-true _ c .0
 
     pub cell-hour : hourHolds m k p x y ≡ true
     unfolding cellHolds
@@ -120,9 +120,9 @@ module _ (m : List ℕ) (g : Ranged m) (p k x y : ℕ) (h : k < word m 5) (c : c
   unfolding volumePart
   cell-most a b = let v = cell-volume m p k x y c in omega arith
 
-pub cell-little : (m : List ℕ) → Ranged m → (p k : ℕ) → k < word m 5 → (r : ℕ) → r ≡ periodMisfit (wayHolds m k p) (hourHolds m k p 0 0) → r ≤ 0
+pub cell-little : (m : List ℕ) → Ranged m → (p k : ℕ) → k < word m 5 → (r : ℕ) → r ≡ periodMisfit (markHolds m k p) (hourHolds m k p 0 0) → r ≤ 0
     → word m (1776 + 328 * p + 5 * k) + (word m (1777 + 328 * p + 5 * k) + 0) ≤ 5_000_000
-cell-little m g p k h r e l = hour-small m k g h p 0 0 (period-passed (wayHolds m k p) (hourHolds m k p 0 0) r e l .1)
+cell-little m g p k h r e l = hour-small m k g h p 0 0 (period-passed (markHolds m k p) (hourHolds m k p 0 0) r e l .1)
 
 -- the units below k have passed in period p
 pub record CellsPast (m : List ℕ) (p : ℕ) (w v w′ v′ : List ℕ) (k : ℕ) : Type 0 where
@@ -203,14 +203,14 @@ module _ (m : List ℕ) (p t : ℕ) (l : Latest m 3 p t (word m 7)) (none : word
   idle-up k =
       let e : word m 6 ≡ 0 = omega arith in
       let a : sum (word m 6) (λ j. offerShare m (k + 1) j p) ≡ 0 = ap (λ (n : ℕ). sum n (λ j. offerShare m (k + 1) j p)) e ∙ sum-none _ in
-      let b = sum-zero (word m 7) (λ i. orderShare m (k + 1) (raisingWay m k) i p)
-      (λ i h. share-apart m (k + 1) (raisingWay m k) i p (l .none i (omega arith) h)) in
+      let b = sum-zero (word m 7) (λ i. orderShare m (k + 1) (raisingDirection m k) i p)
+      (λ i h. share-apart m (k + 1) (raisingDirection m k) i p (l .none i (omega arith) h)) in
       omega arith
 
   pub idle-down : (k : ℕ) → 0 ≡ openDown m p k
   unfolding openDown ordersLower orderLowers
-  idle-down k = sym (sum-zero (word m 7) (λ i. orderShare m (k + 1) (1 - raisingWay m k) i p)
-      (λ i h. share-apart m (k + 1) (1 - raisingWay m k) i p (l .none i (omega arith) h)))
+  idle-down k = sym (sum-zero (word m 7) (λ i. orderShare m (k + 1) (1 - raisingDirection m k) i p)
+      (λ i h. share-apart m (k + 1) (1 - raisingDirection m k) i p (l .none i (omega arith) h)))
 
 -- what is gathered in a period
 module _ (m : List ℕ) (p : ℕ) (z x y x′ y′ : List ℕ) (bz : Below 0 z) (by : Below 0 y) (a : Added 64 z x (offersRaise m p) 32_000_000_000)
@@ -288,25 +288,25 @@ module _ (m : List ℕ) (g : Ranged m) (k : ℕ) (h : k < word m 5) where
   place : k + 1 - 1 ≡ k
   place = omega arith
 
-  way-is : raisingWay m k ≡ cond (generator (unitOf (decode m) (k + 1) .kind)) 0 1
-  unfolding raisingWay
-  way-is = ap (λ (i : ℕ). cond (generator (word m (8 + 3 * i))) 0 1) (sym place) ∙ ap (λ (i : ℕ). cond (generator i) 0 1) (sym (kind-at m (k + 1) known))
+  direction-is : raisingDirection m k ≡ cond (generator (unitOf (decode m) (k + 1) .kind)) 0 1
+  unfolding raisingDirection
+  direction-is = ap (λ (i : ℕ). cond (generator (word m (8 + 3 * i))) 0 1) (sym place) ∙ ap (λ (i : ℕ). cond (generator i) 0 1) (sym (kind-at m (k + 1) known))
 
   up-is : (p : ℕ) → p < periods (word m 0) → openUp m p k ≡ openRaising (decode m) (k + 1) p
   unfolding openUp offersRaise ordersRaise orderRaises openRaising
   up-is p l =
       let few = g .readable .ordersTo in
       let a = offers-open m (k + 1) p l in
-      let b = orders-open m (k + 1) p (raises (unitOf (decode m) (k + 1) .kind)) (raisingWay m k) (λ d. raises-by (unitOf (decode m) (k + 1) .kind) d
-      ∙ ap (eqb d) (sym way-is)) few in
+      let b = orders-open m (k + 1) p (raises (unitOf (decode m) (k + 1) .kind)) (raisingDirection m k) (λ d. raises-by (unitOf (decode m) (k + 1) .kind) d
+      ∙ ap (eqb d) (sym direction-is)) few in
       omega arith
 
   down-is : (p : ℕ) → openDown m p k ≡ openLowering (decode m) (k + 1) p
   unfolding openDown ordersLower orderLowers openLowering
   down-is p =
       let few = g .readable .ordersTo in
-      sym (orders-open m (k + 1) p (lowers (unitOf (decode m) (k + 1) .kind)) (1 - raisingWay m k) (λ d. lowers-by (unitOf (decode m) (k + 1) .kind) d
-      ∙ ap (eqb d) (sym (way-other (generator (unitOf (decode m) (k + 1) .kind)) (raisingWay m k) way-is))) few)
+      sym (orders-open m (k + 1) p (lowers (unitOf (decode m) (k + 1) .kind)) (1 - raisingDirection m k) (λ d. lowers-by (unitOf (decode m) (k + 1) .kind) d
+      ∙ ap (eqb d) (sym (direction-other (generator (unitOf (decode m) (k + 1) .kind)) (raisingDirection m k) direction-is))) few)
 
   abbrev n : ℕ
   n = periods (word m 0)
@@ -332,7 +332,7 @@ module _ (m : List ℕ) (g : Ranged m) (k : ℕ) (h : k < word m 5) where
   abbrev volumes : ℕ → ℕ
   volumes p = volumePart m k p (openUp m p k) (openDown m p k)
 
-  unit-is : unitWhole (decode m) (k + 1) ≡ (all n (wayHolds m k)
+  unit-is : unitWhole (decode m) (k + 1) ≡ (all n (markHolds m k)
       && holds (all n hourTests ∷ leb (sum n terms) (termAt m k) ∷ leb (sum n volumes) (volumeAt m k) ∷ []))
   unit-is =
       let e = whole-is m (k + 1) known ups downs (λ p l. up-at p l ∙ up-is p l) (λ p l. down-at p l ∙ down-is p) in
@@ -347,12 +347,12 @@ module _ (m : List ℕ) (g : Ranged m) (k : ℕ) (h : k < word m 5) where
       → unitWhole (decode m) (k + 1) ≡ true
   unit-whole c t v =
       unit-is
-      ∙ and-true _ _ (all-by n _ (λ p l. cell-way m p k _ _ (c p l)))
+      ∙ and-true _ _ (all-by n _ (λ p l. cell-mark m p k _ _ (c p l)))
       (holds-all _ (all-by n _ (λ p l. cell-hour m p k _ _ (c p l)), (le-leb _ _ t, (le-leb _ _ v, tt))))
 
   module _ (u : unitWhole (decode m) (k + 1) ≡ true) where
-    parts : (all n (wayHolds m k) ≡ true) × (holds (all n hourTests ∷ leb (sum n terms) (termAt m k) ∷ leb (sum n volumes) (volumeAt m k) ∷ []) ≡ true)
-    parts = let e = sym unit-is ∙ u in (and-left (all n (wayHolds m k)) _ e, and-right (all n (wayHolds m k)) _ e)
+    parts : (all n (markHolds m k) ≡ true) × (holds (all n hourTests ∷ leb (sum n terms) (termAt m k) ∷ leb (sum n volumes) (volumeAt m k) ∷ []) ≡ true)
+    parts = let e = sym unit-is ∙ u in (and-left (all n (markHolds m k)) _ e, and-right (all n (markHolds m k)) _ e)
 
     pub unit-term : sum n terms ≤ termAt m k
     unit-term = leb-true _ _ (all-true _ (parts .1) .1 .0)

@@ -123,7 +123,7 @@ module _ (m rows ys rows′ : List ℕ) (count n′ : ℕ) (s : soundIn m ≡ tr
 abbrev noRow : Row
 noRow = record { way = 0; period = 0; seller = 0; buyer = 0; quantity = 0; price = 0 }
 
-days-are : (m : List ℕ) → decode m .days ≡ word m 0
+days-are : (m : List ℕ) → decode m .rules .days ≡ word m 0
 unfolding decode
 days-are m = refl
 
@@ -149,14 +149,14 @@ module _ (m rows x rows′ : List ℕ) (count : ℕ) (s : soundIn m ≡ true) (l
   pub swept-rows : RowsFit x rows′ count
   swept-rows k h =
       let c = w .counted in
-      let i : RowIn (length (decode m .units)) (decode m .days) (getD (clearedAll (decode m) .rows) k noRow) = each-at
-      (RowIn (length (decode m .units)) (decode m .days)) (clearedAll (decode m) .rows) k noRow
+      let i : RowIn (length (decode m .units)) (decode m .rules .days) (getD (clearedAll (decode m) .rows) k noRow) = each-at
+      (RowIn (length (decode m .units)) (decode m .rules .days)) (clearedAll (decode m) .rows) k noRow
       (cleared-rows-in (decode m) (sound-facts (decode m) (sound-book m s))) (omega arith) in
       let t : rowAt rows′ k ≡ getD (clearedAll (decode m) .rows) k noRow = ap (λ (z : List ℕ). rowAt z k) (w .handed)
       ∙ row-written rows (clearedAll (decode m) .rows) k (omega arith) in
       fits (rowAt rows′ k) (getD (clearedAll (decode m) .rows) k noRow) t i
     where
-      fits : (a b : Row) → a ≡ b → RowIn (length (decode m .units)) (decode m .days) b → RowFits x a
+      fits : (a b : Row) → a ≡ b → RowIn (length (decode m .units)) (decode m .rules .days) b → RowFits x a
       fits a b e i =
           let e0 = w .low 0 (omega arith) (omega arith) in
           let e5 = w .low 5 (omega arith) (omega arith) in

@@ -27,7 +27,7 @@ use Rattle.book.proofs.laws.sound.SoundLaws.{OrderRanges, Sound, sound-
 use Rattle.book.proofs.laws.answer.RefusalLaws.{decided-sound}
 use Rattle.book.proofs.laws.sound.FormedLaws.{LessOrder, same-order}
 use Rattle.book.proofs.laws.rows.ExchangedLaws.{exchanged-sound}
-use Rattle.book.proofs.laws.order.LeftLaws.{Far, far-apart, remains-then, less-then, cleared-remain, SameWay, one-way-same, TwoUnits, two-named}
+use Rattle.book.proofs.laws.order.LeftLaws.{Far, far-apart, remains-then, less-then, cleared-remain, SameDirection, one-direction-same, TwoUnits, two-named}
 
 -- two orders of a period below p do not cross
 abbrev pub FarBelow : ℕ → OpenOrder → OpenOrder → Type 0
@@ -38,7 +38,7 @@ pub record ClearedTo (n p : ℕ) (os : List OpenOrder) : Type 0 where
   pub rise : rising (numbers os) ≡ true
   pub units : Each (λ (o : OpenOrder). In 1 n (o .unit)) os
   pub some : Each (λ (o : OpenOrder). 0 < o .quantity) os
-  pub sameWay : Each (λ (x : OpenOrder). Each (SameWay x) os) os
+  pub sameDirection : Each (λ (x : OpenOrder). Each (SameDirection x) os) os
   pub far : Each (λ (x : OpenOrder). Each (FarBelow p x) os) os
 
 pub cleared-next : (n p : ℕ) (os : List OpenOrder) → ClearedTo n p os → ClearedTo n (suc p) (clearPeriod p os .orders)
@@ -47,7 +47,7 @@ cleared-next n p os c =
       rise = numbers-rise-after p os (c .rise);
       units = rests-each p os (λ (o : OpenOrder). In 1 n (o .unit)) (λ o x h l. h) (c .units);
       some = rests-positive p os (c .some);
-      sameWay = rests-two p os SameWay (λ x y q h. h) (λ x y q h. h) (c .sameWay);
+      sameDirection = rests-two p os SameDirection (λ x y q h. h) (λ x y q h. h) (c .sameDirection);
       far = each-has (λ (x : OpenOrder). Each (FarBelow (suc p) x) after) after (λ x hx. each-has (FarBelow (suc p) x) after (λ y hy. far x y hx hy));
     }
   where
@@ -84,7 +84,7 @@ rows-two-units n p os c =
         let t : b .order .direction ≡ 1 = eqb-true _ _ (and-left (buys (b .order .direction)) (eqb (b .order .period) p) (b .buy)) in
         let v : a .order .period ≡ p = eqb-true _ _ (and-right (sells (a .order .direction)) (eqb (a .order .period) p) (a .sale)) in
         let w : b .order .period ≡ p = eqb-true _ _ (and-right (buys (b .order .direction)) (eqb (b .order .period) p) (b .buy)) in
-        let same = has-each (SameWay (a .order)) os (b .order) (has-each (λ (x : OpenOrder). Each (SameWay x) os) os (a .order) (c .sameWay) (a .stands))
+        let same = has-each (SameDirection (a .order)) os (b .order) (has-each (λ (x : OpenOrder). Each (SameDirection x) os) os (a .order) (c .sameDirection) (a .stands))
         (b .stands) in
         let d = same (a .unit ∙ e ∙ sym (b .unit)) (v ∙ sym w) in
         omega arith
@@ -126,17 +126,17 @@ cleared-apart n p os c h =
 -- clear, of a sound book
 module _ (b : Book) (s : Sound b) where
   abbrev after : Cleared
-  after = clearFrom 0 (periods (b .days)) (b .orders)
+  after = clearFrom 0 (periods (b .rules .days)) (b .orders)
 
-  pub clear-clears : ClearsTo (length (b .units)) (periods (b .days)) (b .orders) (after .orders) (after .rows)
+  pub clear-clears : ClearsTo (length (b .units)) (periods (b .rules .days)) (b .orders) (after .orders) (after .rows)
   clear-clears =
-      let i : 0 + periods (b .days) ≡ periods (b .days) = omega arith in
+      let i : 0 + periods (b .rules .days) ≡ periods (b .rules .days) = omega arith in
       let f = s .formed in
-      rw i at (from-clears (length (b .units)) 0 (periods (b .days)) (b .orders) (record {
+      rw i at (from-clears (length (b .units)) 0 (periods (b .rules .days)) (b .orders) (record {
         rise = f .ordersRise;
         units = each-imp (OrderRanges b) (λ (o : OpenOrder). In 1 (length (b .units)) (o .unit)) (λ o r. r .unit) (b .orders) (f .orders);
         some = each-imp (OrderRanges b) (λ (o : OpenOrder). 0 < o .quantity) (λ o r. r .energy .0) (b .orders) (f .orders);
-        sameWay = one-way-same (b .orders) (f .oneWay);
+        sameDirection = one-direction-same (b .orders) (f .oneDirection);
         far = each-has (λ (x : OpenOrder). Each (FarBelow 0 x) (b .orders)) (b .orders)
             (λ x m. each-has (FarBelow 0 x) (b .orders) (λ y k l. absurd (omega arith)));
       }))
@@ -144,9 +144,9 @@ module _ (b : Book) (s : Sound b) where
   pub clear-apart : eachTwo apart (after .orders) ≡ true
   clear-apart =
       let c = clear-clears in
-      cleared-apart (length (b .units)) (periods (b .days)) (after .orders) (c .cleared)
+      cleared-apart (length (b .units)) (periods (b .rules .days)) (after .orders) (c .cleared)
       (remains-each LessOrder (OrderRanges b) (λ (o : OpenOrder). o .period
-      < periods (b .days)) (λ x y l r. rw (l .is) (r .period)) (c .remain) (s .formed .orders))
+      < periods (b .rules .days)) (λ x y l r. rw (l .is) (r .period)) (c .remain) (s .formed .orders))
 
 -- "each period, rising ... the rolling phase begins"
 pub clearing-sound : (b : Book) (lent : ℕ) → sound b ≡ true → sound (clearing b lent .book) ≡ true

@@ -71,7 +71,7 @@ raises-or-lowers k (suc (suc d)) h = absurd (omega arith)
 
 module _ (b : Book) (s : Sound b) where
   capacity-most : (u : ℕ) → In 1 (length (b .units)) u → unitOf b u .capacity ≤ 5_000_000
-  capacity-most u i = each-at (UnitRanges (b .days)) (b .units) (u - 1) noUnit (s .formed .units) (omega arith) .capacity .1
+  capacity-most u i = each-at (UnitRanges (b .rules .days)) (b .units) (u - 1) noUnit (s .formed .units) (omega arith) .capacity .1
 
   order-most : (o : OpenOrder) → Has o (b .orders) → OrderRanges b o → o .quantity ≤ 5_000_000
   unfolding openRaising openLowering
@@ -143,14 +143,14 @@ pub record RowIn (n days : ℕ) (r : Row) : Type 0 where
   pub buyer : In 1 n (r .buyer)
   pub quantity : r .quantity ≤ mostEnergy
 
-pub cleared-rows-in : (b : Book) → Sound b → Each (RowIn (length (b .units)) (b .days)) (clearFrom 0 (periods (b .days)) (b .orders) .rows)
+pub cleared-rows-in : (b : Book) → Sound b → Each (RowIn (length (b .units)) (b .rules .days)) (clearFrom 0 (periods (b .rules .days)) (b .orders) .rows)
 cleared-rows-in b s =
     let c = clear-clears b s in
-    let rs = clearFrom 0 (periods (b .days)) (b .orders) .rows in
-    each-has (RowIn (length (b .units)) (b .days)) (clearFrom 0 (periods (b .days)) (b .orders) .rows)
+    let rs = clearFrom 0 (periods (b .rules .days)) (b .orders) .rows in
+    each-has (RowIn (length (b .units)) (b .rules .days)) (clearFrom 0 (periods (b .rules .days)) (b .orders) .rows)
     (λ r h.
-    let t = has-each (λ (z : Row). z .period < 0 + periods (b .days)) rs r (rows-in-term 0 (periods (b .days)) (b .orders)) h in
+    let t = has-each (λ (z : Row). z .period < 0 + periods (b .rules .days)) rs r (rows-in-term 0 (periods (b .rules .days)) (b .orders)) h in
     let u = has-each _ rs r (c .units) h in
-    let q = row-most (b .orders) (clearFrom 0 (periods (b .days)) (b .orders) .orders) rs (c .exchanged) r h in
+    let q = row-most (b .orders) (clearFrom 0 (periods (b .rules .days)) (b .orders) .orders) rs (c .exchanged) r h in
     let m = orders-small b s in
     record { period = omega arith; seller = u .0; buyer = u .1; quantity = omega arith })

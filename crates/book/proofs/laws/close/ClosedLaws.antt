@@ -87,8 +87,8 @@ sound-netting m e = record { each = λ p l. record { held = λ k h. sound-netted
 -- two books are the same by their fields
 book-same : {d d′ f f′ c c′ p p′ g g′ : ℕ} {us us′ : List EnrolledUnit} {os os′ : List OpenOffer} {rs rs′ : List OpenOrder}
     → d ≡ d′ → f ≡ f′ → c ≡ c′ → p ≡ p′ → g ≡ g′ → us ≡ us′ → os ≡ os′ → rs ≡ rs′
-    → _≡_ {A = Book} (record { days = d; floor = f; ceiling = c; phase = p; given = g; units = us; offers = os; orders = rs })
-    (record { days = d′; floor = f′; ceiling = c′; phase = p′; given = g′; units = us′; offers = os′; orders = rs′ })
+    → _≡_ {A = Book} (record { rules = record { days = d; floor = f; ceiling = c }; phase = p; given = g; units = us; offers = os; orders = rs })
+    (record { rules = record { days = d′; floor = f′; ceiling = c′ }; phase = p′; given = g′; units = us′; offers = os′; orders = rs′ })
 book-same a b c d e f g h = rw (a, b, c, d, e, f, g, h)
 
 -- the four words of the head that the close sets

@@ -32,7 +32,7 @@ use Rattle.book.proofs.laws.answer.RefusalLaws.{none-applies}
 use Rattle.book.proofs.laws.sound.SoundLaws.{UnitRanges, Sound, sound-facts}
 use Rattle.book.proofs.laws.sound.FitLaws.{Fits}
 
-days-held : (m : List ℕ) → decode m .days ≡ word m 0
+days-held : (m : List ℕ) → decode m .rules .days ≡ word m 0
 unfolding decode
 days-held m = refl
 
@@ -73,13 +73,13 @@ sound-netted m k e h = record { held = λ p l. at p l .0; lowered = λ p l. at p
     f : Fits (decode m) (k + 1) nothing
     f = s .fits (k + 1) (rw (units-held m) i)
 
-    r : UnitRanges (decode m .days) (unitOf (decode m) (k + 1))
-    r = each-at (UnitRanges (decode m .days)) (decode m .units) (k + 1 - 1) noUnit (s .formed .units) (rw (units-held m) (omega arith))
+    r : UnitRanges (decode m .rules .days) (unitOf (decode m) (k + 1))
+    r = each-at (UnitRanges (decode m .rules .days)) (decode m .units) (k + 1 - 1) noUnit (s .formed .units) (rw (units-held m) (omega arith))
 
     at : (p : ℕ) → p < periods (word m 0) → (word m (1776 + 328 * p + 5 * k) + word m (1777 + 328 * p + 5 * k) ≤ mostCapacity)
         × (word m (1778 + 328 * p + 5 * k) ≤ word m (1776 + 328 * p + 5 * k))
     at p l =
-        let lp : p < periods (decode m .days) = rw (days-held m) l in
+        let lp : p < periods (decode m .rules .days) = rw (days-held m) l in
         let a = f .raising p lp in
         let b = f .lowering p lp in
         let c = hour-most (unitOf (decode m) (k + 1) .kind) (unitOf (decode m) (k + 1) .capacity) (hourOf p) in
@@ -160,7 +160,7 @@ module _ (m pts : List ℕ) (u day : ℕ) where
 
   pub curved-refused : (r : ℕ) → curveOn m u day (length pts) ≡ record { refusal = r; points = [] } → (r ≡ 0 → ⊥) → Curved m pts u day (Refused r) pts
   curved-refused r e n = record {
-    answer = rw e refl;
+    answer = rw (e, ne-eqb r 0 n) refl;
     refused = λ h. refl;
     accepted = λ h. absurd (n (sym (ap (λ (d : Drawn). d .refusal) e) ∙ h));
   }

@@ -16,13 +16,13 @@ use Rattle.book.specs.Layout.{word, figuresAt, unitAt, amountAt, offerAt
 use Rattle.book.proofs.laws.memory.RangeFacts.{order-word}
 
 -- a book is known by its parts
-pub book-same : (a b : Book) → a .days ≡ b .days → a .floor ≡ b .floor → a .ceiling ≡ b .ceiling → a .phase ≡ b .phase → a .given ≡ b .given
+pub book-same : (a b : Book) → a .rules .days ≡ b .rules .days → a .rules .floor ≡ b .rules .floor → a .rules .ceiling ≡ b .rules .ceiling → a .phase ≡ b .phase → a .given ≡ b .given
     → a .units ≡ b .units → a .offers ≡ b .offers → a .orders ≡ b .orders → a ≡ b
-book-same a b e0 e1 e2 e3 e4 e5 e6 e7 = made (a .days) (b .days) (a .floor) (b .floor) (a .ceiling) (b .ceiling) (a .phase) (b .phase) (a .given) (b .given)
+book-same a b e0 e1 e2 e3 e4 e5 e6 e7 = made (a .rules .days) (b .rules .days) (a .rules .floor) (b .rules .floor) (a .rules .ceiling) (b .rules .ceiling) (a .phase) (b .phase) (a .given) (b .given)
     (a .units) (b .units) (a .offers) (b .offers) (a .orders) (b .orders) e0 e1 e2 e3 e4 e5 e6 e7
   where
     make : ℕ → ℕ → ℕ → ℕ → ℕ → List EnrolledUnit → List OpenOffer → List OpenOrder → Book
-    make d f c p g us os ps = record { days = d; floor = f; ceiling = c; phase = p; given = g; units = us; offers = os; orders = ps }
+    make d f c p g us os ps = record { rules = record { days = d; floor = f; ceiling = c }; phase = p; given = g; units = us; offers = os; orders = ps }
 
     made : (d d′ f f′ c c′ p p′ g g′ : ℕ) (us us′ : List EnrolledUnit) (os os′ : List OpenOffer) (ps ps′ : List OpenOrder)
         → d ≡ d′ → f ≡ f′ → c ≡ c′ → p ≡ p′ → g ≡ g′ → us ≡ us′ → os ≡ os′ → ps ≡ ps′ → make d f c p g us os ps ≡ make d′ f′ c′ p′ g′ us′ os′ ps′

@@ -102,7 +102,7 @@ pub record Terms (m : List ℕ) (u v : ℕ) (l : List ℕ) : Type 0 where
   pub whole : length l ≡ 24 * word m 0
   pub energy : In 1 mostEnergy (total l)
 
-amounts-are : (m l : List ℕ) → not (eqb (length l) (periods (decode m .days)) && energyIn (total l)) ≡ false → (length l ≡ 24 * word m 0)
+amounts-are : (m l : List ℕ) → not (eqb (length l) (periods (decode m .rules .days)) && energyIn (total l)) ≡ false → (length l ≡ 24 * word m 0)
     × In 1 mostEnergy (total l)
 unfolding decode
 amounts-are m l e =

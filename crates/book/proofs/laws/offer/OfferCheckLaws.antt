@@ -51,25 +51,25 @@ module _ (m : List ℕ) where
   pub partner-not : (v : ℕ) → word m 5 < v → (not (eqb v 0) && not (known (decode m) v)) ≡ true
   partner-not v h = rw (ne-eqb v 0 (omega arith)) (unit-not v (omega arith))
 
-  price-in : (q : ℕ) → In (word m 1) (word m 2) q → not (between (decode m .floor) (decode m .ceiling) q) ≡ false
+  price-in : (q : ℕ) → In (word m 1) (word m 2) q → not (between (decode m .rules .floor) (decode m .rules .ceiling) q) ≡ false
   unfolding decode
   price-in q h = rw (inside (word m 1) (word m 2) q h) refl
 
-  price-out : (q : ℕ) → (In (word m 1) (word m 2) q → ⊥) → not (between (decode m .floor) (decode m .ceiling) q) ≡ true
+  price-out : (q : ℕ) → (In (word m 1) (word m 2) q → ⊥) → not (between (decode m .rules .floor) (decode m .rules .ceiling) q) ≡ true
   unfolding decode
   price-out q h = rw (outside (word m 1) (word m 2) q h) refl
 
-  amounts-in : (l : List ℕ) → length l ≡ 24 * word m 0 → In 1 mostEnergy (total l) → not (eqb (length l) (periods (decode m .days)) && energyIn (total l))
+  amounts-in : (l : List ℕ) → length l ≡ 24 * word m 0 → In 1 mostEnergy (total l) → not (eqb (length l) (periods (decode m .rules .days)) && energyIn (total l))
       ≡ false
   unfolding decode
   amounts-in l e h = rw (eq-eqb (length l) (24 * word m 0) e, inside 1 mostEnergy (total l) h) refl
 
-  amounts-long : (l : List ℕ) → (length l ≡ 24 * word m 0 → ⊥) → not (eqb (length l) (periods (decode m .days)) && energyIn (total l)) ≡ true
+  amounts-long : (l : List ℕ) → (length l ≡ 24 * word m 0 → ⊥) → not (eqb (length l) (periods (decode m .rules .days)) && energyIn (total l)) ≡ true
   unfolding decode
   amounts-long l e = rw (ne-eqb (length l) (24 * word m 0) e) refl
 
   amounts-out : (l : List ℕ) → length l ≡ 24 * word m 0 → (In 1 mostEnergy (total l) → ⊥)
-      → not (eqb (length l) (periods (decode m .days)) && energyIn (total l)) ≡ true
+      → not (eqb (length l) (periods (decode m .rules .days)) && energyIn (total l)) ≡ true
   unfolding decode
   amounts-out l e h = rw (eq-eqb (length l) (24 * word m 0) e, outside 1 mostEnergy (total l) h) refl
 

@@ -15,7 +15,7 @@ use Rattle.book.specs.Book.{noUnit}
 use Rattle.book.specs.Fit.{unitFits}
 use Rattle.book.specs.Sound.{sound, unitIn}
 use Rattle.book.specs.Layout.{word, decode, unitAt}
-use Rattle.book.specs.inner.Readable.{Ranged, unitFieldsIn, waysIn, declared, Fitted, small}
+use Rattle.book.specs.inner.Readable.{Ranged, unitFieldsIn, marksIn, declared, Fitted, small}
 use Rattle.book.specs.Refusals.{firstOf}
 use Rattle.book.specs.Contract.{soundIn}
 use Rattle.book.specs.Offer.{raisingAmounts}
@@ -44,9 +44,9 @@ module _ (m : List ℕ) (s : soundIn m ≡ true) where
       record { readable = sound-readable m s; units = all-by (word m 5) (unitFieldsIn m) fields; offers = t .1 .1 .0; orders = t .1 .1 .1 .0 }
 
   module _ (u : ℕ) (h : In 1 (word m 5) u) where
-    pub sound-ways : waysIn (decode m) u ≡ true
-    unfolding waysIn unitIn
-    sound-ways = let t = all-true _ (unit-in (u - 1) (omega arith)) in rw (unit-at m u h) (t .1 .1 .1 .1 .0)
+    pub sound-marks : marksIn (decode m) u ≡ true
+    unfolding marksIn unitIn
+    sound-marks = let t = all-true _ (unit-in (u - 1) (omega arith)) in rw (unit-at m u h) (t .1 .1 .1 .1 .0)
 
     pub sound-fits : unitFits (decode m) u ≡ true
     unfolding sound
@@ -59,7 +59,7 @@ module _ (m : List ℕ) (s : soundIn m ≡ true) where
     pub offer-fits : (l raising lowering : List ℕ) (r : ℕ) → ((p : ℕ) → getD raising p 0 ≡ getD l p 0) → ((p : ℕ) → getD lowering p 0 ≡ 0)
         → Fitted (decode m) u (declared raising lowering) r → r ≡ firstOf (fitOf (decode m) u l)
     offer-fits l raising lowering r f g w =
-        w .clean sound-ways ∙ misfit-ext (decode m) u (declared raising lowering) (raisingAmounts l) f g
+        w .clean sound-marks ∙ misfit-ext (decode m) u (declared raising lowering) (raisingAmounts l) f g
         ∙ misfit-declared (decode m) u (raisingAmounts l) sound-fits
 
 -- an amount is at most the total

@@ -4,7 +4,7 @@ use mathlib.Core.Path.{_≡_, refl, sym, ap, _∙_}
 use mathlib.Core.Bool.{Bool, true, false, cond, not, _&&_}
 use mathlib.Core.List.{List, [], _∷_}
 use native.Mathlib.Omega.{arith}
-use borrow.Author.Tests.{le-leb, lt-leb, lt-ltb, le-ltb, ltb-false, not-false}
+use borrow.Author.Tests.{le-leb, lt-leb, lt-ltb, le-ltb, ltb-false, ne-eqb, not-false}
 use lib.ListN.{length, getD, drop, set}
 use lib.Dec.{leb, ltb}
 use lib.Seq.{drop-set-lt, drop-drop}
@@ -16,7 +16,7 @@ use Rattle.measures.proofs.ListLaws.{and-left}
 use Rattle.matching.specs.Memory.{ordersIn}
 use Rattle.book.specs.declared.Answer.{Answer}
 use Rattle.book.specs.declared.Answer.the-variants.{Done, Refused}
-use Rattle.book.specs.Book.{Book}
+use Rattle.book.specs.Book.{rulesOf, Book}
 use Rattle.book.specs.Sound.{pricesIn}
 use Rattle.book.specs.Refusals.{firstOf, badOpening}
 use Rattle.book.proofs.laws.answer.RefusalLaws.{none-applies}
@@ -35,30 +35,30 @@ words-some days h = rw (inside 1 mostDays days h)
 
 -- the refusal of an opening by cases
 module _ (words days floor ceiling : ℕ) where
-  pub no-such-days : (In 1 mostDays days → ⊥) → openingRefusal words days floor ceiling ≡ 2
+  pub no-such-days : (In 1 mostDays days → ⊥) → openingRefusal words (rulesOf days floor ceiling) ≡ 2
   unfolding openingRefusal firstOf
   no-such-days n = rw (outside 1 mostDays days n)
 
-  pub too-short : In 1 mostDays days → words < bookWords days → openingRefusal words days floor ceiling ≡ 1
+  pub too-short : In 1 mostDays days → words < bookWords days → openingRefusal words (rulesOf days floor ceiling) ≡ 1
   unfolding openingRefusal firstOf
   too-short h l = rw (inside 1 mostDays days h, lt-ltb words (bookWords days) l)
 
-  pub no-such-prices : In 1 mostDays days → bookWords days ≤ words → ceiling < floor → openingRefusal words days floor ceiling ≡ 2
+  pub no-such-prices : In 1 mostDays days → bookWords days ≤ words → ceiling < floor → openingRefusal words (rulesOf days floor ceiling) ≡ 2
   unfolding openingRefusal firstOf
   no-such-prices h l p = rw (inside 1 mostDays days h, le-ltb words (bookWords days) l, lt-leb floor ceiling p)
 
-  pub ceiling-high : In 1 mostDays days → bookWords days ≤ words → floor ≤ ceiling → mostPrice < ceiling → openingRefusal words days floor ceiling ≡ 2
+  pub ceiling-high : In 1 mostDays days → bookWords days ≤ words → floor ≤ ceiling → mostPrice < ceiling → openingRefusal words (rulesOf days floor ceiling) ≡ 2
   unfolding openingRefusal firstOf
   ceiling-high h l p q = rw (inside 1 mostDays days h, le-ltb words (bookWords days) l, le-leb floor ceiling p, lt-leb ceiling mostPrice q)
 
-  pub opens : In 1 mostDays days → bookWords days ≤ words → floor ≤ ceiling → ceiling ≤ mostPrice → openingRefusal words days floor ceiling ≡ 0
+  pub opens : In 1 mostDays days → bookWords days ≤ words → floor ≤ ceiling → ceiling ≤ mostPrice → openingRefusal words (rulesOf days floor ceiling) ≡ 0
   unfolding openingRefusal firstOf
   opens h l p q = rw (inside 1 mostDays days h, le-ltb words (bookWords days) l, le-leb floor ceiling p, le-leb ceiling mostPrice q)
 
-pub opened-refused : (m : List ℕ) (days floor ceiling r : ℕ) → openingRefusal (length m) days floor ceiling ≡ r → (r ≡ 0 → ⊥)
-    → Opened m days floor ceiling (Refused r) m
+pub opened-refused : (m : List ℕ) (days floor ceiling r : ℕ) → openingRefusal (length m) (rulesOf days floor ceiling) ≡ r → (r ≡ 0 → ⊥)
+    → Opened m (rulesOf days floor ceiling) (Refused r) m
 opened-refused m days floor ceiling r e n = record {
-  answer = rw e refl;
+  answer = rw (e, ne-eqb r 0 n) refl;
   refused = λ h. refl;
   accepted = λ h. absurd (n (sym e ∙ h));
   past = refl;
@@ -67,7 +67,7 @@ opened-refused m days floor ceiling r e n = record {
 
 -- eight words at the front
 pub headed : (m : List ℕ) (a b c : ℕ) → 1776 ≤ length m
-    → decode (set (set (set (set (set (set (set (set m 0 a) 1 b) 2 c) 3 0) 4 0) 5 0) 6 0) 7 0) ≡ fresh a b c
+    → decode (set (set (set (set (set (set (set (set m 0 a) 1 b) 2 c) 3 0) 4 0) 5 0) 6 0) 7 0) ≡ fresh (rulesOf a b c)
 unfolding decode tableFrom ordersIn
 headed (x0 ∷ x1 ∷ x2 ∷ x3 ∷ x4 ∷ x5 ∷ x6 ∷ x7 ∷ m) a b c h = refl
 headed [] a b c h = absurd (omega arith)
@@ -101,8 +101,8 @@ pub past-book : (days : ℕ) (m m′ : List ℕ) → drop 1776 m′ ≡ drop 177
 past-book days m m′ e =
     sym (drop-drop (7872 * days) 1776 m′) ∙ ap (drop (7872 * days)) e ∙ drop-drop (7872 * days) 1776 m
 
-pub opened-fresh : (m : List ℕ) (days floor ceiling : ℕ) (m′ : List ℕ) → openingRefusal (length m) days floor ceiling ≡ 0
-    → decode m′ ≡ fresh days floor ceiling → drop 1776 m′ ≡ drop 1776 m → length m′ ≡ length m → Opened m days floor ceiling (Done 0 0) m′
+pub opened-fresh : (m : List ℕ) (days floor ceiling : ℕ) (m′ : List ℕ) → openingRefusal (length m) (rulesOf days floor ceiling) ≡ 0
+    → decode m′ ≡ fresh (rulesOf days floor ceiling) → drop 1776 m′ ≡ drop 1776 m → length m′ ≡ length m → Opened m (rulesOf days floor ceiling) (Done 0 0) m′
 opened-fresh m days floor ceiling m′ e d p l = record {
   answer = rw e refl;
   refused = λ h. absurd (h e);
@@ -112,10 +112,10 @@ opened-fresh m days floor ceiling m′ e d p l = record {
 }
 
 -- an accepted opening was lent the words of its days
-pub opening-long : (words days floor ceiling : ℕ) → openingRefusal words days floor ceiling ≡ 0 → bookWords days ≤ words
+pub opening-long : (words days floor ceiling : ℕ) → openingRefusal words (rulesOf days floor ceiling) ≡ 0 → bookWords days ≤ words
 unfolding openingRefusal
 opening-long words days floor ceiling e =
-    let t = none-applies (tooShort words days ∷ badOpening days floor ceiling ∷ []) (omega arith, (omega arith, tt)) e in
+    let t = none-applies (tooShort words (rulesOf days floor ceiling) ∷ badOpening (rulesOf days floor ceiling) ∷ []) (omega arith, (omega arith, tt)) e in
     let p : (daysIn days && pricesIn floor ceiling) ≡ true = not-false _ (t .1 .0) in
     let d : daysIn days ≡ true = and-left (daysIn days) (pricesIn floor ceiling) p in
     ltb-false words (bookWords days) (rw d at (t .0))

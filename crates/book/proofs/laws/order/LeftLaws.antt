@@ -14,7 +14,7 @@ use Rattle.matching.specs.Clearing.{Fill, clearPeriod, afterFills}
 use Rattle.matching.specs.Rolling.{counterparts, matches, meet}
 use Rattle.matching.proofs.laws.clearing.PeriodLaws.{bidFillsOf, askFillsOf, cleared-orders}
 use Rattle.matching.proofs.laws.rolling.MetLaws.{fillsOf, matches-fill}
-use Rattle.book.specs.Sound.{oneWay, apart, eachTwo}
+use Rattle.book.specs.Sound.{oneDirection, apart, eachTwo}
 use Rattle.book.proofs.laws.sound.RemainLaws.{each-of, each-imp, Remains, ended, gone, kept, remains-all}
 use Rattle.book.proofs.laws.sound.FormedLaws.{LessOrder, same-order}
 use Rattle.book.proofs.laws.rows.TradeLaws.{Named}
@@ -87,15 +87,15 @@ far-apart x y h = go (buys (x .direction) && sells (y .direction) && eqb (x .per
         (not-fails (buys (x .direction) && sells (y .direction) && eqb (x .period) (y .period)) e)
 
 -- two orders of one unit and period go the same way
-abbrev pub SameWay : OpenOrder → OpenOrder → Type 0
-SameWay x y = x .unit ≡ y .unit → x .period ≡ y .period → x .direction ≡ y .direction
+abbrev pub SameDirection : OpenOrder → OpenOrder → Type 0
+SameDirection x y = x .unit ≡ y .unit → x .period ≡ y .period → x .direction ≡ y .direction
 
-pub one-way-same : (os : List OpenOrder) → eachTwo oneWay os ≡ true → Each (λ (x : OpenOrder). Each (SameWay x) os) os
+pub one-direction-same : (os : List OpenOrder) → eachTwo oneDirection os ≡ true → Each (λ (x : OpenOrder). Each (SameDirection x) os) os
 unfolding eachTwo
-one-way-same os e = each-of (λ (x : OpenOrder). every (oneWay x) os) (λ (x : OpenOrder). Each (SameWay x) os)
-    (λ x h. each-of (oneWay x) (SameWay x) (same x) os h) os e
+one-direction-same os e = each-of (λ (x : OpenOrder). every (oneDirection x) os) (λ (x : OpenOrder). Each (SameDirection x) os)
+    (λ x h. each-of (oneDirection x) (SameDirection x) (same x) os h) os e
   where
-    same : (x y : OpenOrder) → oneWay x y ≡ true → SameWay x y
+    same : (x y : OpenOrder) → oneDirection x y ≡ true → SameDirection x y
     same x y h u p =
         let t = and-true (eqb (x .unit) (y .unit)) (eqb (x .period) (y .period)) (eq-eqb _ _ u) (eq-eqb _ _ p) in
         eqb-true _ _ (or-other (not (eqb (x .unit) (y .unit) && eqb (x .period) (y .period))) (eqb (x .direction) (y .direction)) h (ap not t))

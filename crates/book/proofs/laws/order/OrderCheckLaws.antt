@@ -1,7 +1,7 @@
 -- The checks of an order on a book in memory: names, day and tables, limits.
 use Prim.Native.Nat.{ℕ, zero, suc, _+_, _-_, _*_, _≤_, _<_}
 use mathlib.Core.Path.{_≡_, refl, sym, ap, _∙_}
-use mathlib.Core.Bool.{Bool, true, false, cond, not, _&&_}
+use mathlib.Core.Bool.{Bool, true, false, cond, not, _&&_, _||_}
 use mathlib.Core.List.{List, [], _∷_, _++_}
 use native.Mathlib.Omega.{arith}
 use borrow.Author.Tests.{eq-eqb, ne-eqb, lt-ltb, le-ltb, le-leb, lt-leb}
@@ -29,6 +29,7 @@ use Rattle.book.specs.Refusals.{
   twoOpen,
   ordersFull,
   numbersUsed,
+  markedAgainst,
 }
 use Rattle.book.specs.Layout.{word, decode, ordersPart}
 use Rattle.book.specs.Order.{orderChecks}
@@ -171,8 +172,8 @@ module _ (m : List ℕ) (u d p : ℕ) (few : word m 7 ≤ 256) where
   abbrev ofUnit : OpenOrder → Bool
   ofUnit o = eqb (o .unit) u && eqb (o .period) p
 
-  abbrev otherWay : OpenOrder → Bool
-  otherWay o = not (eqb (o .direction) d)
+  abbrev goesAgainst : OpenOrder → Bool
+  goesAgainst o = not (eqb (o .direction) d)
 
   pub stand-count : length (ordersOfUnit (decode m) u p) ≡ sum (word m 7) (ofUnitAt m u p)
   unfolding ofUnitAt ordersIn
@@ -183,14 +184,14 @@ module _ (m : List ℕ) (u d p : ℕ) (few : word m 7 ≤ 256) where
       ∙ sum-ext (word m 7) (λ k. cond (ofUnit (orderAt (ordersPart m) k)) 1 0) (ofUnitAt m u p)
       (λ k h. rw (here k 1 h (omega arith), here k 3 h (omega arith)) refl)
 
-  pub against-count : length (keep otherWay (ordersOfUnit (decode m) u p)) ≡ sum (word m 7) (againstAt m u d p)
+  pub against-count : length (keep goesAgainst (ordersOfUnit (decode m) u p)) ≡ sum (word m 7) (againstAt m u d p)
   unfolding againstAt ordersIn
   against-count =
-      ap (λ (l : List OpenOrder). length l) (keep-keep otherWay ofUnit (decode m .orders))
-      ∙ kept-length (λ (o : OpenOrder). ofUnit o && otherWay o) (decode m .orders)
-      ∙ ap (sumOf (λ (o : OpenOrder). cond (ofUnit o && otherWay o) 1 0)) (orders-from m)
-      ∙ sumOf-table (λ (o : OpenOrder). cond (ofUnit o && otherWay o) 1 0) (word m 7) (orderAt (ordersPart m))
-      ∙ sum-ext (word m 7) (λ k. cond (ofUnit (orderAt (ordersPart m) k) && otherWay (orderAt (ordersPart m) k)) 1 0) (againstAt m u d p)
+      ap (λ (l : List OpenOrder). length l) (keep-keep goesAgainst ofUnit (decode m .orders))
+      ∙ kept-length (λ (o : OpenOrder). ofUnit o && goesAgainst o) (decode m .orders)
+      ∙ ap (sumOf (λ (o : OpenOrder). cond (ofUnit o && goesAgainst o) 1 0)) (orders-from m)
+      ∙ sumOf-table (λ (o : OpenOrder). cond (ofUnit o && goesAgainst o) 1 0) (word m 7) (orderAt (ordersPart m))
+      ∙ sum-ext (word m 7) (λ k. cond (ofUnit (orderAt (ordersPart m) k) && goesAgainst (orderAt (ordersPart m) k)) 1 0) (againstAt m u d p)
       (λ k h. rw (here k 1 h (omega arith), here k 2 h (omega arith), here k 3 h (omega arith)) refl)
 
 -- one place more, and all of them
@@ -230,47 +231,48 @@ module _ (m : List ℕ) (u d p k : ℕ) where
       go true = rw (ne-eqb (word m (240 + 6 * k + 2)) d n) refl
       go false = refl
 
--- today's direction against the order's
-abbrev wayAgainst : ℕ → ℕ → Bool
-wayAgainst d w = cond (sells d) (eqb w 2) (eqb w 1)
+-- today's mark against the order's direction
+pub mark-both : (d mark : ℕ) → mark ≡ 3 → true ≡ markedAgainst d mark
+mark-both d mark e = sym (or-right (cond (sells d) (eqb mark 2) (eqb mark 1)) (eqb mark 3) (eq-eqb mark 3 e))
 
-way-yes : (d w : ℕ) → d ≤ 1 → w ≡ 2 - d → wayAgainst d w ≡ true
-way-yes zero w h e = eq-eqb w 2 e
-way-yes (suc zero) w h e = eq-eqb w 1 e
-way-yes (suc (suc d)) w h e = absurd (omega arith)
+-- no mark of both
+or-none : (a : Bool) → (a || false) ≡ a
+or-none true = refl
+or-none false = refl
 
-way-no : (d w : ℕ) → d ≤ 1 → (w ≡ 2 - d → ⊥) → wayAgainst d w ≡ false
-way-no zero w h e = ne-eqb w 2 e
-way-no (suc zero) w h e = ne-eqb w 1 e
-way-no (suc (suc d)) w h e = absurd (omega arith)
+pub mark-one : (d mark : ℕ) → d ≤ 1 → (mark ≡ 3 → ⊥) → eqb mark (2 - d) ≡ markedAgainst d mark
+mark-one zero mark h n = rw (ne-eqb mark 3 n) (sym (or-none (eqb mark 2)))
+mark-one (suc zero) mark h n = rw (ne-eqb mark 3 n) (sym (or-none (eqb mark 1)))
+mark-one (suc (suc d)) mark h n = absurd (omega arith)
 
 -- the second part, by cases
 module _ (m : List ℕ) (u d p : ℕ) (few : word m 7 ≤ 256) (hu : In 1 (word m 5) u) (hd : d ≤ 1) (hp : p < 24 * word m 0) where
-  way-held : figuresOf (decode m) u p .way ≡ word m (1780 + 328 * p + 5 * (u - 1))
-  way-held = ap (λ (f : Figures). f .way) (figures-at m u p hu hp)
+  mark-held : figuresOf (decode m) u p .mark ≡ word m (1780 + 328 * p + 5 * (u - 1))
+  mark-held = ap (λ (f : Figures). f .mark) (figures-at m u p hu hp)
 
   pub days-against : (a : ℕ) → a ≡ sum (word m 7) (againstAt m u d p) → 0 < a → 15 ≡ firstOf (dayChecks (decode m) u d p)
   unfolding dayChecks
   days-against a e h =
       applies-first (otherDirection (decode m) u d p) _
       (or-left (ltb 0 (length (keep (λ (o : OpenOrder). not (eqb (o .direction) d)) (ordersOfUnit (decode m) u p))))
-      (wayAgainst d (figuresOf (decode m) u p .way))
+      (markedAgainst d (figuresOf (decode m) u p .mark))
       (lt-ltb 0 (length (keep (λ (o : OpenOrder). not (eqb (o .direction) d)) (ordersOfUnit (decode m) u p))) (rw (against-count m u d p few, ← e) h)))
 
-  pub days-way : word m (1780 + 328 * p + 5 * (u - 1)) ≡ 2 - d → 15 ≡ firstOf (dayChecks (decode m) u d p)
+  pub days-mark : (r : Bool) → r ≡ markedAgainst d (word m (1780 + 328 * p + 5 * (u - 1))) → r ≡ true → 15 ≡ firstOf (dayChecks (decode m) u d p)
   unfolding dayChecks
-  days-way e =
+  days-mark r e t =
       applies-first (otherDirection (decode m) u d p) _
       (or-right (ltb 0 (length (keep (λ (o : OpenOrder). not (eqb (o .direction) d)) (ordersOfUnit (decode m) u p))))
-      (wayAgainst d (figuresOf (decode m) u p .way))
-      (way-yes d (figuresOf (decode m) u p .way) hd (way-held ∙ e)))
+      (markedAgainst d (figuresOf (decode m) u p .mark))
+      (ap (markedAgainst d) mark-held ∙ sym e ∙ t))
 
-  module _ (a : ℕ) (ea : a ≡ sum (word m 7) (againstAt m u d p)) (na : a ≤ 0) (nw : word m (1780 + 328 * p + 5 * (u - 1)) ≡ 2 - d → ⊥) where
+  module _ (a : ℕ) (ea : a ≡ sum (word m 7) (againstAt m u d p)) (na : a ≤ 0) (w : Bool) (ew : w ≡ markedAgainst d (word m (1780 + 328 * p + 5 * (u - 1))))
+      (nw : w ≡ false) where
     other-no : otherDirection (decode m) u d p .applies ≡ false
     other-no =
         let t : length (keep (λ (o : OpenOrder). not (eqb (o .direction) d)) (ordersOfUnit (decode m) u p)) ≤ 0 = rw (against-count m u d p few, ← ea) na in
         rw (le-ltb 0 (length (keep (λ (o : OpenOrder). not (eqb (o .direction) d)) (ordersOfUnit (decode m) u p))) t)
-        (way-no d (figuresOf (decode m) u p .way) hd (λ z. nw (sym way-held ∙ z)))
+        (ap (markedAgainst d) mark-held ∙ sym ew ∙ nw)
 
     module _ (s r : ℕ) (es : s ≡ sum (word m 7) (ofUnitAt m u p)) (er : r ≡ cond (eqb (word m 3) 0) s 0) where
       two-is : (b : Bool) → r ≡ cond b s 0 → (1 < r → (b && leb 2 s) ≡ true) × (r ≤ 1 → (b && leb 2 s) ≡ false)

@@ -20,7 +20,7 @@ use Rattle.book.specs.Fit.{unitFits}
 use Rattle.book.specs.Sound.{sound, unitIn}
 use Rattle.book.specs.Refusals.{firstOf}
 use Rattle.book.specs.Layout.{word, decode, unitAt}
-use Rattle.book.specs.inner.Readable.{Ranged, waysIn, declared, Fitted, unitFieldsIn, small}
+use Rattle.book.specs.inner.Readable.{Ranged, marksIn, declared, Fitted, unitFieldsIn, small}
 use Rattle.book.specs.Contract.{soundIn}
 use Rattle.book.specs.Order.{orderDeclares}
 use Rattle.book.specs.inner.Ordering.{orderFitChecks}
@@ -35,7 +35,7 @@ module _ (m : List ℕ) (e : soundIn m ≡ true) where
   fields k h =
       let i : In 1 (word m 5) (k + 1) = omega arith in
       let s = sound-facts (decode m) (sound-book m e) in
-      let r = each-at (UnitRanges (decode m .days)) (decode m .units) (k + 1 - 1) noUnit (s .formed .units) (rw (units-held m) (omega arith)) in
+      let r = each-at (UnitRanges (decode m .rules .days)) (decode m .units) (k + 1 - 1) noUnit (s .formed .units) (rw (units-held m) (omega arith)) in
       let q : k + 1 - 1 ≡ k = omega arith in
       let g : unitOf (decode m) (k + 1) ≡ unitAt m (word m 0) k = unit-at m (k + 1) i ∙ ap (unitAt m (word m 0)) q in
       let x = ap (λ (y : EnrolledUnit). y .kind) g in
@@ -58,11 +58,11 @@ module _ (m : List ℕ) (e : soundIn m ≡ true) where
       }
 
   module _ (u : ℕ) (h : In 1 (word m 5) u) where
-    ways-are : waysIn (decode m) u ≡ true
-    unfolding sound unitIn waysIn
-    ways-are =
+    marks-are : marksIn (decode m) u ≡ true
+    unfolding sound unitIn marksIn
+    marks-are =
         let t = all-true _ (sound-book m e) in
-        let i = all-true _ (every-at (unitIn (decode m .days)) (decode m .units) (u - 1) noUnit (t .1 .0) (omega (arith, units-held m))) in
+        let i = all-true _ (every-at (unitIn (decode m .rules .days)) (decode m .units) (u - 1) noUnit (t .1 .0) (omega (arith, units-held m))) in
         i .1 .1 .1 .1 .0
 
     fits-are : unitFits (decode m) u ≡ true
@@ -119,7 +119,7 @@ module _ (m : List ℕ) (e : soundIn m ≡ true) (n u d p q r : ℕ) (from : 1 �
       → Fitted (decode m) u (declared raising lowering) r → r ≡ firstOf (orderFitChecks (decode m) u d p q)
   unfolding orderFitChecks
   checked raising lowering a b f =
-      f .clean (ways-are m e u (from, upto))
+      f .clean (marks-are m e u (from, upto))
       ∙ misfit-ext (decode m) u (declared raising lowering) (orderDeclares (decode m) u d p q) a b
       ∙ misfit-declared (decode m) u (orderDeclares (decode m) u d p q) (fits-are m e u (from, upto))
 

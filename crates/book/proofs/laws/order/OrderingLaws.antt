@@ -16,8 +16,9 @@ use Rattle.matching.specs.Orders.{Order as OpenOrder, sells}
 use Rattle.book.specs.Book.{Book, callPhase, mostOrders, mostNumbers, unitOf, figuresOf}
 use Rattle.book.specs.Trades.{raises, lowers}
 use Rattle.book.specs.Fit.{Declaration, nothing}
-use Rattle.book.specs.Sound.{oneWay, sound}
+use Rattle.book.specs.Sound.{oneDirection, sound}
 use Rattle.book.specs.Refusals.{
+  markedAgainst,
   accepted,
   ordersOfUnit,
   unsound,
@@ -40,11 +41,11 @@ use Rattle.book.proofs.laws.sound.RemainLaws.{each-holds}
 use Rattle.book.proofs.laws.sound.FitLaws.{Fits, fits-with, fits-after}
 use Rattle.book.proofs.laws.sound.SoundLaws.{OrderRanges, Sound, sound-facts, sound-holds}
 use Rattle.book.proofs.laws.answer.RefusalLaws.{NoneApplies, none-applies, decided-sound}
-use Rattle.book.proofs.laws.sound.DeclareLaws.{withOrder, Beside, same-way, formed-order, moved-order}
+use Rattle.book.proofs.laws.sound.DeclareLaws.{withOrder, Beside, same-direction, formed-order, moved-order}
 
 -- whether an order goes another way, and whether it is of a unit and a period
-abbrev pub otherWay : ℕ → OpenOrder → Bool
-otherWay d o = not (eqb (o .direction) d)
+abbrev pub goesAgainst : ℕ → OpenOrder → Bool
+goesAgainst d o = not (eqb (o .direction) d)
 
 abbrev pub ofUnit : ℕ → ℕ → OpenOrder → Bool
 ofUnit u p o = eqb (o .unit) u && eqb (o .period) p
@@ -54,20 +55,20 @@ abbrev pub Follows : ℕ → ℕ → ℕ → OpenOrder → Type 0
 Follows u d p x = x .unit ≡ u → x .period ≡ p → x .direction ≡ d
 
 -- where no order of the unit and period goes another way, each goes this one
-one-direction : (u d p : ℕ) (os : List OpenOrder) → length (keep (otherWay d) (keep (ofUnit u p) os)) ≡ 0 → Each (Follows u d p) os
+one-direction : (u d p : ℕ) (os : List OpenOrder) → length (keep (goesAgainst d) (keep (ofUnit u p) os)) ≡ 0 → Each (Follows u d p) os
 one-direction u d p [] e = tt
 one-direction u d p (x ∷ os) e = go (eqb (x .unit) u && eqb (x .period) p) refl e (λ h. one-direction u d p os h)
   where
     mine : List OpenOrder
     mine = keep (ofUnit u p) os
 
-    same : (t : Bool) → otherWay d x ≡ t → length (cond t (x ∷ keep (otherWay d) mine) (keep (otherWay d) mine)) ≡ 0
-        → (length (keep (otherWay d) mine) ≡ 0 → Each (Follows u d p) os) → Each (Follows u d p) (x ∷ os)
+    same : (t : Bool) → goesAgainst d x ≡ t → length (cond t (x ∷ keep (goesAgainst d) mine) (keep (goesAgainst d) mine)) ≡ 0
+        → (length (keep (goesAgainst d) mine) ≡ 0 → Each (Follows u d p) os) → Each (Follows u d p) (x ∷ os)
     same true q h ih = absurd (omega arith)
     same false q h ih = (λ a c. eqb-true _ _ (not-false _ q), ih h)
 
-    go : (t : Bool) → ofUnit u p x ≡ t → length (keep (otherWay d) (cond t (x ∷ mine) mine)) ≡ 0
-        → (length (keep (otherWay d) mine) ≡ 0 → Each (Follows u d p) os) → Each (Follows u d p) (x ∷ os)
+    go : (t : Bool) → ofUnit u p x ≡ t → length (keep (goesAgainst d) (cond t (x ∷ mine) mine)) ≡ 0
+        → (length (keep (goesAgainst d) mine) ≡ 0 → Each (Follows u d p) os) → Each (Follows u d p) (x ∷ os)
     go true q h ih = same (not (eqb (x .direction) d)) refl h ih
     go false q h ih = (
       λ a c. absurd (not-both (eqb (x .unit) u
@@ -84,7 +85,7 @@ module _ (b : Book) (u d p price q : ℕ) where
   pub record OrderPassed : Type 0 where
     pub ranges : OrderRanges (withOrder b (newOrder b u d p price q)) (newOrder b u d p price q)
     pub follows : Each (Follows u d p) (b .orders)
-    pub way : cond (sells d) (eqb (figuresOf b u p .way) 2) (eqb (figuresOf b u p .way) 1) ≡ false
+    pub mark : markedAgainst d (figuresOf b u p .mark) ≡ false
     pub room : length (b .orders) < mostOrders
     pub left : b .given < mostNumbers
     pub fits : Fits b u (orderDeclares b u d p q)
@@ -98,14 +99,14 @@ module _ (b : Book) (u d p price q : ℕ) where
           unit = named;
           direction = leb-true _ _ (not-false _ (t .1 .1 .1 .1 .1 .1 .0));
           period = ltb-true _ _ (not-false _ (t .1 .1 .1 .1 .1 .0));
-          price = within (b .floor) (b .ceiling) price (not-false _ (t .1 .1 .1 .0));
+          price = within (b .rules .floor) (b .rules .ceiling) price (not-false _ (t .1 .1 .1 .0));
           energy = within 1 mostEnergy q (not-false _ (t .1 .1 .1 .1 .0));
         };
         follows =
-            let n = length (keep (otherWay d) (ordersOfUnit b u p)) in
+            let n = length (keep (goesAgainst d) (ordersOfUnit b u p)) in
             let h : n ≤ 0 = ltb-false 0 n (day .0) in
             one-direction u d p (b .orders) (omega arith);
-        way = day .1;
+        mark = day .1;
         room = leb-false _ _ (t .1 .1 .1 .1 .1 .1 .1 .1 .1 .0);
         left = leb-false _ _ (t .1 .1 .1 .1 .1 .1 .1 .1 .1 .1 .0);
         fits =
@@ -125,8 +126,8 @@ module _ (b : Book) (u d p price q : ℕ) where
       named : In 1 (length (b .units)) u
       named = within 1 (length (b .units)) u (not-false _ (t .1 .0))
 
-      day : (ltb 0 (length (keep (otherWay d) (ordersOfUnit b u p))) ≡ false)
-          × (cond (sells d) (eqb (figuresOf b u p .way) 2) (eqb (figuresOf b u p .way) 1) ≡ false)
+      day : (ltb 0 (length (keep (goesAgainst d) (ordersOfUnit b u p))) ≡ false)
+          × (markedAgainst d (figuresOf b u p .mark) ≡ false)
       day = or-neither _ _ (t .1 .1 .1 .1 .1 .1 .1 .0)
 
 -- what an order has open is what it declares
@@ -138,12 +139,12 @@ declares-opens f u d p q at = rw (eq-eqb u u refl) (go (ℕ-discrete p at))
     go (no n) = rw (ne-eqb p at n, ne-eqb at p (λ e. n (sym e)))
 
 -- an order that goes the way of its unit's others stands beside them
-pub one-way-beside : (o : OpenOrder) (os : List OpenOrder) → Each (Follows (o .unit) (o .direction) (o .period)) os → Beside oneWay o os
-one-way-beside o os h =
+pub one-direction-beside : (o : OpenOrder) (os : List OpenOrder) → Each (Follows (o .unit) (o .direction) (o .period)) os → Beside oneDirection o os
+one-direction-beside o os h =
     record {
-      to = each-holds (oneWay o) (Follows (o .unit) (o .direction) (o .period)) (λ x t. same-way o x (λ a c. sym (t (sym a) (sym c)))) os h;
-      from = each-holds (λ x. oneWay x o) (Follows (o .unit) (o .direction) (o .period)) (λ x t. same-way x o t) os h;
-      self = same-way o o (λ a c. refl);
+      to = each-holds (oneDirection o) (Follows (o .unit) (o .direction) (o .period)) (λ x t. same-direction o x (λ a c. sym (t (sym a) (sym c)))) os h;
+      from = each-holds (λ x. oneDirection x o) (Follows (o .unit) (o .direction) (o .period)) (λ x t. same-direction x o t) os h;
+      self = same-direction o o (λ a c. refl);
     }
 
 -- the other units declare nothing by it
@@ -178,6 +179,6 @@ module _ (b : Book) (u d p price q : ℕ) where
           record {
             formed =
                 formed-order b (newOrder b u d p price q) (s .formed) (a .ranges) refl (a .room) (a .left)
-                (one-way-beside (newOrder b u d p price q) (b .orders) (a .follows)) (λ r. absurd (omega arith));
+                (one-direction-beside (newOrder b u d p price q) (b .orders) (a .follows)) (λ r. absurd (omega arith));
             fits = order-fits s a;
           }

@@ -47,7 +47,7 @@ module _ (b : Book) (s : Sound b) (o : OpenOrder) (h : Has o (b .orders)) where
   capacity : unitOf b (o .unit) .capacity ≤ mostCapacity
   capacity =
       let r = ranges .unit in
-      each-at (UnitRanges (b .days)) (b .units) (o .unit - 1) noUnit (s .formed .units) (omega arith) .capacity .1
+      each-at (UnitRanges (b .rules .days)) (b .units) (o .unit - 1) noUnit (s .formed .units) (omega arith) .capacity .1
 
   raising-small : raises (unitOf b (o .unit) .kind) (o .direction) ≡ true → o .quantity ≤ mostCapacity
   unfolding openRaising

@@ -88,7 +88,7 @@ module _ (m rows : List ℕ) (u d p price q : ℕ) (e : soundIn m ≡ true) (z :
   passed = order-passed (decode m) u d p price q (length rows) facts
       (chain-sound (decode m) (orderChecks (decode m) u d p price q (length rows)) (sound-book m e) ∙ sym z)
 
-  days-held : decode m .days ≡ word m 0
+  days-held : decode m .rules .days ≡ word m 0
   unfolding decode
   days-held = refl
 

@@ -28,7 +28,7 @@ use Rattle.book.proofs.laws.sound.SoundLaws.{OrderRanges, Sound, sound-
 use Rattle.book.proofs.laws.answer.RefusalLaws.{decided-sound}
 use Rattle.book.proofs.laws.sound.FormedLaws.{LessOffer, LessOrder, same-offer, same-order, order-after, two-remain, formed-remaining}
 use Rattle.book.proofs.laws.sound.DeclareLaws.{withOrder, two-more, formed-order}
-use Rattle.book.proofs.laws.order.OrderingLaws.{Follows, OrderPassed, order-passed, one-way-beside, order-fits}
+use Rattle.book.proofs.laws.order.OrderingLaws.{Follows, OrderPassed, order-passed, one-direction-beside, order-fits}
 use Rattle.book.proofs.laws.rows.TradeLaws.{kept-rows}
 use Rattle.book.proofs.laws.rows.ExchangedLaws.{exchanged-sound}
 use Rattle.book.proofs.laws.order.LeftLaws.{Far, far-apart, remains-append, met-remain, TwoUnits, two-named}
@@ -144,7 +144,7 @@ module _ (b : Book) (u d p price q : ℕ) (s : Sound b) (a : OrderPassed b u d p
           kinds = λ v i. refl;
         }) incoming incoming (same-order incoming) (a .ranges);
         follows = a .follows;
-        way = a .way;
+        mark = a .mark;
         room = a .room;
         left = a .left;
         fits = fits-in-phase b callPhase u (orderDeclares b u d p q) (a .fits);
@@ -156,7 +156,7 @@ module _ (b : Book) (u d p price q : ℕ) (s : Sound b) (a : OrderPassed b u d p
       let t = passed-in-call in
       record {
         formed = formed-order (inPhase b callPhase) incoming (c .formed) (t .ranges) refl (a .room) (a .left)
-            (one-way-beside incoming (b .orders) (a .follows)) (λ r. absurd (omega arith));
+            (one-direction-beside incoming (b .orders) (a .follows)) (λ r. absurd (omega arith));
         fits = order-fits (inPhase b callPhase) u d p price q c t;
       }
 
@@ -182,8 +182,8 @@ module _ (b : Book) (u d p price q : ℕ) (s : Sound b) (a : OrderPassed b u d p
           follows : Follows u d p (x .waiting)
           follows = has-each (Follows u d p) (b .orders) (x .waiting) (a .follows) (x .waits)
 
-          same-way : (y z : OpenOrder) → y ≡ x .waiting → z ≡ incoming → y .unit ≡ z .unit → y .period ≡ z .period → y .direction ≡ z .direction
-          same-way y z e f unit period =
+          same-direction : (y z : OpenOrder) → y ≡ x .waiting → z ≡ incoming → y .unit ≡ z .unit → y .period ≡ z .period → y .direction ≡ z .direction
+          same-direction y z e f unit period =
               ap (λ (o : OpenOrder). o .direction) e
               ∙ follows (sym (ap (λ (o : OpenOrder). o .unit) e) ∙ unit ∙ ap (λ (o : OpenOrder). o .unit) f) (sym (ap (λ (o : OpenOrder). o .period) e)
               ∙ period ∙ ap (λ (o : OpenOrder). o .period) f)
@@ -193,13 +193,13 @@ module _ (b : Book) (u d p price q : ℕ) (s : Sound b) (a : OrderPassed b u d p
           go (inl w) = (
             rw (x .seller, w .0) (waits .unit),
             rw (x .buyer, w .1) (a .ranges .unit),
-            λ e. let k = same-way (x .sale) (x .buy) (w .0) (w .1) (sym (x .seller) ∙ e
+            λ e. let k = same-direction (x .sale) (x .buy) (w .0) (w .1) (sym (x .seller) ∙ e
                 ∙ x .buyer) (x .opposite .period) in let y = x .opposite in omega arith,
           )
           go (inr w) = (
             rw (x .seller, w .0) (a .ranges .unit),
             rw (x .buyer, w .1) (waits .unit),
-            λ e. let k = same-way (x .buy) (x .sale) (w .1) (w .0) (sym (x .buyer) ∙ sym e
+            λ e. let k = same-direction (x .buy) (x .sale) (w .1) (w .0) (sym (x .buyer) ∙ sym e
                 ∙ x .seller) (sym (x .opposite .period)) in let y = x .opposite in omega arith,
           )
 

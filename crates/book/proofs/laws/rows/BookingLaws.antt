@@ -1,10 +1,10 @@
 -- Laws of booking rows in memory: one party, one row, and the rows so far.
 use Prim.Native.Nat.{ℕ, _+_, _-_, _*_, _≤_, _<_}
 use mathlib.Core.Path.{_≡_, refl, sym, ap, _∙_}
-use mathlib.Core.Bool.{true, false}
+use mathlib.Core.Bool.{true, false, cond}
 use mathlib.Core.List.{List, [], _∷_, _++_}
 use native.Mathlib.Omega.{arith}
-use borrow.Author.Tests.{le-leb, lt-leb}
+use borrow.Author.Tests.{eq-eqb, ne-eqb, le-leb, lt-leb}
 use lib.ListN.{length, getD, drop, set, length-drop}
 use lib.Seq.{ext-getD, getD-drop}
 use lib.Dec.{eqb, leb}
@@ -14,7 +14,7 @@ use Rattle.measures.proofs.ListLaws.{cond-true, cond-false, table-at, table-is,
 use Rattle.limits.specs.Units.{periods, generator}
 use Rattle.matching.specs.Orders.{Row}
 use Rattle.book.specs.Book.{Figures, noFigures, EnrolledUnit, Book, unitOf, withUnits}
-use Rattle.book.specs.Trades.{raises, wayAfter, traded, unitTraded, booked, rowBooked, rowsBooked}
+use Rattle.book.specs.Trades.{raises, markWith, markAfter, traded, unitTraded, booked, rowBooked, rowsBooked}
 use Rattle.book.specs.Opening.{bookWords}
 use Rattle.book.specs.Layout.{word, figuresAt, decode}
 use Rattle.book.specs.inner.Readable.{Readable}
@@ -29,11 +29,20 @@ raises-sold m u d e = sym (cond-true (generator (unitOf (decode m) u .kind)) (eq
 pub raises-bought : (m : List ℕ) (u d : ℕ) → generator (unitOf (decode m) u .kind) ≡ false → eqb d 1 ≡ raises (unitOf (decode m) u .kind) d
 raises-bought m u d e = sym (cond-false (generator (unitOf (decode m) u .kind)) (eqb d 0) (eqb d 1) e refl)
 
-pub way-set : (way d old : ℕ) → 3 ≤ way → d + 1 ≡ wayAfter way d old
-way-set way d old h = sym (cond-true (leb 3 way) (d + 1) old (le-leb 3 way h) refl)
+pub mark-none : (d mark : ℕ) → mark ≡ 0 → d + 1 ≡ markWith d mark
+mark-none d mark e = sym (cond-true (eqb mark 0) (d + 1) (cond (eqb mark (2 - d)) 3 mark) (eq-eqb mark 0 e) refl)
 
-pub way-left : (way d old : ℕ) → way < 3 → old ≡ wayAfter way d old
-way-left way d old h = sym (cond-false (leb 3 way) (d + 1) old (lt-leb 3 way h) refl)
+pub mark-other : (d mark : ℕ) → (mark ≡ 0 → ⊥) → mark ≡ 2 - d → 3 ≡ markWith d mark
+mark-other d mark n e = rw (ne-eqb mark 0 n, eq-eqb mark (2 - d) e) refl
+
+pub mark-own : (d mark : ℕ) → (mark ≡ 0 → ⊥) → (mark ≡ 2 - d → ⊥) → mark ≡ markWith d mark
+mark-own d mark n o = rw (ne-eqb mark 0 n, ne-eqb mark (2 - d) o) refl
+
+pub mark-left : (way d mark : ℕ) → way < 3 → mark ≡ markAfter way d mark
+mark-left way d mark h = sym (cond-false (leb 3 way) (markWith d mark) mark (lt-leb 3 way h) refl)
+
+pub mark-set : (way d mark r : ℕ) → 3 ≤ way → r ≡ markWith d mark → r ≡ markAfter way d mark
+mark-set way d mark r h e = e ∙ sym (cond-true (leb 3 way) (markWith d mark) mark (le-leb 3 way h) refl)
 
 -- what is kept through two changes, and what holds still
 pub kept-none : (m : List ℕ) → Kept m m
@@ -82,7 +91,7 @@ small-more m a b h s k p hk hp = let t = s k p hk hp in record { raised = omega 
 
 -- one party: the unit as memory has it, with its new figures, is the unit after the trade
 module _ (m x : List ℕ) (way direction p q u w : ℕ) (g : Readable m) (hp : p < 24 * word m 0) (one : 1 ≤ u) (most : u ≤ word m 5) (hw : w
-    ≡ wayAfter way direction (word m (1780 + 328 * p + 5 * (u - 1)))) where
+    ≡ markAfter way direction (word m (1780 + 328 * p + 5 * (u - 1)))) where
   figures-of : (k : ℕ) → getD (table (periods (word m 0)) (figuresAt m k)) p noFigures ≡ figuresAt m k p
   figures-of k = table-at (periods (word m 0)) (figuresAt m k) p noFigures hp
 
@@ -101,7 +110,7 @@ module _ (m x : List ℕ) (way direction p q u w : ℕ) (g : Readable m) (hp : p
 
   booked-by : (r l v : ℕ) → FiguresPut m x (u - 1) p r l v w
       → traded (word m (8 + 3 * (u - 1))) way direction q (figuresAt m (u - 1) p)
-      ≡ record { held = word m (1776 + 328 * p + 5 * (u - 1)); raised = r; lowered = l; volume = v; way = w }
+      ≡ record { held = word m (1776 + 328 * p + 5 * (u - 1)); raised = r; lowered = l; volume = v; mark = w }
       → decode x ≡ booked way direction p q u (decode m)
   unfolding booked
   booked-by r l v f e =

@@ -62,14 +62,14 @@ module _ (b : Book) (os : List OpenOrder) (rs : List Row) (phase : ℕ) (s : Sou
     lowering-open = rw (keeps .kind u) (lowering-lost (b .orders) os rs x u p (unitOf b u .kind))
 
     -- what is traded and what is open are together what they were
-    pub exchanged-figures : In 1 (length (b .units)) u → p < periods (b .days)
+    pub exchanged-figures : In 1 (length (b .units)) u → p < periods (b .rules .days)
         → (figuresOf after u p .held ≡ figuresOf b u p .held)
         × (figuresOf after u p .raised + openRaising after u p ≡ figuresOf b u p .raised + openRaising b u p)
         × (figuresOf after u p .lowered + openLowering after u p ≡ figuresOf b u p .lowered + openLowering b u p)
         × (figuresOf after u p .volume + (openRaising after u p + openLowering after u p)
         ≡ figuresOf b u p .volume + (openRaising b u p + openLowering b u p))
     exchanged-figures i h =
-        let f = each-at (UnitRanges (b .days)) (b .units) (u - 1) noUnit (s .formed .units) (omega arith) .figures in
+        let f = each-at (UnitRanges (b .rules .days)) (b .units) (u - 1) noUnit (s .formed .units) (omega arith) .figures in
         let g = grown-rows rs (withOrders b os) u p n i (omega arith) in
         let a = raising-open in
         let l = lowering-open in
@@ -111,7 +111,7 @@ module _ (b : Book) (os : List OpenOrder) (rs : List Row) (phase : ℕ) (s : Sou
             phase = low;
             given = h .given;
             most = omega (arith, keeps .count);
-            units = keeps .ranges (b .days) (s .formed .units);
+            units = keeps .ranges (b .rules .days) (s .formed .units);
             offers = remains-all LessOffer same-offer (b .offers);
             orders = r;
             apart = far;

@@ -51,7 +51,7 @@ figures-put m k p r l v w fits = record {
       (omega arith) (omega arith) fits;
   volume = four-third m (1777 + 328 * p + 5 * k) (1778 + 328 * p + 5 * k) (1779 + 328 * p + 5 * k) (1780 + 328 * p + 5 * k) r l v w (omega arith)
       (omega arith) (omega arith) fits;
-  way = four-fourth m (1777 + 328 * p + 5 * k) (1778 + 328 * p + 5 * k) (1779 + 328 * p + 5 * k) (1780 + 328 * p + 5 * k) r l v w (omega arith)
+  mark = four-fourth m (1777 + 328 * p + 5 * k) (1778 + 328 * p + 5 * k) (1779 + 328 * p + 5 * k) (1780 + 328 * p + 5 * k) r l v w (omega arith)
       (omega arith) (omega arith) fits;
   before = λ i h. four-other m (1777 + 328 * p + 5 * k) (1778 + 328 * p + 5 * k) (1779 + 328 * p + 5 * k) (1780 + 328 * p + 5 * k) r l v w (omega arith)
       (omega arith) (omega arith) fits i (omega arith) (omega arith) (omega arith) (omega arith);
@@ -61,8 +61,8 @@ figures-put m k p r l v w fits = record {
 
 -- records by their fields
 pub figures-same : {a b c d e a′ b′ c′ d′ e′ : ℕ} → a ≡ a′ → b ≡ b′ → c ≡ c′ → d ≡ d′ → e ≡ e′
-    → _≡_ {A = Figures} (record { held = a; raised = b; lowered = c; volume = d; way = e })
-    (record { held = a′; raised = b′; lowered = c′; volume = d′; way = e′ })
+    → _≡_ {A = Figures} (record { held = a; raised = b; lowered = c; volume = d; mark = e })
+    (record { held = a′; raised = b′; lowered = c′; volume = d′; mark = e′ })
 figures-same ha hb hc hd he = rw (ha, hb, hc, hd, he)
 
 pub unit-same : {a b c a′ b′ c′ : ℕ} {f f′ : List Figures} → a ≡ a′ → b ≡ b′ → c ≡ c′ → f ≡ f′
@@ -76,8 +76,8 @@ offer-same ha hb hc hd he hf = rw (ha, hb, hc, hd, he, hf)
 
 pub book-same : {a b c d e a′ b′ c′ d′ e′ : ℕ} {us us′ : List EnrolledUnit} {fs fs′ : List OpenOffer} {os os′ : List OpenOrder} → a ≡ a′ → b ≡ b′ → c ≡ c′ → d ≡ d′
     → e ≡ e′ → us ≡ us′ → fs ≡ fs′ → os ≡ os′
-    → _≡_ {A = Book} (record { days = a; floor = b; ceiling = c; phase = d; given = e; units = us; offers = fs; orders = os })
-    (record { days = a′; floor = b′; ceiling = c′; phase = d′; given = e′; units = us′; offers = fs′; orders = os′ })
+    → _≡_ {A = Book} (record { rules = record { days = a; floor = b; ceiling = c }; phase = d; given = e; units = us; offers = fs; orders = os })
+    (record { rules = record { days = a′; floor = b′; ceiling = c′ }; phase = d′; given = e′; units = us′; offers = fs′; orders = os′ })
 book-same ha hb hc hd he hu hf ho = rw (ha, hb, hc, hd, he, hu, hf, ho)
 
 -- the orders' part, where none of its words changed
@@ -115,8 +115,8 @@ module _ (m x : List ℕ) (k p r l v w : ℕ) (f : FiguresPut m x k p r l v w) (
           let ne : (j ≡ k → ⊥) = λ z. n (z, e) in
           cell-behind j q (omega arith)
 
-  cell-own : figuresAt x k p ≡ record { held = word m (1776 + 328 * p + 5 * k); raised = r; lowered = l; volume = v; way = w }
-  cell-own = figures-same (f .before (1776 + 328 * p + 5 * k) (omega arith)) (f .raised) (f .lowered) (f .volume) (f .way)
+  cell-own : figuresAt x k p ≡ record { held = word m (1776 + 328 * p + 5 * k); raised = r; lowered = l; volume = v; mark = w }
+  cell-own = figures-same (f .before (1776 + 328 * p + 5 * k) (omega arith)) (f .raised) (f .lowered) (f .volume) (f .mark)
 
   amount-other : (j q : ℕ) → j < 8 → amountAt x j q ≡ amountAt m j q
   amount-other j q hj = go (decLt q p)
@@ -136,7 +136,7 @@ module _ (m x : List ℕ) (k p r l v w : ℕ) (f : FiguresPut m x k p r l v w) (
         capacity = word m (9 + 3 * k);
         asset = word m (10 + 3 * k);
         figures = set
-            (table (periods d) (figuresAt m k)) p (record { held = word m (1776 + 328 * p + 5 * k); raised = r; lowered = l; volume = v; way = w });
+            (table (periods d) (figuresAt m k)) p (record { held = word m (1776 + 328 * p + 5 * k); raised = r; lowered = l; volume = v; mark = w });
       }
   unit-own d h =
       unit-same (f .before (8 + 3 * k) (omega arith)) (f .before (9 + 3 * k) (omega arith)) (f .before (10 + 3 * k) (omega arith))
@@ -164,7 +164,7 @@ module _ (m x : List ℕ) (k p r l v w : ℕ) (f : FiguresPut m x k p r l v w) (
               raised = r;
               lowered = l;
               volume = v;
-              way =
+              mark =
                   w;
             });
       }))

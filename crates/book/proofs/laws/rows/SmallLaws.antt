@@ -32,11 +32,11 @@ figures-at m u p h hp =
 
 -- what one unit's fit says of its figures
 module _ (b : Book) (u : ℕ) (fit : unitFits b u ≡ true) where
-  hour-small : (p : ℕ) → p < periods (b .days) → (figuresOf b u p .raised ≤ unitOf b u .capacity) × (figuresOf b u p .lowered ≤ unitOf b u .capacity)
+  hour-small : (p : ℕ) → p < periods (b .rules .days) → (figuresOf b u p .raised ≤ unitOf b u .capacity) × (figuresOf b u p .lowered ≤ unitOf b u .capacity)
   unfolding unitFits hourFits
   hour-small p hp =
       let t = all-true _ fit in
-      let e = all-at (periods (b .days)) (hourFits b u nothing) p (t .0) hp in
+      let e = all-at (periods (b .rules .days)) (hourFits b u nothing) p (t .0) hp in
       let h : figuresOf b u p .held + (raisingToday b u p + 0)
       ≤ hourLimit (unitOf b u .kind) (unitOf b u .capacity) (hourOf p) = leb-true _ _
       (and-left (leb (figuresOf b u p .held + (raisingToday b u p + 0)) (hourLimit (unitOf b u .kind) (unitOf b u .capacity) (hourOf p)))
@@ -47,14 +47,14 @@ module _ (b : Book) (u : ℕ) (fit : unitFits b u ≡ true) where
       let c = hour-most (unitOf b u .kind) (unitOf b u .capacity) (hourOf p) in
       (omega arith, omega arith)
 
-  volume-small : (p : ℕ) → p < periods (b .days) → unitOf b u .capacity ≤ mostCapacity → b .days ≤ mostDays → figuresOf b u p .volume ≤ mostEnergy * 6 / 5
+  volume-small : (p : ℕ) → p < periods (b .rules .days) → unitOf b u .capacity ≤ mostCapacity → b .rules .days ≤ mostDays → figuresOf b u p .volume ≤ mostEnergy * 6 / 5
   unfolding unitFits volumeFits
   volume-small p hp hc hd =
       let t = all-true _ fit in
-      let v : sum (periods (b .days)) (λ z. figuresOf b u z .volume + (openRaising b u z + openLowering b u z + (0 + 0)))
+      let v : sum (periods (b .rules .days)) (λ z. figuresOf b u z .volume + (openRaising b u z + openLowering b u z + (0 + 0)))
       ≤ volumeLimit (unitOf b u .kind) (termOf b u nothing) = leb-true _ _ (t .1 .1 .0) in
-      let s = sum-at (periods (b .days)) (λ z. figuresOf b u z .volume + (openRaising b u z + openLowering b u z + (0 + 0))) p hp in
-      let c = term-most (unitOf b u .kind) (unitOf b u .capacity) (unitOf b u .asset) (b .days) hc hd in
+      let s = sum-at (periods (b .rules .days)) (λ z. figuresOf b u z .volume + (openRaising b u z + openLowering b u z + (0 + 0))) p hp in
+      let c = term-most (unitOf b u .kind) (unitOf b u .capacity) (unitOf b u .asset) (b .rules .days) hc hd in
       let w = volume-most (unitOf b u .kind) (termOf b u nothing) c in
       omega arith
 
@@ -71,10 +71,10 @@ module _ (m : List ℕ) (e : soundIn m ≡ true) where
   unfolding sound unitIn
   capacity-most u h =
       let t = all-true _ (sound-book m e) in
-      let i = all-true _ (every-at (unitIn (decode m .days)) (decode m .units) (u - 1) noUnit (t .1 .0) (omega (arith, units-held m))) in
+      let i = all-true _ (every-at (unitIn (decode m .rules .days)) (decode m .units) (u - 1) noUnit (t .1 .0) (omega (arith, units-held m))) in
       within 1 mostCapacity (unitOf (decode m) u .capacity) (i .1 .0) .1
 
-  days-are : decode m .days ≡ word m 0
+  days-are : decode m .rules .days ≡ word m 0
   unfolding decode
   days-are = refl
 

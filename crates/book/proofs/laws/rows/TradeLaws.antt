@@ -14,7 +14,7 @@ use Rattle.measures.proofs.RangeLaws.{In}
 use Rattle.limits.specs.Units.{generator}
 use Rattle.matching.specs.Orders.{Row}
 use Rattle.book.specs.Book.{Figures, noFigures, EnrolledUnit, noUnit, Book, unitOf, figuresOf, withUnits}
-use Rattle.book.specs.Trades.{raises, traded, unitTraded, booked, rowBooked, rowsBooked}
+use Rattle.book.specs.Trades.{raises, markAfter, traded, unitTraded, booked, rowBooked, rowsBooked}
 use Rattle.book.proofs.laws.sound.RemainLaws.{each-at}
 use Rattle.book.proofs.laws.sound.SoundLaws.{UnitRanges}
 
@@ -59,19 +59,27 @@ kept-then b b′ b″ k l =
       ranges = λ days h. l .ranges days (k .ranges days h);
     }
 
+-- a mark stays in its range
+mark-after-small : (w d mark : ℕ) → d ≤ 1 → mark ≤ 3 → markAfter w d mark ≤ 3
+mark-after-small w d mark h k = go (leb 3 w) (eqb mark 0) (eqb mark (2 - d))
+  where
+    go : (x y z : Bool) → cond x (cond y (d + 1) (cond z 3 mark)) mark ≤ 3
+    go true true z = omega arith
+    go true false true = omega arith
+    go true false false = k
+    go false y z = k
+
 module _ (w d p q : ℕ) where
-  way-small : (f : Figures) (kind : ℕ) → d ≤ 1 → f .way ≤ 2 → traded kind w d q f .way ≤ 2
+  mark-small : (f : Figures) (kind : ℕ) → d ≤ 1 → f .mark ≤ 3 → traded kind w d q f .mark ≤ 3
   unfolding traded
-  way-small f kind h k = go (cond (generator kind) (eqb d 0) (eqb d 1)) (leb 3 w)
+  mark-small f kind h k = go (cond (generator kind) (eqb d 0) (eqb d 1))
     where
-      go : (r t : Bool)
+      go : (r : Bool)
           → (cond {A = Figures} r
-          (record { held = f .held; raised = f .raised + q; lowered = f .lowered; volume = f .volume + q; way = cond t (d + 1) (f .way) })
-          (record { held = f .held; raised = f .raised; lowered = f .lowered + q; volume = f .volume + q; way = cond t (d + 1) (f .way) })) .way ≤ 2
-      go true true = omega arith
-      go true false = k
-      go false true = omega arith
-      go false false = k
+          (record { held = f .held; raised = f .raised + q; lowered = f .lowered; volume = f .volume + q; mark = markAfter w d (f .mark) })
+          (record { held = f .held; raised = f .raised; lowered = f .lowered + q; volume = f .volume + q; mark = markAfter w d (f .mark) })) .mark ≤ 3
+      go true = mark-after-small w d (f .mark) h k
+      go false = mark-after-small w d (f .mark) h k
 
   trade-ranges : (days : ℕ) (u : EnrolledUnit) → d ≤ 1 → UnitRanges days u → UnitRanges days (unitTraded w d p q u)
   trade-ranges days u h r =
@@ -80,9 +88,9 @@ module _ (w d p q : ℕ) where
         capacity = r .capacity;
         asset = r .asset;
         figures = length-set (u .figures) p (traded (u .kind) w d q (getD (u .figures) p noFigures)) ∙ r .figures;
-        ways =
-            each-set (λ (f : Figures). f .way ≤ 2) (u .figures) p (traded (u .kind) w d q (getD (u .figures) p noFigures)) (r .ways)
-            (λ l. way-small (getD (u .figures) p noFigures) (u .kind) h (each-at (λ (f : Figures). f .way ≤ 2) (u .figures) p noFigures (r .ways) l));
+        marks =
+            each-set (λ (f : Figures). f .mark ≤ 3) (u .figures) p (traded (u .kind) w d q (getD (u .figures) p noFigures)) (r .marks)
+            (λ l. mark-small (getD (u .figures) p noFigures) (u .kind) h (each-at (λ (f : Figures). f .mark ≤ 3) (u .figures) p noFigures (r .marks) l));
       }
 
   pub kept-booked : (v : ℕ) (b : Book) → d ≤ 1 → Kept b (booked w d p q v b)

@@ -14,7 +14,7 @@ use Rattle.matching.specs.Orders.{Order as OpenOrder}
 use Rattle.book.specs.Book.{OpenOffer, Book, rollingPhase, mostOffers, mostOrders, mostNumbers, unitOf, withOffers, withOrders, nextNumber, numbered}
 use Rattle.book.specs.Trades.{raises, lowers}
 use Rattle.book.specs.Fit.{openRaising, openLowering, Declaration}
-use Rattle.book.specs.Sound.{oneWay, apart, eachTwo}
+use Rattle.book.specs.Sound.{oneDirection, apart, eachTwo}
 use Rattle.book.proofs.laws.sound.RemainLaws.{each-holds, each-imp, each-append, every-append, every-both, rising-append}
 use Rattle.book.proofs.laws.sound.SoundLaws.{HeadRanges, OfferRanges, OrderRanges, otherNumber, Formed}
 use Rattle.book.proofs.laws.sound.FitLaws.{Moved}
@@ -59,7 +59,7 @@ formed-offer b o f r e few left =
       differ =
           every-append (λ (x : OpenOffer). every (otherNumber (x .number)) (b .orders)) (b .offers) (o ∷ []) (f .differ)
           (and-true (every (otherNumber (o .number)) (b .orders)) true (new-offer-differs b (o .number) e (f .orders)) refl);
-      oneWay = f .oneWay;
+      oneDirection = f .oneDirection;
       apart = f .apart;
     }
   where
@@ -99,7 +99,7 @@ pub record Beside (f : OpenOrder → OpenOrder → Bool) (o : OpenOrder) (os : L
   pub self : f o o ≡ true
 
 pub formed-order : (b : Book) (o : OpenOrder) → Formed b → OrderRanges (withOrder b o) o → o .number ≡ nextNumber b → length (b .orders) < mostOrders
-    → b .given < mostNumbers → Beside oneWay o (b .orders) → (b .phase ≡ rollingPhase → Beside apart o (b .orders)) → Formed (withOrder b o)
+    → b .given < mostNumbers → Beside oneDirection o (b .orders) → (b .phase ≡ rollingPhase → Beside apart o (b .orders)) → Formed (withOrder b o)
 formed-order b o f r e few left way cross =
     record {
       head = head;
@@ -119,7 +119,7 @@ formed-order b o f r e few left way cross =
           (λ (x : OpenOffer). every (otherNumber (x .number)) (b .orders ++ (o ∷ [])))
           (λ x p q. every-append (otherNumber (x .number)) (b .orders) (o ∷ []) p (and-true (not (eqb (x .number) (o .number))) true q refl))
           (b .offers) (f .differ) (new-order-differs b (o .number) e (f .offers));
-      oneWay = two-more oneWay (b .orders) o (f .oneWay) (way .to) (way .from) (way .self);
+      oneDirection = two-more oneDirection (b .orders) o (f .oneDirection) (way .to) (way .from) (way .self);
       apart = λ p. two-more apart (b .orders) o (f .apart p) (cross p .to) (cross p .from) (cross p .self);
     }
   where
@@ -142,10 +142,10 @@ formed-order b o f r e few left way cross =
         }
 
 -- orders of one unit and period that go the same way
-pub same-way : (x y : OpenOrder) → (x .unit ≡ y .unit → x .period ≡ y .period → x .direction ≡ y .direction) → oneWay x y ≡ true
-same-way x y h = go (ℕ-discrete (x .unit) (y .unit)) (ℕ-discrete (x .period) (y .period))
+pub same-direction : (x y : OpenOrder) → (x .unit ≡ y .unit → x .period ≡ y .period → x .direction ≡ y .direction) → oneDirection x y ≡ true
+same-direction x y h = go (ℕ-discrete (x .unit) (y .unit)) (ℕ-discrete (x .period) (y .period))
   where
-    go : Dec (x .unit ≡ y .unit) → Dec (x .period ≡ y .period) → oneWay x y ≡ true
+    go : Dec (x .unit ≡ y .unit) → Dec (x .period ≡ y .period) → oneDirection x y ≡ true
     go (yes u) (yes p) = rw (eq-eqb (x .unit) (y .unit) u, eq-eqb (x .period) (y .period) p, eq-eqb (x .direction) (y .direction) (h u p))
     go (yes u) (no p) = rw (eq-eqb (x .unit) (y .unit) u, ne-eqb (x .period) (y .period) p)
     go (no u) d = rw (ne-eqb (x .unit) (y .unit) u)

@@ -11,7 +11,7 @@ use Rattle.measures.proofs.RangeLaws.{In}
 use Rattle.limits.specs.Units.{generator}
 use Rattle.matching.specs.Orders.{Order as OpenOrder, leaving, numbers}
 use Rattle.book.specs.Book.{OpenOffer, Book, rollingPhase, mostUnits, mostNumbers, unitOf}
-use Rattle.book.specs.Sound.{oneWay, apart, eachTwo}
+use Rattle.book.specs.Sound.{oneDirection, apart, eachTwo}
 use Rattle.book.proofs.laws.sound.RemainLaws.{Remains, remains-each, remains-every, remains-length, remains-rising}
 use Rattle.book.proofs.laws.sound.SoundLaws.{HeadRanges, UnitRanges, Sides, OfferRanges, OrderRanges, otherNumber, numbersApart, Formed}
 
@@ -47,9 +47,9 @@ same-order o = record { left = o .quantity; is = refl; fewer = omega arith; some
 
 -- what is named in b is so in b′
 pub record Names (b b′ : Book) : Type 0 where
-  pub days : b′ .days ≡ b .days
-  pub floor : b′ .floor ≡ b .floor
-  pub ceiling : b′ .ceiling ≡ b .ceiling
+  pub days : b′ .rules .days ≡ b .rules .days
+  pub floor : b′ .rules .floor ≡ b .rules .floor
+  pub ceiling : b′ .rules .ceiling ≡ b .rules .ceiling
   pub given : b .given ≤ b′ .given
   pub count : length (b .units) ≤ length (b′ .units)
   pub kinds : (u : ℕ) → In 1 (length (b .units)) u → unitOf b′ u .kind ≡ unitOf b u .kind
@@ -118,7 +118,7 @@ pub record Remaining (b b′ : Book) : Type 0 where
   pub phase : b′ .phase ≤ rollingPhase
   pub given : b′ .given ≤ mostNumbers
   pub most : length (b′ .units) ≤ mostUnits
-  pub units : Each (UnitRanges (b′ .days)) (b′ .units)
+  pub units : Each (UnitRanges (b′ .rules .days)) (b′ .units)
   pub offers : Remains LessOffer (b′ .offers) (b .offers)
   pub orders : Remains LessOrder (b′ .orders) (b .orders)
   pub apart : b′ .phase ≡ rollingPhase → eachTwo apart (b′ .orders) ≡ true
@@ -133,7 +133,7 @@ formed-remaining b b′ r f =
       offersRise = remains-rising LessOffer (λ (o : OpenOffer). o .number) (λ x y l. ap (λ (o : OpenOffer). o .number) (l .is)) (r .offers) (f .offersRise);
       ordersRise = remains-rising LessOrder (λ (o : OpenOrder). o .number) (λ x y l. ap (λ (o : OpenOrder). o .number) (l .is)) (r .orders) (f .ordersRise);
       differ = differ-remain (b′ .offers) (b .offers) (b′ .orders) (b .orders) (r .offers) (r .orders) (f .differ);
-      oneWay = two-remain oneWay (λ x y p q. refl) (b′ .orders) (b .orders) (r .orders) (f .oneWay);
+      oneDirection = two-remain oneDirection (λ x y p q. refl) (b′ .orders) (b .orders) (r .orders) (f .oneDirection);
       apart = r .apart;
     }
   where

@@ -71,7 +71,7 @@ module _ (b b′ : Book) (u p : ℕ) (kind : unitOf b′ u .kind ≡ unitOf b u 
   lowering-less t = rw kind (orders-less u p (lowers (unitOf b u .kind)) (b′ .orders) (b .orders) t)
 
 -- a unit that stayed as it was, with what remains of the declarations
-pub moved-remaining : (b b′ : Book) (u : ℕ) → b′ .days ≡ b .days → unitOf b′ u ≡ unitOf b u → Remains LessOffer (b′ .offers) (b .offers)
+pub moved-remaining : (b b′ : Book) (u : ℕ) → b′ .rules .days ≡ b .rules .days → unitOf b′ u ≡ unitOf b u → Remains LessOffer (b′ .offers) (b .offers)
     → Remains LessOrder (b′ .orders) (b .orders) → Moved b b′ u nothing
 moved-remaining b b′ u days e s t =
     record {
@@ -99,18 +99,18 @@ sum-zero (suc n) f h =
     omega arith
 
 -- a unit with nothing traded and nothing open fits
-pub idle-fits : (b : Book) (u : ℕ) → ((p : ℕ) → p < periods (b .days) → figuresOf b u p ≡ noFigures) → Each (λ (o : OpenOffer). o .unit ≡ u → ⊥) (b .offers)
+pub idle-fits : (b : Book) (u : ℕ) → ((p : ℕ) → p < periods (b .rules .days) → figuresOf b u p ≡ noFigures) → Each (λ (o : OpenOffer). o .unit ≡ u → ⊥) (b .offers)
     → Each (λ (o : OpenOrder). o .unit ≡ u → ⊥) (b .orders) → Fits b u nothing
 unfolding openRaising openLowering
 idle-fits b u none s t =
     record {
       raising = λ p h. omega (arith, raised p h);
       lowering = λ p h. omega (arith, ap (λ (f : Figures). f .lowered) (none p h), orders-none u p (lowers (unitOf b u .kind)) (b .orders) t);
-      term = omega (arith, sum-zero (periods (b .days)) (raisedTo b u nothing) raised);
-      volume = omega (arith, sum-zero (periods (b .days)) (volumeTo b u nothing) volume);
+      term = omega (arith, sum-zero (periods (b .rules .days)) (raisedTo b u nothing) raised);
+      volume = omega (arith, sum-zero (periods (b .rules .days)) (volumeTo b u nothing) volume);
     }
   where
-    raised : (p : ℕ) → p < periods (b .days) → raisedTo b u nothing p ≡ 0
+    raised : (p : ℕ) → p < periods (b .rules .days) → raisedTo b u nothing p ≡ 0
     raised p h =
         omega (
           arith,
@@ -121,7 +121,7 @@ idle-fits b u none s t =
               (raises (unitOf b u .kind)) (b .orders) t,
         )
 
-    volume : (p : ℕ) → p < periods (b .days) → volumeTo b u nothing p ≡ 0
+    volume : (p : ℕ) → p < periods (b .rules .days) → volumeTo b u nothing p ≡ 0
     volume p h =
         omega (
           arith,

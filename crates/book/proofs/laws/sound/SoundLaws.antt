@@ -17,15 +17,15 @@ use Rattle.limits.specs.Units.{mostDays, mostCapacity, periods, generator}
 use Rattle.matching.specs.Orders.{Order as OpenOrder, rising, numbers}
 use Rattle.book.specs.Book.{Figures, EnrolledUnit, OpenOffer, Book, rollingPhase, mostUnits, mostOffers, mostOrders, mostNumbers, known, unitOf}
 use Rattle.book.specs.Fit.{nothing, unitFits}
-use Rattle.book.specs.Sound.{headIn, unitIn, bilateralSides, offerSides, offerIn, orderIn, numbersDiffer, oneWay, apart, eachTwo, sound}
+use Rattle.book.specs.Sound.{headIn, unitIn, bilateralSides, offerSides, offerIn, orderIn, numbersDiffer, oneDirection, apart, eachTwo, sound}
 use Rattle.book.proofs.laws.sound.RemainLaws.{each-of, each-holds}
 use Rattle.book.proofs.laws.sound.FitLaws.{Fits, unit-fits, fits-unit}
 
 -- the ranges of the book's own figures
 pub record HeadRanges (b : Book) : Type 0 where
-  pub days : In 1 mostDays (b .days)
-  pub prices : b .floor ≤ b .ceiling
-  pub ceiling : b .ceiling ≤ mostPrice
+  pub days : In 1 mostDays (b .rules .days)
+  pub prices : b .rules .floor ≤ b .rules .ceiling
+  pub ceiling : b .rules .ceiling ≤ mostPrice
   pub phase : b .phase ≤ rollingPhase
   pub given : b .given ≤ mostNumbers
   pub units : length (b .units) ≤ mostUnits
@@ -36,10 +36,10 @@ pub head-ranges : (b : Book) → headIn b ≡ true → HeadRanges b
 unfolding headIn
 head-ranges b e =
     let t = all-true _ e in
-    let x = leb (b .floor) (b .ceiling) in
-    let y = leb (b .ceiling) mostPrice in
+    let x = leb (b .rules .floor) (b .rules .ceiling) in
+    let y = leb (b .rules .ceiling) mostPrice in
     record {
-      days = within 1 mostDays (b .days) (t .0);
+      days = within 1 mostDays (b .rules .days) (t .0);
       prices = leb-true _ _ (and-left x y (t .1 .0));
       ceiling = leb-true _ _ (and-right x y (t .1 .0));
       phase = leb-true _ _ (t .1 .1 .0);
@@ -53,9 +53,9 @@ pub head-in : (b : Book) → HeadRanges b → headIn b ≡ true
 unfolding headIn
 head-in b h =
     holds-all _ (
-      inside 1 mostDays (b .days) (h .days),
+      inside 1 mostDays (b .rules .days) (h .days),
       (
-        and-true (leb (b .floor) (b .ceiling)) (leb (b .ceiling) mostPrice) (le-leb _ _ (h .prices)) (le-leb _ _ (h .ceiling)),
+        and-true (leb (b .rules .floor) (b .rules .ceiling)) (leb (b .rules .ceiling) mostPrice) (le-leb _ _ (h .prices)) (le-leb _ _ (h .ceiling)),
         (le-leb _ _ (h .phase), (le-leb _ _ (h .given), (le-leb _ _ (h .units), (le-leb _ _ (h .offers), (le-leb _ _ (h .orders), tt))))),
       ),
     )
@@ -66,7 +66,7 @@ pub record UnitRanges (days : ℕ) (u : EnrolledUnit) : Type 0 where
   pub capacity : In 1 mostCapacity (u .capacity)
   pub asset : u .asset ≤ mostEnergy
   pub figures : length (u .figures) ≡ periods days
-  pub ways : Each (λ (f : Figures). f .way ≤ 2) (u .figures)
+  pub marks : Each (λ (f : Figures). f .mark ≤ 3) (u .figures)
 
 pub unit-ranges : (days : ℕ) (u : EnrolledUnit) → unitIn days u ≡ true → UnitRanges days u
 unfolding unitIn
@@ -77,7 +77,7 @@ unit-ranges days u e =
       capacity = within 1 mostCapacity (u .capacity) (t .1 .0);
       asset = leb-true _ _ (t .1 .1 .0);
       figures = eqb-true _ _ (t .1 .1 .1 .0);
-      ways = each-of (λ (f : Figures). leb (f .way) 2) (λ (f : Figures). f .way ≤ 2) (λ f h. leb-true _ _ h) (u .figures) (t .1 .1 .1 .1 .0);
+      marks = each-of (λ (f : Figures). leb (f .mark) 3) (λ (f : Figures). f .mark ≤ 3) (λ f h. leb-true _ _ h) (u .figures) (t .1 .1 .1 .1 .0);
     }
 
 pub unit-in : (days : ℕ) (u : EnrolledUnit) → UnitRanges days u → unitIn days u ≡ true
@@ -91,7 +91,7 @@ unit-in days u r =
           le-leb _ _ (r .asset),
           (
             eq-eqb _ _ (r .figures),
-            (each-holds (λ (f : Figures). leb (f .way) 2) (λ (f : Figures). f .way ≤ 2) (λ f h. le-leb _ _ h) (u .figures) (r .ways), tt),
+            (each-holds (λ (f : Figures). leb (f .mark) 3) (λ (f : Figures). f .mark ≤ 3) (λ f h. le-leb _ _ h) (u .figures) (r .marks), tt),
           ),
         ),
       ),
@@ -108,9 +108,9 @@ pub record OfferRanges (b : Book) (o : OpenOffer) : Type 0 where
   pub number : In 1 (b .given) (o .number)
   pub unit : In 1 (length (b .units)) (o .unit)
   pub sides : (o .partner ≡ 0 → ⊥) → Sides b o
-  pub price : In (b .floor) (b .ceiling) (o .price)
+  pub price : In (b .rules .floor) (b .rules .ceiling) (o .price)
   pub taken : o .taken ≤ 1
-  pub amounts : length (o .amounts) ≡ periods (b .days)
+  pub amounts : length (o .amounts) ≡ periods (b .rules .days)
   pub energy : In 1 mostEnergy (total (o .amounts))
 
 module _ (b : Book) (o : OpenOffer) where
@@ -142,7 +142,7 @@ module _ (b : Book) (o : OpenOffer) where
         number = within 1 (b .given) (o .number) (t .0);
         unit = within 1 (length (b .units)) (o .unit) (t .1 .0);
         sides = offer-sides (t .1 .1 .0);
-        price = within (b .floor) (b .ceiling) (o .price) (t .1 .1 .1 .0);
+        price = within (b .rules .floor) (b .rules .ceiling) (o .price) (t .1 .1 .1 .0);
         taken = leb-true _ _ (t .1 .1 .1 .1 .0);
         amounts = eqb-true _ _ (t .1 .1 .1 .1 .1 .0);
         energy = within 1 mostEnergy (total (o .amounts)) (t .1 .1 .1 .1 .1 .1 .0);
@@ -158,7 +158,7 @@ module _ (b : Book) (o : OpenOffer) where
           (
             sides-in (r .sides),
             (
-              inside (b .floor) (b .ceiling) (o .price) (r .price),
+              inside (b .rules .floor) (b .rules .ceiling) (o .price) (r .price),
               (
                 le-leb _ _ (r .taken),
                 (
@@ -176,8 +176,8 @@ pub record OrderRanges (b : Book) (o : OpenOrder) : Type 0 where
   pub number : In 1 (b .given) (o .number)
   pub unit : In 1 (length (b .units)) (o .unit)
   pub direction : o .direction ≤ 1
-  pub period : o .period < periods (b .days)
-  pub price : In (b .floor) (b .ceiling) (o .price)
+  pub period : o .period < periods (b .rules .days)
+  pub price : In (b .rules .floor) (b .rules .ceiling) (o .price)
   pub energy : In 1 mostEnergy (o .quantity)
 
 module _ (b : Book) (o : OpenOrder) where
@@ -190,7 +190,7 @@ module _ (b : Book) (o : OpenOrder) where
         unit = within 1 (length (b .units)) (o .unit) (t .1 .0);
         direction = leb-true _ _ (t .1 .1 .0);
         period = ltb-true _ _ (t .1 .1 .1 .0);
-        price = within (b .floor) (b .ceiling) (o .price) (t .1 .1 .1 .1 .0);
+        price = within (b .rules .floor) (b .rules .ceiling) (o .price) (t .1 .1 .1 .1 .0);
         energy = within 1 mostEnergy (o .quantity) (t .1 .1 .1 .1 .1 .0);
       }
 
@@ -206,7 +206,7 @@ module _ (b : Book) (o : OpenOrder) where
             (
               lt-ltb _ _ (r .period),
               (
-                inside (b .floor) (b .ceiling) (o .price) (r .price),
+                inside (b .rules .floor) (b .rules .ceiling) (o .price) (r .price),
                 (inside 1 mostEnergy (o .quantity) (r .energy), tt),
               ),
             ),
@@ -224,13 +224,13 @@ numbersApart fs os = every (λ (f : OpenOffer). every (otherNumber (f .number)) 
 -- all that a sound book is, but for the limits
 pub record Formed (b : Book) : Type 0 where
   pub head : HeadRanges b
-  pub units : Each (UnitRanges (b .days)) (b .units)
+  pub units : Each (UnitRanges (b .rules .days)) (b .units)
   pub offers : Each (OfferRanges b) (b .offers)
   pub orders : Each (OrderRanges b) (b .orders)
   pub offersRise : rising (map (λ (o : OpenOffer). o .number) (b .offers)) ≡ true
   pub ordersRise : rising (numbers (b .orders)) ≡ true
   pub differ : numbersApart (b .offers) (b .orders) ≡ true
-  pub oneWay : eachTwo oneWay (b .orders) ≡ true
+  pub oneDirection : eachTwo oneDirection (b .orders) ≡ true
   pub apart : b .phase ≡ rollingPhase → eachTwo apart (b .orders) ≡ true
 
 -- a sound book
@@ -259,13 +259,13 @@ module _ (b : Book) where
       record {
         formed = record {
           head = head-ranges b (t .0);
-          units = each-of (unitIn (b .days)) (UnitRanges (b .days)) (unit-ranges (b .days)) (b .units) (t .1 .0);
+          units = each-of (unitIn (b .rules .days)) (UnitRanges (b .rules .days)) (unit-ranges (b .rules .days)) (b .units) (t .1 .0);
           offers = each-of (offerIn b) (OfferRanges b) (offer-ranges b) (b .offers) (t .1 .1 .0);
           orders = each-of (orderIn b) (OrderRanges b) (order-ranges b) (b .orders) (t .1 .1 .1 .0);
           offersRise = n .0;
           ordersRise = n .1 .0;
           differ = n .1 .1 .0;
-          oneWay = t .1 .1 .1 .1 .1 .0;
+          oneDirection = t .1 .1 .1 .1 .1 .0;
           apart = λ r. or-other (not (eqb (b .phase) rollingPhase)) (eachTwo apart (b .orders)) (t .1 .1 .1 .1 .1 .1 .0) (ap not (eq-eqb _ _ r));
         };
         fits = all-fit (t .1 .1 .1 .1 .1 .1 .1 .0);
@@ -278,7 +278,7 @@ module _ (b : Book) where
       holds-all _ (
         head-in b (f .head),
         (
-          each-holds (unitIn (b .days)) (UnitRanges (b .days)) (unit-in (b .days)) (b .units) (f .units),
+          each-holds (unitIn (b .rules .days)) (UnitRanges (b .rules .days)) (unit-in (b .rules .days)) (b .units) (f .units),
           (
             each-holds (offerIn b) (OfferRanges b) (offer-in b) (b .offers) (f .offers),
             (
@@ -286,7 +286,7 @@ module _ (b : Book) where
               (
                 holds-all _ (f .offersRise, (f .ordersRise, (f .differ, tt))),
                 (
-                  f .oneWay,
+                  f .oneDirection,
                   (
                     rolling-apart (f .apart),
                     (all-by (length (b .units)) (λ k. unitFits b (k + 1)) (λ k h. fits-unit b (k + 1) (s .fits (k + 1) (omega arith))), tt),

@@ -20,7 +20,7 @@ use Rattle.book.specs.Sound.{sound, unitIn}
 use Rattle.book.specs.Offer.{raisingAmounts}
 use Rattle.book.specs.Layout.{word, amountAt, unitAt, decode}
 use Rattle.book.specs.Contract.{soundIn}
-use Rattle.book.specs.inner.Readable.{Ranged, unitFieldsIn, waysIn, declared, Fitted, small}
+use Rattle.book.specs.inner.Readable.{Ranged, unitFieldsIn, marksIn, declared, Fitted, small}
 use Rattle.book.specs.inner.RowsIn.{fitChecks, partsAt, TakeFit}
 use Rattle.book.proofs.laws.memory.RangeFacts.{units-held, unit-at}
 use Rattle.book.proofs.laws.answer.MadeLaws.{sound-book, sound-readable}
@@ -64,7 +64,7 @@ module _ (m : List ℕ) (s : soundIn m ≡ true) where
   unit-in-at k h =
       let t = all-true _ (sound-book m s) in
       ap (unitIn (word m 0)) (sym (table-at (word m 5) (unitAt m (word m 0)) k noUnit h))
-      ∙ every-at (unitIn (decode m .days)) (decode m .units) k noUnit (t .1 .0) (omega (arith, units-held m))
+      ∙ every-at (unitIn (decode m .rules .days)) (decode m .units) k noUnit (t .1 .0) (omega (arith, units-held m))
 
   fields-in : (k : ℕ) → k < word m 5 → unitFieldsIn m k ≡ true
   unfolding unitFieldsIn unitIn
@@ -76,11 +76,11 @@ module _ (m : List ℕ) (s : soundIn m ≡ true) where
       let t = all-true _ (sound-book m s) in
       record { readable = sound-readable m s; units = all-by (word m 5) (unitFieldsIn m) fields-in; offers = t .1 .1 .0; orders = t .1 .1 .1 .0 }
 
-  pub sound-ways : (u : ℕ) → In 1 (word m 5) u → waysIn (decode m) u ≡ true
-  unfolding waysIn unitIn
-  sound-ways u h =
+  pub sound-marks : (u : ℕ) → In 1 (word m 5) u → marksIn (decode m) u ≡ true
+  unfolding marksIn unitIn
+  sound-marks u h =
       let t = all-true _ (unit-in-at (u - 1) (omega arith)) in
-      ap (λ (x : EnrolledUnit). every (λ (g : Figures). leb (g .way) 2) (x .figures)) (unit-at m u h) ∙ t .1 .1 .1 .1 .0
+      ap (λ (x : EnrolledUnit). every (λ (g : Figures). leb (g .mark) 3) (x .figures)) (unit-at m u h) ∙ t .1 .1 .1 .1 .0
 
 -- the parts of a take, as they are shared and as they fit
 module _ (m : List ℕ) (u j q : ℕ) (s : soundIn m ≡ true) (hj : j < word m 6) (hu : In 1 (word m 5) u) (some : 1 ≤ q) (most : q
@@ -137,7 +137,7 @@ module _ (m : List ℕ) (u j q : ℕ) (s : soundIn m ≡ true) (hj : j < word m 
   unfolding fitChecks
   take-fitted y l x r ey ex f = record {
     answer =
-        f .clean (sound-ways m s u hu)
+        f .clean (sound-marks m s u hu)
         ∙ misfit-ext (decode m) u (declared y (replicate 744 0)) (raisingAmounts (partsAt m j q))
         (λ i. ap (λ (t : List ℕ). getD t i 0) ey ∙ padded-at (partsAt m j q) (drop (periods (word m 0)) (replicate 744 0)) zeros-behind i)
         (λ i. zeros-at 744 i)

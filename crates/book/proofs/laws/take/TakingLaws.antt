@@ -156,7 +156,7 @@ module _ (b : Book) (u n q : ℕ) where
         phase = f .head .phase;
         given = f .head .given;
         most = omega (arith, stay .count, f .head .units);
-        units = stay .ranges (b .days) (f .units);
+        units = stay .ranges (b .rules .days) (f .units);
         offers = offers-remain n ps (b .offers);
         orders = remains-all LessOrder same-order (b .orders);
         apart = f .apart;
@@ -177,11 +177,11 @@ module _ (b : Book) (u n q : ℕ) where
         volume = λ p l. let g = grown p l in rw (stay .kind v) (omega (arith, fall p, h p));
       }
     where
-      grown : (p : ℕ) → p < periods (b .days)
+      grown : (p : ℕ) → p < periods (b .rules .days)
           → Grown (figuresOf b v p) (figuresOf after v p) (cond (eqb (offerOf b n .unit) v) (getD ps p 0) 0 + cond (eqb u v) (getD ps p 0) 0) 0
       grown p l =
           let r = take-raises b (offerOf b n) u ps (a .sides) v p in
-          let f = each-at (UnitRanges (b .days)) (b .units) (v - 1) noUnit (s .formed .units) (omega arith) .figures in
+          let f = each-at (UnitRanges (b .rules .days)) (b .units) (v - 1) noUnit (s .formed .units) (omega arith) .figures in
           rw (r .0, r .1) at (grown-rows rows less v p (rows-named b (offerOf b n) u ps (a .sides) (a .offer .unit .0) (a .taker .0)) i (omega arith))
 
       fall : (p : ℕ) → openOffers v p (offersLess n ps (b .offers)) + cond (eqb (offerOf b n .unit) v) (getD ps p 0) 0 ≡ openOffers v p (b .offers)

@@ -31,7 +31,7 @@ fewer-kept f [] = omega arith
 fewer-kept f (o ∷ l) = let ih = fewer-kept f l in cond-case (λ (t : List OpenOffer). length t
     ≤ suc (length l)) (f o) _ _ (λ e. omega arith) (λ e. omega arith)
 
-days-of : (m : List ℕ) → decode m .days ≡ word m 0
+days-of : (m : List ℕ) → decode m .rules .days ≡ word m 0
 unfolding decode
 days-of m = refl
 
@@ -43,7 +43,7 @@ module _ (m : List ℕ) (u n j : ℕ) (l : List ℕ) (s : soundIn m ≡ true) (h
   rs = takeRows (decode m) (offerAt m (word m 0) j) u (take (24 * word m 0) l)
 
   w0 : word x 0 ≡ word m 0
-  w0 = sym (days-of x) ∙ ap (λ (b : Book). b .days) dx ∙ days-of m
+  w0 = sym (days-of x) ∙ ap (λ (b : Book). b .rules .days) dx ∙ days-of m
 
   w5 : word x 5 ≡ word m 5
   w5 = sym (units-held x) ∙ ap (λ (b : Book). length (b .units)) dx ∙ units-held m

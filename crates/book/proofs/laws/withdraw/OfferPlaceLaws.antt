@@ -16,6 +16,7 @@ use Rattle.book.specs.Layout.{word, decode, offerAt}
 use Rattle.book.specs.Refusals.{firstOf}
 use Rattle.book.specs.Contract.{soundIn}
 use Rattle.book.specs.Withdraw.{withdrawChecks}
+use Rattle.book.specs.inner.RowsIn.{Found}
 use Rattle.book.proofs.laws.memory.RangeFacts.{units-held, offers-held}
 use Rattle.book.proofs.laws.memory.KeptLaws.{number-kept, number-gone, number-none}
 use Rattle.book.proofs.laws.cancel.CancelLaws.{sound-rises}
@@ -74,17 +75,17 @@ module _ (m : List ℕ) (s : soundIn m ≡ true) (n : ℕ) where
           rw (units-held m) (rw (inside 1 (word m 5) u h, offer-found j hj e, eq-eqb (word m (201 + 5 * j)) u g, ne-eqb (word m (204 + 5 * j)) 1 t) refl)
 
   -- the place that the search gives is an offer's
-  pub offer-placed : offerOpen (decode m) n ≡ true → (j : ℕ) → j ≤ word m 6 → ((i : ℕ) → i < j → word m (200 + 5 * i) ≡ n → ⊥) → j < word m 6
-  offer-placed o j le h = go (decLt j (word m 6))
+  pub offer-placed : offerOpen (decode m) n ≡ true → word m 6 ≤ 8 → (j : ℕ) → Found m n j → j < word m 6
+  offer-placed o few j f = go (decLt j 8)
     where
       none : ((i : ℕ) → i < word m 6 → word m (200 + 5 * i) ≡ n → ⊥) → ⊥
       none a =
           let z : ltb 0 (length (offersOf (decode m) n)) ≡ false = rw (offer-absent a) refl in
           not-both _ o z
 
-      go : Dec (j < word m 6) → j < word m 6
-      go (yes l) = l
-      go (no l) = absurd (none (λ i u. h i (omega arith)))
+      go : Dec (j < 8) → j < word m 6
+      go (yes l) = f .there l
+      go (no l) = absurd (none (λ i u. f .unmet i u (omega arith)))
 
 -- where the checks of a withdraw give 0, the offer is open
 pub withdraw-open : (b : Book) (u n : ℕ) → 0 ≡ firstOf (withdrawChecks b u n) → offerOpen b n ≡ true

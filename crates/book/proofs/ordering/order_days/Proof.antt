@@ -1,6 +1,6 @@
 -- `order_days`: each test is a check of the second part; the sums are the lengths of what the checks keep.
 use native.Mathlib.Omega.{arith}
-use Rattle.book.proofs.laws.order.OrderCheckLaws.{days-against, days-way, days-two, days-full, days-used, days-pass}
+use Rattle.book.proofs.laws.order.OrderCheckLaws.{days-against, days-mark, days-two, days-full, days-used, days-pass}
 use borrow.Author.Needs.{needs}
 use Rattle.book.proofs.ordering.order_days.Statement.{statement}
 use Rattle.book.proofs.ordering.order_days.Tie as tie
@@ -14,50 +14,50 @@ returns c = days-against _ _ _ _ (omega arith) (omega arith) (omega arith) (omeg
 sub-k : tie.Need-sub-k
 sub-k c = search needs
 
-mul-way : tie.Need-mul-way
-mul-way c = search needs
+mul-mark : tie.Need-mul-mark
+mul-mark c = search needs
 
-add-way : tie.Need-add-way
-add-way c = search needs
+add-mark : tie.Need-add-mark
+add-mark c = search needs
 
-mul-way-2 : tie.Need-mul-way-2
-mul-way-2 c = search needs
+mul-mark-2 : tie.Need-mul-mark-2
+mul-mark-2 c = search needs
 
-add-way-2 : tie.Need-add-way-2
-add-way-2 c = search needs
+add-mark-2 : tie.Need-add-mark-2
+add-mark-2 c = search needs
 
-mul-way-3 : tie.Need-mul-way-3
-mul-way-3 c = search needs
+mul-mark-3 : tie.Need-mul-mark-3
+mul-mark-3 c = search needs
 
-shared-slice-read-way : tie.Need-shared-slice-read-way
-shared-slice-read-way c = search needs
+shared-slice-read-mark : tie.Need-shared-slice-read-mark
+shared-slice-read-mark c = search needs
 
-sub-if2 : tie.Need-sub-if2
-sub-if2 c = search needs
+marked-against-requires : tie.Need-marked-against-requires
+marked-against-requires c κs = search needs
 
 returns-2 : tie.Need-returns-2
-returns-2 c = days-way _ _ _ _ (omega arith) (omega arith) (omega arith) (omega arith) (omega arith)
+returns-2 c =
+    days-mark _ _ _ _ (omega arith) (omega arith) (omega arith) (omega arith) _ (c .before .marked-against .ensures) (c .if2 .taken)
 
 counted-requires : tie.Need-counted-requires
 counted-requires c κs = search needs
 
 returns-3 : tie.Need-returns-3
 returns-3 c =
-    let c6 = c .before .before .before .before .before .before in
-    let s = c6 .unit-orders .ensures in
-    days-two _ _ _ _ (omega arith) (omega arith) (omega arith) (omega arith) _ (s .1) (omega arith) (omega arith) _ _ (s .0) (c .before .counted .ensures)
-    (omega arith)
+    let s = c .before .before .before .before .before .before .before .unit-orders .ensures in
+    let w = c .before .before .before .marked-against .ensures in
+    days-two _ _ _ _ (omega arith) (omega arith) (omega arith) (omega arith) _ (s .1) (omega arith) _ w (c .before .before .if2 .left)
+    _ _ (s .0) (c .before .counted .ensures) (omega arith)
 
 shared-slice-read-if4 : tie.Need-shared-slice-read-if4
 shared-slice-read-if4 c = search needs
 
 returns-4 : tie.Need-returns-4
 returns-4 c =
-    let c3 = c .before .before .before in
-    let c8 = c3 .before .before .before .before .before in
-    let s = c8 .unit-orders .ensures in
-    days-full _ _ _ _ (omega arith) (omega arith) (omega arith) (omega arith) _ (s .1) (omega arith) (omega arith) _ _ (s .0) (c3 .counted .ensures)
-    (omega arith) (omega arith)
+    let s = c .before .before .before .before .before .before .before .before .before .unit-orders .ensures in
+    let w = c .before .before .before .before .before .marked-against .ensures in
+    days-full _ _ _ _ (omega arith) (omega arith) (omega arith) (omega arith) _ (s .1) (omega arith) _ w (c .before .before .before .before .if2 .left)
+    _ _ (s .0) (c .before .before .before .counted .ensures) (omega arith) (omega arith)
 
 shared-slice-read-if5 : tie.Need-shared-slice-read-if5
 shared-slice-read-if5 c = search needs
@@ -65,18 +65,16 @@ shared-slice-read-if5 c = search needs
 returns-5 : tie.Need-returns-5
 returns-5 c =
     let c5 = c .before .before .before .before .before in
-    let c10 = c5 .before .before .before .before .before in
-    let s = c10 .unit-orders .ensures in
-    days-used _ _ _ _ (omega arith) (omega arith) (omega arith) (omega arith) _ (s .1) (omega arith) (omega arith) _ _ (s .0) (c5 .counted .ensures)
-    (omega arith) (omega arith) (omega arith)
+    let s = c5 .before .before .before .before .before .before .unit-orders .ensures in
+    days-used _ _ _ _ (omega arith) (omega arith) (omega arith) (omega arith) _ (s .1) (omega arith) _ (c5 .before .before .marked-against .ensures)
+    (c5 .before .if2 .left) _ _ (s .0) (c5 .counted .ensures) (omega arith) (omega arith) (omega arith)
 
 returns-6 : tie.Need-returns-6
 returns-6 c =
     let c5 = c .before .before .before .before .before in
-    let c10 = c5 .before .before .before .before .before in
-    let s = c10 .unit-orders .ensures in
-    days-pass _ _ _ _ (omega arith) (omega arith) (omega arith) (omega arith) _ (s .1) (omega arith) (omega arith) _ _ (s .0) (c5 .counted .ensures)
-    (omega arith) (omega arith) (omega arith)
+    let s = c5 .before .before .before .before .before .before .unit-orders .ensures in
+    days-pass _ _ _ _ (omega arith) (omega arith) (omega arith) (omega arith) _ (s .1) (omega arith) _ (c5 .before .before .marked-against .ensures)
+    (c5 .before .if2 .left) _ _ (s .0) (c5 .counted .ensures) (omega arith) (omega arith) (omega arith)
 
 pub order-days-spec : {M : Type 1} → statement M
 order-days-spec =
@@ -85,13 +83,13 @@ order-days-spec =
     unit-orders-requires
     returns
     sub-k
-    mul-way
-    add-way
-    mul-way-2
-    add-way-2
-    mul-way-3
-    shared-slice-read-way
-    sub-if2
+    mul-mark
+    add-mark
+    mul-mark-2
+    add-mark-2
+    mul-mark-3
+    shared-slice-read-mark
+    marked-against-requires
     returns-2
     counted-requires
     returns-3

@@ -5,17 +5,17 @@ use borrow.Author.Needs.{needs}
 use Rattle.book.proofs.pairs.order_stands.Statement.{statement}
 use Rattle.book.proofs.pairs.order_stands.Tie as tie
 
-one-way-requires : tie.Need-one-way-requires
-one-way-requires c κs = search needs
+one-direction-requires : tie.Need-one-direction-requires
+one-direction-requires c κs = search needs
 
 returns : tie.Need-returns
-returns c = stands-not _ _ _ _ _ (c .before .one-way .ensures) (not-true _ (c .if1 .taken))
+returns c = stands-not _ _ _ _ _ (c .before .one-direction .ensures) (not-true _ (c .if1 .taken))
 
 shared-slice-read-if2 : tie.Need-shared-slice-read-if2
 shared-slice-read-if2 c = search needs
 
 returns-2 : tie.Need-returns-2
-returns-2 c = stands-called _ _ _ _ _ (c .before .before .before .one-way .ensures) (not-false _ (c .before .before .if1 .left)) (c .if2 .taken)
+returns-2 c = stands-called _ _ _ _ _ (c .before .before .before .one-direction .ensures) (not-false _ (c .before .before .if1 .left)) (c .if2 .taken)
 
 stands-apart-requires : tie.Need-stands-apart-requires
 stands-apart-requires c κs =
@@ -35,13 +35,13 @@ returns-3 c =
     let c7 = c4 .before .before .before in
     let c9 = c7 .before .before in
     let c10 = c9 .before in
-    stands-rolling _ _ _ _ _ _ (c10 .one-way .ensures) (not-false _ (c9 .if1 .left)) (c7 .if2 .left) (c4 .stands-apart .ensures)
+    stands-rolling _ _ _ _ _ _ (c10 .one-direction .ensures) (not-false _ (c9 .if1 .left)) (c7 .if2 .left) (c4 .stands-apart .ensures)
 
 pub order-stands-spec : {M : Type 1} → statement M
 order-stands-spec =
     tie.close
     (tie.spec
-    one-way-requires
+    one-direction-requires
     returns
     shared-slice-read-if2
     returns-2

@@ -66,26 +66,26 @@ slice-read-volume c = search needs
 add-volume-3 : tie.Need-add-volume-3
 add-volume-3 c = search needs
 
-mul-way-after : tie.Need-mul-way-after
-mul-way-after c = search needs
+mul-mark-after : tie.Need-mul-mark-after
+mul-mark-after c = search needs
 
-add-way-after : tie.Need-add-way-after
-add-way-after c = search needs
+add-mark-after : tie.Need-add-mark-after
+add-mark-after c = search needs
 
-mul-way-after-2 : tie.Need-mul-way-after-2
-mul-way-after-2 c = search needs
+mul-mark-after-2 : tie.Need-mul-mark-after-2
+mul-mark-after-2 c = search needs
 
-add-way-after-2 : tie.Need-add-way-after-2
-add-way-after-2 c = search needs
+add-mark-after-2 : tie.Need-add-mark-after-2
+add-mark-after-2 c = search needs
 
-mul-way-after-3 : tie.Need-mul-way-after-3
-mul-way-after-3 c = search needs
+mul-mark-after-3 : tie.Need-mul-mark-after-3
+mul-mark-after-3 c = search needs
 
-slice-read-way-after : tie.Need-slice-read-way-after
-slice-read-way-after c = search needs
+slice-read-mark-after : tie.Need-slice-read-mark-after
+slice-read-mark-after c = search needs
 
-way-after-requires : tie.Need-way-after-requires
-way-after-requires c κs = search needs
+mark-after-requires : tie.Need-mark-after-requires
+mark-after-requires c κs = search needs
 
 raises-net-requires : tie.Need-raises-net-requires
 raises-net-requires c κs = search needs
@@ -111,7 +111,7 @@ returns c =
     let c5 = c4 .before in
     let c7 = c5 .before .before in
     let c13 = c7 .before .before .before .before .before .before in
-    trade-raised _ _ _ _ _ _ _ _ (c13 .pre .0) (omega arith) (omega arith) (omega arith) (c7 .way-after .ensures) (sym (c5 .raises-net .ensures)
+    trade-raised _ _ _ _ _ _ _ _ (c13 .pre .0) (omega arith) (omega arith) (omega arith) (c7 .mark-after .ensures) (sym (c5 .raises-net .ensures)
     ∙ c4 .if1 .taken) (c .before .before .put-figures .ensures)
 
 same-length-2 : tie.Need-same-length-2
@@ -123,7 +123,7 @@ returns-2 c =
     let c5 = c4 .before in
     let c7 = c5 .before .before in
     let c13 = c7 .before .before .before .before .before .before in
-    trade-lowered _ _ _ _ _ _ _ _ (c13 .pre .0) (omega arith) (omega arith) (omega arith) (c7 .way-after .ensures) (sym (c5 .raises-net .ensures)
+    trade-lowered _ _ _ _ _ _ _ _ (c13 .pre .0) (omega arith) (omega arith) (omega arith) (c7 .mark-after .ensures) (sym (c5 .raises-net .ensures)
     ∙ c4 .if1 .left) (c .before .before .put-figures2 .ensures)
 
 pub book-trade-spec : {M : Type 1} → statement M
@@ -150,13 +150,13 @@ book-trade-spec =
     mul-volume-3
     slice-read-volume
     add-volume-3
-    mul-way-after
-    add-way-after
-    mul-way-after-2
-    add-way-after-2
-    mul-way-after-3
-    slice-read-way-after
-    way-after-requires
+    mul-mark-after
+    add-mark-after
+    mul-mark-after-2
+    add-mark-after-2
+    mul-mark-after-3
+    slice-read-mark-after
+    mark-after-requires
     raises-net-requires
     add-put-figures
     put-figures-requires

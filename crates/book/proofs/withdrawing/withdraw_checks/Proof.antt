@@ -18,82 +18,77 @@ shared-slice-read-if2 c = let r = ok (c .before .before .before) in omega arith
 returns-2 : tie.Need-returns-2
 returns-2 c = let s = c .before .before .before .before in withdraw-unknown (s .args .book .now) (s .pre) (s .args .number) (s .args .unit) (omega arith)
 
-shared-slice-read-n : tie.Need-shared-slice-read-n
-shared-slice-read-n c =
-    let c5 = c .before .before .before .before .before in
-    let r = ok c5 in omega arith
-
-offer-place-requires : tie.Need-offer-place-requires
-offer-place-requires c κs =
-    let c5 = c .before .before .before .before .before in
-    ok c5
+find-offer-requires : tie.Need-find-offer-requires
+find-offer-requires c κs =
+    let c4 = c .before .before .before .before in
+    ok c4
 
 returns-3 : tie.Need-returns-3
-returns-3 c = let s = c .before .before .before .before .before .before .before in withdraw-absent (s .args .book .now) (s .pre) (s .args .number)
-    (s .args .unit) (omega arith) (λ k l. c .before .offer-place .ensures .1 k (omega arith))
+returns-3 c = let s = c .before .before .before .before .before .before in withdraw-absent (s .args .book .now) (s .pre) (s .args .number)
+    (s .args .unit) (omega arith) (λ k l. c .before .find-offer .ensures .unmet k l (let r = ok s in omega arith))
 
 mul-if4 : tie.Need-mul-if4
 mul-if4 c =
-    let c7 = c .before .before .before .before .before .before .before in
-    let r = ok c7 in omega arith
+    let c6 = c .before .before .before .before .before .before in
+    let r = ok c6 in omega arith
 
 add-if4 : tie.Need-add-if4
 add-if4 c =
-    let c7 = c .before .before .before .before .before .before .before in
-    let r = ok c7 in omega arith
+    let c6 = c .before .before .before .before .before .before in
+    let r = ok c6 in omega arith
 
 mul-if4-2 : tie.Need-mul-if4-2
 mul-if4-2 c =
-    let c7 = c .before .before .before .before .before .before .before in
-    let r = ok c7 in omega arith
+    let c6 = c .before .before .before .before .before .before in
+    let r = ok c6 in omega arith
 
 shared-slice-read-if4 : tie.Need-shared-slice-read-if4
 shared-slice-read-if4 c =
-    let c8 = c .before .before .before .before .before .before .before .before in
-    let r = ok c8 in omega arith
+    let c7 = c .before .before .before .before .before .before .before in
+    let r = ok c7 in omega arith
 
 returns-4 : tie.Need-returns-4
 returns-4 c =
     let c3 = c .before .before .before in
-    let s = c .before .before .before .before .before .before .before .before .before in
-    let w = c3 .offer-place in
-    withdraw-other (s .args .book .now) (s .pre) (s .args .number) (s .args .unit) (omega arith) (w .result) (omega arith) (w .ensures .2 (omega arith))
+    let s = c .before .before .before .before .before .before .before .before in
+    let w = c3 .find-offer in
+    withdraw-other (s .args .book .now) (s .pre) (s .args .number) (s .args .unit) (omega arith) (w .result) (w .ensures .there (omega arith)) (w .ensures .number (omega arith))
     (omega arith)
 
 mul-if5 : tie.Need-mul-if5
 mul-if5 c =
-    let c9 = c .before .before .before .before .before .before .before .before .before in
-    let r = ok c9 in omega arith
+    let c8 = c .before .before .before .before .before .before .before .before in
+    let r = ok c8 in omega arith
 
 add-if5 : tie.Need-add-if5
 add-if5 c =
-    let c9 = c .before .before .before .before .before .before .before .before .before in
-    let r = ok c9 in omega arith
+    let c8 = c .before .before .before .before .before .before .before .before in
+    let r = ok c8 in omega arith
 
 mul-if5-2 : tie.Need-mul-if5-2
 mul-if5-2 c =
-    let c9 = c .before .before .before .before .before .before .before .before .before in
-    let r = ok c9 in omega arith
+    let c8 = c .before .before .before .before .before .before .before .before in
+    let r = ok c8 in omega arith
 
 shared-slice-read-if5 : tie.Need-shared-slice-read-if5
 shared-slice-read-if5 c =
-    let c10 = c .before .before .before .before .before .before .before .before .before .before in
-    let r = ok c10 in omega arith
+    let c9 = c .before .before .before .before .before .before .before .before .before in
+    let r = ok c9 in omega arith
 
 returns-5 : tie.Need-returns-5
 returns-5 c =
     let c5 = c .before .before .before .before .before in
-    let s = c .before .before .before .before .before .before .before .before .before .before .before in
-    let w = c5 .offer-place in
-    withdraw-taken (s .args .book .now) (s .pre) (s .args .number) (s .args .unit) (omega arith) (w .result) (omega arith) (w .ensures .2 (omega arith))
+    let s = c .before .before .before .before .before .before .before .before .before .before in
+    let w = c5 .find-offer in
+    withdraw-taken (s .args .book .now) (s .pre) (s .args .number) (s .args .unit) (omega arith) (w .result) (w .ensures .there (omega arith)) (w .ensures .number (omega arith))
     (omega arith) (omega arith)
 
 returns-6 : tie.Need-returns-6
 returns-6 c =
     let c5 = c .before .before .before .before .before in
-    let s = c .before .before .before .before .before .before .before .before .before .before .before in
-    let w = c5 .offer-place in
-    withdraw-passes (s .args .book .now) (s .pre) (s .args .number) (s .args .unit) (omega arith) (w .result) (omega arith) (w .ensures .2 (omega arith))
+    let s = c .before .before .before .before .before .before .before .before .before .before in
+    let w = c5 .find-offer in
+    withdraw-passes (s .args .book .now) (s .pre) (s .args .number) (s .args .unit) (omega arith) (w .result) (w .ensures .there (omega arith)) (w .ensures .number (omega arith))
     (omega arith) (omega arith)
 
 pub withdraw-checks-spec : {M : Type 1} → statement M
@@ -103,8 +98,7 @@ withdraw-checks-spec =
     returns
     shared-slice-read-if2
     returns-2
-    shared-slice-read-n
-    offer-place-requires
+    find-offer-requires
     returns-3
     mul-if4
     add-if4

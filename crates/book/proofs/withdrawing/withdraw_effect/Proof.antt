@@ -14,16 +14,16 @@ use Rattle.book.proofs.withdrawing.withdraw_effect.Tie as tie
 ok : (c : tie.Start) → Readable (c .args .book .now)
 ok c = sound-readable _ (c .pre .0)
 
-found : (c : tie.After-offer-place) → c .offer-place .result < word (c .before .before .before .before .args .book .now) 6
+found : (c : tie.After-find-offer) → c .find-offer .result < word (c .before .before .before .before .args .book .now) 6
 found c =
     let c4 = c .before .before .before .before in
-    offer-placed _ (c4 .pre .0) _ (c4 .pre .1) (c .offer-place .result) (c .offer-place .ensures .0) (c .offer-place .ensures .1)
+    offer-placed _ (c4 .pre .0) _ (c4 .pre .1) (ok c4 .offersTo) (c .find-offer .result) (c .find-offer .ensures)
 
 slice-read-n : tie.Need-slice-read-n
 slice-read-n c = let r = ok (c .before .before) in omega arith
 
-offer-place-requires : tie.Need-offer-place-requires
-offer-place-requires c κs = ok (c .before .before .before)
+find-offer-requires : tie.Need-find-offer-requires
+find-offer-requires c κs = ok (c .before .before .before)
 
 shift-amounts-requires : tie.Need-shift-amounts-requires
 shift-amounts-requires c κs =
@@ -87,12 +87,12 @@ returns c =
     let s = c .before .before .before .before .before .before .before .before .before .before .before .before in
     let a = s .args in
     let f = found c8 in
-    let p = c8 .offer-place in
+    let p = c8 .find-offer in
     let u = c6 .shift-amounts in
     let w = c .before .before .shift in (
-      withdrawn (a .book .now) (u .last .0) (w .last .0) (a .number) (p .result) (s .pre .0) f (p .ensures .2 f) (u .kept .0) (w .kept .0) (u .ensures .0)
+      withdrawn (a .book .now) (u .last .0) (w .last .0) (a .number) (p .result) (s .pre .0) f (p .ensures .number (let q = ok s .offersTo in omega arith)) (u .kept .0) (w .kept .0) (u .ensures .0)
           (u .ensures .1) (u .ensures .2) (w .ensures .0) (w .ensures .1) (w .ensures .2) (w .ensures .3),
-      withdrawn-past (a .book .now) (u .last .0) (w .last .0) (a .number) (p .result) (s .pre .0) f (p .ensures .2 f) (u .kept .0) (w .kept .0)
+      withdrawn-past (a .book .now) (u .last .0) (w .last .0) (a .number) (p .result) (s .pre .0) f (p .ensures .number (let q = ok s .offersTo in omega arith)) (u .kept .0) (w .kept .0)
           (u .ensures .0) (u .ensures .1) (u .ensures .2) (w .ensures .0) (w .ensures .1) (w .ensures .2) (w .ensures .3),
     )
 
@@ -101,7 +101,7 @@ withdraw-effect-spec =
     tie.close
     (tie.spec
     slice-read-n
-    offer-place-requires
+    find-offer-requires
     shift-amounts-requires
     mul-shift
     add-shift

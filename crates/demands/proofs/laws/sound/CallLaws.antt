@@ -5,7 +5,7 @@ use mathlib.Core.Bool.{true}
 use mathlib.Core.List.{List, [], _∷_}
 use native.Mathlib.Omega.{arith}
 use native.Mathlib.Decide.{ℕ-discrete}
-use Rattle.book.specs.Book.{Book, callPhase, rollingPhase}
+use Rattle.book.specs.Book.{rulesOf, Book, callPhase, rollingPhase}
 use Rattle.book.specs.Sound.{sound}
 use Rattle.book.specs.Opening.{fresh, openingRefusal}
 use Rattle.book.specs.Refusals.{firstOf, unsound}
@@ -65,6 +65,6 @@ module _
     calls-sound b [] e = e
     calls-sound b (c ∷ cs) e = calls-sound (outcome b c .book) cs (outcome-sound b c e)
 
-    pub every-book-sound : (words days floor ceiling : ℕ) (cs : List Call) → openingRefusal words days floor ceiling ≡ 0
-        → sound (bookAfter (fresh days floor ceiling) cs) ≡ true
-    every-book-sound words days floor ceiling cs z = calls-sound (fresh days floor ceiling) cs (fresh-sound words days floor ceiling z)
+    pub every-book-sound : (words days floor ceiling : ℕ) (cs : List Call) → openingRefusal words (rulesOf days floor ceiling) ≡ 0
+        → sound (bookAfter (fresh (rulesOf days floor ceiling)) cs) ≡ true
+    every-book-sound words days floor ceiling cs z = calls-sound (fresh (rulesOf days floor ceiling)) cs (fresh-sound words days floor ceiling z)

@@ -15,7 +15,7 @@ use Rattle.measures.proofs.RangeLaws.{In, within}
 use Rattle.measures.proofs.ListLaws.{and-left, and-right}
 use Rattle.limits.specs.Units.{mostDays, mostCapacity, daysIn, periods, capacityIn, assetIn}
 use Rattle.matching.specs.Orders.{Order as OpenOrder, rising}
-use Rattle.book.specs.Book.{Figures, noFigures, EnrolledUnit, noUnit, OpenOffer, Book, mostUnits, unitOf, figuresOf, withOffers, withOrders, noTrades}
+use Rattle.book.specs.Book.{rulesOf, Figures, noFigures, EnrolledUnit, noUnit, OpenOffer, Book, mostUnits, unitOf, figuresOf, withOffers, withOrders, noTrades}
 use Rattle.book.specs.Fit.{openOrders, openOffers, openRaising, openLowering, nothing}
 use Rattle.book.specs.Sound.{pricesIn, apart, eachTwo, sound}
 use Rattle.book.specs.Refusals.{firstOf, accepted, unsound, badOpening, badKind, badSize, unitsFull}
@@ -32,13 +32,13 @@ use Rattle.book.proofs.laws.sound.FormedLaws.{LessOffer, LessOrder, same-offer,
 use Rattle.book.proofs.laws.sound.OpenLaws.{moved-remaining, idle-fits}
 
 -- a book that opening makes
-pub fresh-sound : (words days floor ceiling : ℕ) → openingRefusal words days floor ceiling ≡ 0 → sound (fresh days floor ceiling) ≡ true
+pub fresh-sound : (words days floor ceiling : ℕ) → openingRefusal words (rulesOf days floor ceiling) ≡ 0 → sound (fresh (rulesOf days floor ceiling)) ≡ true
 unfolding openingRefusal rising eachTwo
 fresh-sound words days floor ceiling e =
     let t = not-false _ (none-applies (tooShort words days ∷ badOpening days floor ceiling ∷ []) (omega arith) e .1 .0) in
     let d = within 1 mostDays days (and-left (daysIn days) (pricesIn floor ceiling) t) in
     let p = and-right (daysIn days) (pricesIn floor ceiling) t in
-    sound-holds (fresh days floor ceiling) (record {
+    sound-holds (fresh (rulesOf days floor ceiling)) (record {
       formed = record {
         head = record {
           days = d;
@@ -56,7 +56,7 @@ fresh-sound words days floor ceiling e =
         offersRise = refl;
         ordersRise = refl;
         differ = refl;
-        oneWay = refl;
+        oneDirection = refl;
         apart = λ h. refl;
       };
       fits = λ u i. absurd (omega arith);
@@ -110,7 +110,7 @@ module _ (b : Book) (u n : ℕ) (e : sound b ≡ true) where
 -- enrol: the other units stay, and the new one has nothing declared
 module _ (b : Book) (kind capacity asset : ℕ) where
   abbrev newcomer : EnrolledUnit
-  newcomer = record { kind = kind; capacity = capacity; asset = asset; figures = noTrades (b .days) }
+  newcomer = record { kind = kind; capacity = capacity; asset = asset; figures = noTrades (b .rules .days) }
 
   one-more : length (enrolled b kind capacity asset .units) ≡ length (b .units) + 1
   one-more = length-append (b .units) (newcomer ∷ [])
@@ -118,16 +118,16 @@ module _ (b : Book) (kind capacity asset : ℕ) where
   others-stay : (u : ℕ) → In 1 (length (b .units)) u → unitOf (enrolled b kind capacity asset) u ≡ unitOf b u
   others-stay u i = List·getD-append (b .units) (newcomer ∷ []) noUnit (u - 1) (omega arith)
 
-  newcomer-ranges : In 1 4 kind → In 1 mostCapacity capacity → asset ≤ mostEnergy → UnitRanges (b .days) newcomer
+  newcomer-ranges : In 1 4 kind → In 1 mostCapacity capacity → asset ≤ mostEnergy → UnitRanges (b .rules .days) newcomer
   newcomer-ranges k c a =
-      let l = length-replicate (periods (b .days)) noFigures in
+      let l = length-replicate (periods (b .rules .days)) noFigures in
       record {
         kind = k;
         capacity = c;
         asset = a;
         figures = l;
-        ways = each-by (λ (f : Figures). f .way ≤ 2) (noTrades (b .days)) noFigures
-            (λ i h. rw (getD-replicate (periods (b .days)) i noFigures noFigures (rw l at h)) (omega arith));
+        marks = each-by (λ (f : Figures). f .mark ≤ 3) (noTrades (b .rules .days)) noFigures
+            (λ i h. rw (getD-replicate (periods (b .rules .days)) i noFigures noFigures (rw l at h)) (omega arith));
       }
 
   newcomer-fits : Formed b → (u : ℕ) → u ≡ length (b .units) + 1 → Fits (enrolled b kind capacity asset) u nothing
@@ -139,8 +139,8 @@ module _ (b : Book) (kind capacity asset : ℕ) where
       last : unitOf (enrolled b kind capacity asset) u ≡ newcomer
       last = getD-at (b .units) newcomer [] noUnit (u - 1) (omega arith)
 
-      figures : (p : ℕ) → p < periods (b .days) → figuresOf (enrolled b kind capacity asset) u p ≡ noFigures
-      figures p h = ap (λ (x : EnrolledUnit). getD (x .figures) p noFigures) last ∙ getD-replicate (periods (b .days)) p noFigures noFigures h
+      figures : (p : ℕ) → p < periods (b .rules .days) → figuresOf (enrolled b kind capacity asset) u p ≡ noFigures
+      figures p h = ap (λ (x : EnrolledUnit). getD (x .figures) p noFigures) last ∙ getD-replicate (periods (b .rules .days)) p noFigures noFigures h
 
   pub enrolment-sound : sound b ≡ true → sound (enrolment b kind capacity asset .book) ≡ true
   unfolding enrolment enrolRefusal
@@ -182,7 +182,7 @@ module _ (b : Book) (kind capacity asset : ℕ) where
                 given = f .head .given;
                 most = omega (arith, one-more);
                 units =
-                    each-append (UnitRanges (b .days)) (b .units) (newcomer ∷ []) (f .units) (
+                    each-append (UnitRanges (b .rules .days)) (b .units) (newcomer ∷ []) (f .units) (
                       newcomer-ranges (within 1 4 kind (not-false _ (passed .1 .0)))
                           (within 1 mostCapacity capacity (and-left (capacityIn capacity) (assetIn asset) sizes))
                           (leb-true _ _ (and-right (capacityIn capacity) (assetIn asset) sizes)),
@@ -233,14 +233,14 @@ module _ (b : Book) where
       s : Sound b
       s = sound-facts b e
 
-      over : (u : EnrolledUnit) → UnitRanges (b .days) u → UnitRanges (b .days) (unitDayOver u)
+      over : (u : EnrolledUnit) → UnitRanges (b .rules .days) u → UnitRanges (b .rules .days) (unitDayOver u)
       over u r =
           record {
             kind = r .kind;
             capacity = r .capacity;
             asset = r .asset;
             figures = length-map (u .figures) dayOver ∙ r .figures;
-            ways = each-map dayOver (λ (f : Figures). f .way ≤ 2) (λ (f : Figures). f .way ≤ 2) (λ f h. omega arith) (u .figures) (r .ways);
+            marks = each-map dayOver (λ (f : Figures). f .mark ≤ 3) (λ (f : Figures). f .mark ≤ 3) (λ f h. omega arith) (u .figures) (r .marks);
           }
 
       formed : Formed (dayClosed b)
@@ -257,13 +257,13 @@ module _ (b : Book) where
               offers = omega arith;
               orders = omega arith;
             };
-            units = each-map unitDayOver (UnitRanges (b .days)) (UnitRanges (b .days)) over (b .units) (s .formed .units);
+            units = each-map unitDayOver (UnitRanges (b .rules .days)) (UnitRanges (b .rules .days)) over (b .units) (s .formed .units);
             offers = tt;
             orders = tt;
             offersRise = refl;
             ordersRise = refl;
             differ = refl;
-            oneWay = refl;
+            oneDirection = refl;
             apart = λ r. refl;
           }
 

@@ -55,10 +55,10 @@ module _ (b : Book) (unit partner price : ℕ) (amounts : List ℕ) where
           number = omega arith;
           unit = named;
           sides = sides;
-          price = within (b .floor) (b .ceiling) price (not-false _ (t .1 .1 .1 .0));
+          price = within (b .rules .floor) (b .rules .ceiling) price (not-false _ (t .1 .1 .1 .0));
           taken = omega arith;
-          amounts = eqb-true _ _ (and-left (eqb (length amounts) (periods (b .days))) (energyIn (total amounts)) listed);
-          energy = within 1 mostEnergy (total amounts) (and-right (eqb (length amounts) (periods (b .days))) (energyIn (total amounts)) listed);
+          amounts = eqb-true _ _ (and-left (eqb (length amounts) (periods (b .rules .days))) (energyIn (total amounts)) listed);
+          energy = within 1 mostEnergy (total amounts) (and-right (eqb (length amounts) (periods (b .rules .days))) (energyIn (total amounts)) listed);
         };
         room = leb-false _ _ (t .1 .1 .1 .1 .1 .1 .0);
         left = leb-false _ _ (t .1 .1 .1 .1 .1 .1 .1 .0);
@@ -79,7 +79,7 @@ module _ (b : Book) (unit partner price : ℕ) (amounts : List ℕ) where
       named : In 1 (length (b .units)) unit
       named = within 1 (length (b .units)) unit (not-false _ (t .1 .0))
 
-      listed : (eqb (length amounts) (periods (b .days)) && energyIn (total amounts)) ≡ true
+      listed : (eqb (length amounts) (periods (b .rules .days)) && energyIn (total amounts)) ≡ true
       listed = not-false _ (t .1 .1 .1 .1 .0)
 
       sides : (partner ≡ 0 → ⊥) → Sides (withOffer b newOffer) newOffer

@@ -44,9 +44,7 @@ refused-tally t b c n = rw (ne-eqb (outcome b c .refusal) 0 n)
 -- other numbers and another phase
 pub agree-head : (t : Tally) (b : Book) → Agree t b → (phase given : ℕ)
     → Agree t (record {
-      days = b .days;
-      floor = b .floor;
-      ceiling = b .ceiling;
+      rules = b .rules;
       phase = phase;
       given = given;
       units = b .units;
@@ -61,14 +59,14 @@ agree-head t b a phase given =
 module _ (t : Tally) (b : Book) (a : Agree t b) (w : Standing b) where
   pub agree-changed : (rs : List Row) (tos : List Amounts) (bos : List OpenOffer) (tor bor : List OpenOrder)
       → Each (Parties (length (b .units))) rs → keep remains tos ≡ map amountsOf bos → tor ≡ bor
-      → Agree (record { days = t .days; units = t .units; rows = t .rows ++ rs; offers = tos; orders = tor })
+      → Agree (record { rules = t .rules; units = t .units; rows = t .rows ++ rs; offers = tos; orders = tor })
       (rowsBooked rs (withOrders (withOffers b bos) bor))
   agree-changed rs tos bos tor bor h e f =
       let b₁ = withOrders (withOffers b bos) bor in
       let b′ = rowsBooked rs b₁ in
       let k = kept-rows rs b₁ in
       record {
-        days = a .days ∙ sym (ap (λ (x : Book). x .days) (k .rest));
+        days = a .days ∙ sym (ap (λ (x : Book). x .rules .days) (k .rest));
         units = a .units ∙ sym (members-kept b₁ b′ k);
         offers = e ∙ ap (map amountsOf) (sym (ap (λ (x : Book). x .offers) (k .rest)));
         orders = f ∙ sym (ap (λ (x : Book). x .orders) (k .rest));

@@ -12,7 +12,7 @@ use Rattle.measures.proofs.RangeLaws.{In, within}
 use Rattle.limits.specs.Units.{periods, generator}
 use Rattle.matching.specs.Orders.{Row}
 use Rattle.matching.proofs.laws.lists.EachLaws.{Each}
-use Rattle.book.specs.Book.{Figures, EnrolledUnit, noUnit, OpenOffer, Book, unitOf, figuresOf}
+use Rattle.book.specs.Book.{rulesOf, Figures, EnrolledUnit, noUnit, OpenOffer, Book, unitOf, figuresOf}
 use Rattle.book.specs.Opening.{fresh}
 use Rattle.demands.specs.Tally.{Member, Amounts, Tally, opened}
 use Rattle.demands.specs.Demand3.{memberOf, isMember}
@@ -42,7 +42,7 @@ pub record Figured (kind s d : ℕ) (f : Figures) : Type 0 where
 
 abbrev pub AllFigured : List Row → Book → Type 0
 AllFigured rs b =
-    (u p : ℕ) → In 1 (length (b .units)) u → p < periods (b .days)
+    (u p : ℕ) → In 1 (length (b .units)) u → p < periods (b .rules .days)
     → Figured (unitOf b u .kind) (soldIn rs u p) (boughtIn rs u p) (figuresOf b u p)
 
 -- a row of enrolled units
@@ -50,14 +50,14 @@ abbrev pub Parties : ℕ → Row → Type 0
 Parties n r = In 1 n (r .seller) × In 1 n (r .buyer)
 
 pub record Agree (t : Tally) (b : Book) : Type 0 where
-  pub days : t .days ≡ b .days
+  pub days : t .rules .days ≡ b .rules .days
   pub units : t .units ≡ map member (b .units)
   pub offers : keep remains (t .offers) ≡ map amountsOf (b .offers)
   pub orders : t .orders ≡ b .orders
   pub parties : Each (Parties (length (b .units))) (t .rows)
   pub figures : AllFigured (t .rows) b
 
-pub agree-start : (days floor ceiling : ℕ) → Agree (opened days) (fresh days floor ceiling)
+pub agree-start : (days floor ceiling : ℕ) → Agree (opened days) (fresh (rulesOf days floor ceiling))
 agree-start days floor ceiling =
     record { days = refl; units = refl; offers = refl; orders = refl; parties = tt; figures = λ u p h l. absurd (omega arith) }
 

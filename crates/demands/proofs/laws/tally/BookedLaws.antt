@@ -44,15 +44,15 @@ members-kept b b′ k = ext-getD (member noUnit) (map member (b′ .units)) (map
         let q : i + 1 - 1 ≡ i = omega arith in
         List·getD-map member (b′ .units) i noUnit ∙ (rw q at (one (i + 1))) ∙ sym (List·getD-map member (b .units) i noUnit)
 
-pub rows-figured : (before rs : List Row) (b : Book) → ((u : ℕ) → In 1 (length (b .units)) u → length (unitOf b u .figures) ≡ periods (b .days))
+pub rows-figured : (before rs : List Row) (b : Book) → ((u : ℕ) → In 1 (length (b .units)) u → length (unitOf b u .figures) ≡ periods (b .rules .days))
     → Each (Parties (length (b .units))) rs → AllFigured before b → AllFigured (before ++ rs) (rowsBooked rs b)
 unfolding tradedBy
 rows-figured before rs b full h a u p hu l =
     let b′ = rowsBooked rs b in
     let k = kept-rows rs b in
-    let days : b′ .days ≡ b .days = ap (λ (x : Book). x .days) (k .rest) in
+    let days : b′ .rules .days ≡ b .rules .days = ap (λ (x : Book). x .rules .days) (k .rest) in
     let i : In 1 (length (b .units)) u = rw (k .count) at hu in
-    let m : p < periods (b .days) = rw days at l in
+    let m : p < periods (b .rules .days) = rw days at l in
     let named = each-map (Parties (length (b .units))) Named rs (λ r n. (n .0 .0, n .1 .0)) h in
     rw (
       k .kind u,

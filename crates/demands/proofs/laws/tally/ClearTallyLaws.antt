@@ -53,12 +53,12 @@ module _ (t : Tally) (b : Book) (a : Agree t b) (w : Standing b) where
   pub agree-clear : (lent : ℕ) → outcome b (callClear lent) .refusal ≡ 0 → AgreeAfter t b (callClear lent)
   unfolding clearing accounted
   agree-clear lent e =
-      let c = clearFrom 0 (periods (b .days)) (b .orders) in
-      let c′ = clearFrom 0 (periods (t .days)) (t .orders) in
+      let c = clearFrom 0 (periods (b .rules .days)) (b .orders) in
+      let c′ = clearFrom 0 (periods (t .rules .days)) (t .orders) in
       let o = accepted 0 (c .rows) (inPhase (rowsBooked (c .rows) (withOrders b (c .orders))) rollingPhase) in
       let d = decided-is (clearRefusal b lent) b o e in
       let f : c′ .orders ≡ c .orders = ap₂ (λ (k : ℕ) (l : List OpenOrder). clearFrom 0 (periods k) l .orders) (a .days) (a .orders) in
       let owned = each-map (OrderRanges b) (Owned (length (b .units))) (b .orders) (λ o s. s .unit) (w .orders) in
       accepted-agree t b (callClear lent) o (d .1) refl
       (agree-head _ _ (agree-changed t b a w (c .rows) (t .offers) (b .offers) (c′ .orders) (c .orders)
-      (clear-parties (length (b .units)) (periods (b .days)) 0 (b .orders) owned) (a .offers) f) rollingPhase _)
+      (clear-parties (length (b .units)) (periods (b .rules .days)) 0 (b .orders) owned) (a .offers) f) rollingPhase _)

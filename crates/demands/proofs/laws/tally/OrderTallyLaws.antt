@@ -67,7 +67,7 @@ module _ (t : Tally) (b : Book) (a : Agree t b) (w : Standing b) (unit direction
       record {
         rises = w .ordersRise;
         some = each-map (OrderRanges b) (λ (o : OpenOrder). 0 < o .quantity) (b .orders) (λ o s. s .energy .0) (w .orders);
-        oneWays = w .oneWays;
+        oneDirections = w .oneDirections;
       }
 
   called-agree : 1 ≤ quantity → outcome b this ≡ orderedInCall b incoming → AgreeAfter t b this

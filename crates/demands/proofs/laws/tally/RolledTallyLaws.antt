@@ -17,16 +17,16 @@ use Rattle.matching.proofs.laws.rolling.CounterpartLaws.{without, best, Picked,
 use Rattle.matching.proofs.laws.orders.LessenLaws.{rising-numbered}
 use Rattle.matching.proofs.laws.orders.TakeOffLaws.{lessen-gone, lessen-rises}
 use Rattle.matching.proofs.laws.rolling.MeetingLaws.{match, matches-none, matches-spent, matches-more}
-use Rattle.book.specs.Sound.{oneWay}
+use Rattle.book.specs.Sound.{oneDirection}
 use Rattle.demands.specs.Tally.{orderLessened, otherUnit, orderTallied}
-use Rattle.demands.proofs.laws.tally.StandingLaws.{OneWays}
+use Rattle.demands.proofs.laws.tally.StandingLaws.{OneDirections}
 use Rattle.demands.proofs.laws.tally.MatchTallyLaws.{alike, first-lessened, counterparts-each, counterparts-are, laid-lowest}
 
 -- orders as a sound book has them
 pub record Lined (os : List OpenOrder) : Type 0 where
   pub rises : rising (numbers os) ≡ true
   pub some : Each (λ (o : OpenOrder). 0 < o .quantity) os
-  pub oneWays : OneWays os
+  pub oneDirections : OneDirections os
 
 without-each : (P : OpenOrder → Type 0) (b : ℕ) (os : List OpenOrder) → Each P os → Each P (without b os)
 unfolding without
@@ -36,7 +36,7 @@ without-each P (suc b) (o ∷ os) e = (e .0, without-each P b os (e .1))
 
 -- all go one way with a
 abbrev Goes : OpenOrder → List OpenOrder → Type 0
-Goes a os = Each (λ (o : OpenOrder). oneWay a o ≡ true) os
+Goes a os = Each (λ (o : OpenOrder). oneDirection a o ≡ true) os
 
 lined-without : (os : List OpenOrder) (b : ℕ) → b < length os → Lined os → Lined (without b os)
 lined-without os b l h =
@@ -44,10 +44,10 @@ lined-without os b l h =
       rises = rw (← lessen-gone os b (getD os b noOrder .quantity) (h .rises) l (omega arith))
           (lessen-rises (getD os b noOrder .number) (getD os b noOrder .quantity) os (h .rises));
       some = without-each (λ (o : OpenOrder). 0 < o .quantity) b os (h .some);
-      oneWays =
+      oneDirections =
           without-each (λ (a : OpenOrder). Goes a (without b os)) b os
-          (each-map (λ (a : OpenOrder). Goes a os) (λ (a : OpenOrder). Goes a (without b os)) os (λ a e. without-each (λ (o : OpenOrder). oneWay a o
-          ≡ true) b os e) (h .oneWays));
+          (each-map (λ (a : OpenOrder). Goes a os) (λ (a : OpenOrder). Goes a (without b os)) os (λ a e. without-each (λ (o : OpenOrder). oneDirection a o
+          ≡ true) b os e) (h .oneDirections));
     }
 
 -- what a match's row says
@@ -76,8 +76,8 @@ alike-parts c o e = go (eqb (o .unit) (c .unit)) (eqb (o .period) (c .period)) (
     go true false z f g h k = both-ways (sym k)
     go false y z f g h k = both-ways (sym k)
 
-same-way : (c o : OpenOrder) → oneWay c o ≡ true → c .unit ≡ o .unit → c .period ≡ o .period → c .direction ≡ o .direction
-same-way c o e u p = eqb-true (c .direction) (o .direction) (rw (eq-eqb (c .unit) (o .unit) u, eq-eqb (c .period) (o .period) p) at e)
+same-direction : (c o : OpenOrder) → oneDirection c o ≡ true → c .unit ≡ o .unit → c .period ≡ o .period → c .direction ≡ o .direction
+same-direction c o e u p = eqb-true (c .direction) (o .direction) (rw (eq-eqb (c .unit) (o .unit) u, eq-eqb (c .period) (o .period) p) at e)
 
 candidate-same : (i c o : OpenOrder) → o .period ≡ c .period → o .direction ≡ c .direction → o .price ≡ c .price → candidate i c ≡ true → candidate i o
     ≡ true
@@ -100,12 +100,12 @@ module _ (i c : OpenOrder) (cs os : List OpenOrder) (h : Lined os) (e : counterp
 
   first-low : Each (λ (o : OpenOrder). alike c o ≡ true → c .number ≤ o .number) os
   first-low =
-      each-both (λ (o : OpenOrder). oneWay c o ≡ true) (λ (o : OpenOrder). candidate i o ≡ true → o .price ≡ c .price → c .number
+      each-both (λ (o : OpenOrder). oneDirection c o ≡ true) (λ (o : OpenOrder). candidate i o ≡ true → o .price ≡ c .price → c .number
       ≤ o .number) (λ (o : OpenOrder). alike c o ≡ true → c .number ≤ o .number) os
       (λ o w l k.
       let p = alike-parts c o k in
-      l (candidate-same i c o (p .1) (sym (same-way c o w (sym (p .0)) (sym (p .1)))) (p .2) first-is) (p .2))
-      (has-each (λ (a : OpenOrder). Goes a os) os c (h .oneWays) first-has)
+      l (candidate-same i c o (p .1) (sym (same-direction c o w (sym (p .0)) (sym (p .1)))) (p .2) first-is) (p .2))
+      (has-each (λ (a : OpenOrder). Goes a os) os c (h .oneDirections) first-has)
       (laid-lowest i c cs os e)
 
   first-off : (x : ℕ) → x ≤ c .quantity → orderLessened (otherUnit (i .direction) (matchRow i (match c x))) (matchRow i (match c x) .period)

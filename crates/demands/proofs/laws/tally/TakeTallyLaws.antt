@@ -210,7 +210,7 @@ module _ (t : Tally) (b : Book) (a : Agree t b) (w : Standing b) where
       let some : 0 < length (offersOf b number) = ltb-true _ _ (not-false _ (c .1 .1 .1 .1 .0)) in
       let st : OfferRanges b of = each-at (OfferRanges b) (offersOf b number) 0 noOffer
       (each-keep (OfferRanges b) (λ o. eqb (o .number) number) (b .offers) (w .offers)) some in
-      let lp : length ps ≡ periods (b .days) = parts-length quantity (of .amounts) ∙ st .amounts in
+      let lp : length ps ≡ periods (b .rules .days) = parts-length quantity (of .amounts) ∙ st .amounts in
       let f : keep remains (takeTallied number rs (t .offers)) ≡ map amountsOf (offersLess number ps (b .offers)) =
       ap (keep remains) (take-tallied number rs (t .offers))
       ∙ still-remain number rs (t .offers)

@@ -73,7 +73,7 @@ module _ (b : Book) (x : EnrolledUnit) where
       → cond (eqb (party r) u && eqb (r .period) p) (r .quantity) 0 ≡ 0
   unnamed party u p r l h = rw (ne-eqb (party r) u (omega arith))
 
-  joined-figured : (rs : List Row) → x .figures ≡ noTrades (b .days) → Each (Parties (length (b .units))) rs → AllFigured rs b → AllFigured rs joined
+  joined-figured : (rs : List Row) → x .figures ≡ noTrades (b .rules .days) → Each (Parties (length (b .units))) rs → AllFigured rs b → AllFigured rs joined
   joined-figured rs e h a u p hu l = go (decLt (length (b .units)) u)
     where
       top : u ≤ length (b .units) + 1
@@ -82,7 +82,7 @@ module _ (b : Book) (x : EnrolledUnit) where
       go : Dec (length (b .units) < u) → Figured (unitOf joined u .kind) (soldIn rs u p) (boughtIn rs u p) (figuresOf joined u p)
       go (yes k) =
           let i : length (b .units) ≡ u - 1 = omega (arith, top) in
-          rw (getD-at (b .units) x [] noUnit (u - 1) i, e, getD-replicate (periods (b .days)) p noFigures noFigures l)
+          rw (getD-at (b .units) x [] noUnit (u - 1) i, e, getD-replicate (periods (b .rules .days)) p noFigures noFigures l)
           (figured-none (x .kind) (soldIn rs u p) (boughtIn rs u p)
           (sumOf-zero _ rs (each-map _ _ rs (λ r g. unnamed (λ r. r .seller) u p r k (g .0 .1)) h))
           (sumOf-zero _ rs (each-map _ _ rs (λ r g. unnamed (λ r. r .buyer) u p r k (g .1 .1)) h)))
@@ -97,8 +97,8 @@ not-zero n h = rw (ne-eqb n 0 (omega arith))
 kept-one : (x : Amounts) → remains x ≡ true → keep remains (x ∷ []) ≡ x ∷ []
 kept-one x e = rw e
 
-right-amounts : (b : Book) (amounts : List ℕ) → (eqb (length amounts) (periods (b .days)) && energyIn (total amounts)) ≡ true → 1 ≤ total amounts
-right-amounts b amounts e = within 1 mostEnergy (total amounts) (and-right (eqb (length amounts) (periods (b .days))) (energyIn (total amounts)) e) .0
+right-amounts : (b : Book) (amounts : List ℕ) → (eqb (length amounts) (periods (b .rules .days)) && energyIn (total amounts)) ≡ true → 1 ≤ total amounts
+right-amounts b amounts e = within 1 mostEnergy (total amounts) (and-right (eqb (length amounts) (periods (b .rules .days))) (energyIn (total amounts)) e) .0
 
 -- "held becomes net"
 over : (kind s d : ℕ) (f : Figures) → f .lowered ≤ f .held → Figured kind s d f → Figured kind s d (dayOver f)
@@ -113,7 +113,7 @@ module _ (t : Tally) (b : Book) (a : Agree t b) (w : Standing b) where
   unfolding enrolment accounted
   agree-enrol kind capacity asset e =
       let after = withUnit b kind capacity asset in
-      let x : EnrolledUnit = record { kind = kind; capacity = capacity; asset = asset; figures = noTrades (b .days) } in
+      let x : EnrolledUnit = record { kind = kind; capacity = capacity; asset = asset; figures = noTrades (b .rules .days) } in
       let d = decided-is (enrolRefusal b kind capacity asset) b (accepted (length (after .units)) [] after) e in
       accepted-agree t b (callEnrol kind capacity asset) (accepted (length (after .units)) [] after) (d .1) refl
       (record {

@@ -60,7 +60,7 @@ one-side true s d h = omega arith
 one-side false s d h = omega arith
 
 module _ (t : Tally) (b : Book) (a : Agree t b) (w : Standing b) where
-  at-unit : (u p : ℕ) → In 1 (length (b .units)) u → p < periods (t .days)
+  at-unit : (u p : ℕ) → In 1 (length (b .units)) u → p < periods (t .rules .days)
       → (figuresOf b u p .held + figuresOf b u p .raised + loweredBy t u p ≡ raisedBy t u p + figuresOf b u p .lowered)
       × (figuresOf b u p .volume ≡ sold t u p + bought t u p)
   unfolding sold bought
@@ -69,13 +69,13 @@ module _ (t : Tally) (b : Book) (a : Agree t b) (w : Standing b) where
       (rw (member-of t b a u) (f .net), f .volume)
 
   -- lowering never passes held
-  low : (u p : ℕ) → In 1 (length (b .units)) u → p < periods (t .days) → figuresOf b u p .lowered + openLowering b u p ≤ figuresOf b u p .held
+  low : (u p : ℕ) → In 1 (length (b .units)) u → p < periods (t .rules .days) → figuresOf b u p .lowered + openLowering b u p ≤ figuresOf b u p .held
   low u p h l = let k = w .fits u h .lowering p (rw (a .days) at l) in omega arith
 
-  same-net : (u p : ℕ) → In 1 (length (b .units)) u → p < periods (t .days) → net (figuresOf b u p) ≡ netOf t u p
+  same-net : (u p : ℕ) → In 1 (length (b .units)) u → p < periods (t .rules .days) → net (figuresOf b u p) ≡ netOf t u p
   same-net u p h l = let e = at-unit u p h l in let k = low u p h l in omega arith
 
-  lowered-within : (u p : ℕ) → In 1 (length (b .units)) u → p < periods (t .days) → loweredBy t u p ≤ raisedBy t u p
+  lowered-within : (u p : ℕ) → In 1 (length (b .units)) u → p < periods (t .rules .days) → loweredBy t u p ≤ raisedBy t u p
   lowered-within u p h l = let e = at-unit u p h l in let k = low u p h l in omega arith
 
   -- each row is sold by one unit and bought by one
@@ -86,7 +86,7 @@ module _ (t : Tally) (b : Book) (a : Agree t b) (w : Standing b) where
       parties-sum (λ r. r .seller) p n (t .rows) (each-map _ _ (t .rows) (λ r h. h .0) (a .parties))
       ∙ sym (parties-sum (λ r. r .buyer) p n (t .rows) (each-map _ _ (t .rows) (λ r h. h .1) (a .parties)))
 
-  balanced : (p : ℕ) → p < periods (t .days) → netsOf generator t p ≡ netsOf (λ kind. not (generator kind)) t p
+  balanced : (p : ℕ) → p < periods (t .rules .days) → netsOf generator t p ≡ netsOf (λ kind. not (generator kind)) t p
   unfolding netsOf
   balanced p l =
       rw (units-count t b a)
@@ -124,14 +124,14 @@ module _ (t : Tally) (b : Book) (a : Agree t b) (w : Standing b) where
     lowering-part = orders-bound lowers
 
   module _ (x : Part t) (u : ℕ) (h : In 1 (length (b .units)) u) where
-    none-below : (p : ℕ) → p < periods (t .days) → loweredBy t u p + loweringPart t x u p ≤ raisedBy t u p + raisingPart t x u p
+    none-below : (p : ℕ) → p < periods (t .rules .days) → loweredBy t u p + loweringPart t x u p ≤ raisedBy t u p + raisingPart t x u p
     none-below p l =
         let e = at-unit u p h l in
         let k = low u p h l in
         let g = lowering-part x u p in
         omega arith
 
-    net-within : (p : ℕ) → p < periods (t .days)
+    net-within : (p : ℕ) → p < periods (t .rules .days)
         → raisedBy t u p + raisingPart t x u p - (loweredBy t u p + loweringPart t x u p) ≤ raisedTo b u nothing p
     net-within p l =
         let e = at-unit u p h l in
@@ -142,11 +142,11 @@ module _ (t : Tally) (b : Book) (a : Agree t b) (w : Standing b) where
     same-member = member-of t b a u
 
     volume-within :
-        volumeOf t u + sum (periods (t .days)) (λ p. raisingPart t x u p + loweringPart t x u p)
-        ≤ sum (periods (t .days)) (volumeTo b u nothing)
+        volumeOf t u + sum (periods (t .rules .days)) (λ p. raisingPart t x u p + loweringPart t x u p)
+        ≤ sum (periods (t .rules .days)) (volumeTo b u nothing)
     volume-within =
-        let s = sum-add (periods (t .days)) (λ p. sold t u p + bought t u p) (λ p. raisingPart t x u p + loweringPart t x u p) in
-        let m = sum-mono (periods (t .days)) (λ p. sold t u p + bought t u p + (raisingPart t x u p + loweringPart t x u p)) (volumeTo b u nothing)
+        let s = sum-add (periods (t .rules .days)) (λ p. sold t u p + bought t u p) (λ p. raisingPart t x u p + loweringPart t x u p) in
+        let m = sum-mono (periods (t .rules .days)) (λ p. sold t u p + bought t u p + (raisingPart t x u p + loweringPart t x u p)) (volumeTo b u nothing)
         (λ p l. let e = at-unit u p h l in let r = raising-part x u p in let g = lowering-part x u p in omega arith) in
         omega arith
 
@@ -155,11 +155,11 @@ module _ (t : Tally) (b : Book) (a : Agree t b) (w : Standing b) where
         record {
           atLeastNone = none-below;
           withinHour = λ p l. le-trans (net-within p l) (rw same-member (w .fits u h .raising p (rw (a .days) at l)));
-          withinTerm = le-trans (sum-mono (periods (t .days)) _ _ net-within) (rw (same-member, a .days) (w .fits u h .term));
+          withinTerm = le-trans (sum-mono (periods (t .rules .days)) _ _ net-within) (rw (same-member, a .days) (w .fits u h .term));
           withinVolume = le-trans volume-within (rw (same-member, a .days) (w .fits u h .volume));
         }
 
-  curved : (u day : ℕ) → In 1 (length (b .units)) u → day < t .days → (h : ℕ) → h < 24
+  curved : (u day : ℕ) → In 1 (length (b .units)) u → day < t .rules .days → (h : ℕ) → h < 24
       → (getD (points b u day) (2 * h) 0 + getD (points b u day) (2 * h + 1) 0 ≡ netOf t u (24 * day + h))
       × (getD (points b u day) (2 * h) 0 ≤ getD (points b u day) (2 * h + 1) 0)
       × (getD (points b u day) (2 * h + 1) 0 ≤ getD (points b u day) (2 * h) 0 + 1)
@@ -168,8 +168,8 @@ module _ (t : Tally) (b : Book) (a : Agree t b) (w : Standing b) where
       let n = same-net u (24 * day + h) i (omega arith) in
       (omega arith, omega arith, omega arith)
 
-  volumes-same : (u : ℕ) → In 1 (length (b .units)) u → sum (periods (t .days)) (λ p. figuresOf b u p .volume) ≡ volumeOf t u
-  volumes-same u h = sum-ext (periods (t .days)) _ _ (λ p l. at-unit u p h l .1)
+  volumes-same : (u : ℕ) → In 1 (length (b .units)) u → sum (periods (t .rules .days)) (λ p. figuresOf b u p .volume) ≡ volumeOf t u
+  volumes-same u h = sum-ext (periods (t .rules .days)) _ _ (λ p l. at-unit u p h l .1)
 
 pub demand-from : (t : Tally) (b : Book) → Agree t b → sound b ≡ true → Demand3 t b
 demand-from t b a s =

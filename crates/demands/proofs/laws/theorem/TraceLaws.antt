@@ -14,7 +14,7 @@ use Rattle.matching.specs.Orders.{Row}
 use Rattle.matching.specs.Memory.{written}
 use Rattle.book.specs.declared.Answer.{Answer}
 use Rattle.book.specs.declared.Answer.the-variants.{Done, Refused}
-use Rattle.book.specs.Book.{Book}
+use Rattle.book.specs.Book.{rulesOf, Book}
 use Rattle.book.specs.Sound.{sound}
 use Rattle.book.specs.Refusals.{Outcome, firstOf}
 use Rattle.book.specs.Opening.{bookWords, fresh, openingRefusal}
@@ -38,11 +38,11 @@ use Rattle.demands.proofs.laws.sound.KeepLaws.{fresh-sound}
 use Rattle.demands.proofs.laws.theorem.ListsLaws.{InStep, in-step-after}
 
 -- the tally's days stay
-tallied-days : (t : Tally) (c : Call) (a : Heard) → tallied t c a .days ≡ t .days
+tallied-days : (t : Tally) (c : Call) (a : Heard) → tallied t c a .days ≡ t .rules .days
 unfolding accounted
 tallied-days t c a = go (eqb (a .refusal) 0) c
   where
-    go : (b : Bool) (c : Call) → cond b (accounted t c a) t .days ≡ t .days
+    go : (b : Bool) (c : Call) → cond b (accounted t c a) t .rules .days ≡ t .rules .days
     go false c = refl
     go true (callEnrol kind capacity asset) = refl
     go true (callOffer unit partner price amounts) = refl
@@ -62,7 +62,7 @@ on-book : (m : List ℕ) (c : Call) → enough m ≡ true → outcomeOn m c ≡ 
 unfolding outcomeOn
 on-book m c e = cond-true (enough m) (outcome (decode m) c) _ e refl
 
-days-in : (m : List ℕ) → decode m .days ≡ word m 0
+days-in : (m : List ℕ) → decode m .rules .days ≡ word m 0
 unfolding decode
 days-in m = refl
 
@@ -164,7 +164,7 @@ module _ (t : Tally) (x : List ℕ) (h : Holding t x) where
       d : Demand3 t (decode x)
       d = demand-from t (decode x) (h .step .agree) (h .step .sound)
 
-      at : (u day : ℕ) (pts : List ℕ) (a : Answer) (pts′ : List ℕ) → isMember t u ≡ true → day < t .days → 48 ≤ length pts → Curved x pts u day a pts′
+      at : (u day : ℕ) (pts : List ℕ) (a : Answer) (pts′ : List ℕ) → isMember t u ≡ true → day < t .rules .days → 48 ≤ length pts → Curved x pts u day a pts′
           → (toldBy a .refusal ≡ 0)
           × ((i : ℕ) → i < 24 → (getD pts′ (2 * i) 0 + getD pts′ (2 * i + 1) 0 ≡ netOf t u (24 * day + i))
           × (getD pts′ (2 * i) 0 ≤ getD pts′ (2 * i + 1) 0)
@@ -190,14 +190,14 @@ module _ (t : Tally) (x : List ℕ) (h : Holding t x) where
 pub over-every-trace : OverEveryTrace
 over-every-trace m₀ days floor ceiling a m x op z tr = claimed (tallyOf (opened days) tr) x (holding-all (opened days) tr start)
   where
-    r : openingRefusal (length m₀) days floor ceiling ≡ 0
+    r : openingRefusal (length m₀) (rulesOf days floor ceiling) ≡ 0
     r = sym (ap (λ (y : Told). y .refusal) (op .answer)) ∙ z
 
-    b : decode m ≡ fresh days floor ceiling
+    b : decode m ≡ fresh (rulesOf days floor ceiling)
     b = op .accepted r
 
     d : word m 0 ≡ days
-    d = sym (days-in m) ∙ ap (λ (y : Book). y .days) b
+    d = sym (days-in m) ∙ ap (λ (y : Book). y .rules .days) b
 
     start : Holding (opened days) m
     start =

@@ -4,8 +4,8 @@ use native.Mathlib.Omega.{arith}
 use Rattle.book.specs.Layout.{word}
 use Rattle.book.proofs.laws.take.FoundLaws.{Unmet, unmet-more, found-here, found-nowhere}
 use borrow.Author.Needs.{needs}
-use Rattle.book.proofs.taking.find_offer.Statement.{statement}
-use Rattle.book.proofs.taking.find_offer.Tie as tie
+use Rattle.book.proofs.numbers.find_offer.Statement.{statement}
+use Rattle.book.proofs.numbers.find_offer.Tie as tie
 
 abbrev Inv-loop : tie.InvT-loop
 Inv-loop book number n j₀ j = (j ≤ word book 6) × (Unmet book number j)

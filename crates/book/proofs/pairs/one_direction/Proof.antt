@@ -1,9 +1,9 @@
--- `one_way`: no order of the unit and the period stands before it, or the one found stands for all.
+-- `one_direction`: no order of the unit and the period stands before it, or the one found stands for all.
 use native.Mathlib.Omega.{arith}
-use Rattle.book.proofs.laws.check.TogetherLaws.{way-alone, way-tested}
+use Rattle.book.proofs.laws.check.TogetherLaws.{direction-alone, direction-tested}
 use borrow.Author.Needs.{needs}
-use Rattle.book.proofs.pairs.one_way.Statement.{statement}
-use Rattle.book.proofs.pairs.one_way.Tie as tie
+use Rattle.book.proofs.pairs.one_direction.Statement.{statement}
+use Rattle.book.proofs.pairs.one_direction.Tie as tie
 
 find-alike-requires : tie.Need-find-alike-requires
 find-alike-requires c κs = search needs
@@ -13,7 +13,7 @@ returns c =
     let c5 = c .before .before .before .before .before in
     let g = c5 .pre in
     let n = g .0 .readable .ordersTo in
-    way-alone _ _ (omega arith) _ (c .if1 .taken) (c .before .find-alike .ensures)
+    direction-alone _ _ (omega arith) _ (c .if1 .taken) (c .before .find-alike .ensures)
 
 sub-result : tie.Need-sub-result
 sub-result c = search needs
@@ -53,10 +53,10 @@ returns-2 c =
     let c7 = c .before .before .before .before .before .before .before in
     let g = c7 .pre in
     let n = g .0 .readable .ordersTo in
-    way-tested _ _ (omega arith) _ (c .before .before .if1 .left) (c .before .before .before .find-alike .ensures) (g .6)
+    direction-tested _ _ (omega arith) _ (c .before .before .if1 .left) (c .before .before .before .find-alike .ensures) (g .6)
 
-pub one-way-spec : {M : Type 1} → statement M
-one-way-spec =
+pub one-direction-spec : {M : Type 1} → statement M
+one-direction-spec =
     tie.close
     (tie.spec
     find-alike-requires
