@@ -82,7 +82,7 @@ fn match_at(
 {
     let o = orders::read(orders, p);
     let x = left.least(o.quantity);
-    orders::put_row(rows, count, match_row(incoming, o, x));
+    orders::put_row_at(rows, count, match_row(incoming, o, x));
     x
 }
 

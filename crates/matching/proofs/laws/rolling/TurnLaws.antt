@@ -16,11 +16,11 @@ use Rattle.measures.specs.Sharing.{total}
 use Rattle.measures.proofs.ListLaws.{both-ways, cond-case, sumOf-append}
 use Rattle.matching.specs.declared.orders.Matched.{Matched}
 use Rattle.matching.specs.Orders.{Order, Row, bidAhead, askAhead, laid, quantities}
-use Rattle.matching.specs.Memory.{orderAt, ordersIn, written}
+use Rattle.matching.specs.Memory.{mostWord, orderAt, ordersIn, written}
 use Rattle.matching.specs.Rolling.{Match, candidate, aheadFor, counterparts, matches, matchRow, afterMatches, meet}
 use Rattle.matching.specs.Clearing.{Fill, filled, afterFills}
 use Rattle.matching.specs.inner.Places.{ordersAt, aheadOn, fillsAt, Filling}
-use Rattle.matching.specs.inner.Runs.{mostWord, keyOf, wanted, merged, runAt, Runs, FirstOf, RunsMet, InTurn}
+use Rattle.matching.specs.inner.Runs.{keyOf, wanted, merged, runAt, Runs, FirstOf, RunsMet, InTurn}
 use Rattle.matching.specs.Answers.{fit, Answer, answerOf, Meets}
 use Rattle.matching.proofs.laws.orders.OrderLaws.{orders-length}
 use Rattle.matching.proofs.laws.orders.RowLaws.{written-none}

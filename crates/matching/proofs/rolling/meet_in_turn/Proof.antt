@@ -2,7 +2,7 @@
 use Prim.Native.Nat.{ℕ, _≤_}
 use native.Mathlib.Omega.{arith}
 use lib.ListN.{getD}
-use Rattle.matching.specs.inner.Runs.{mostWord}
+use Rattle.matching.specs.Memory.{mostWord}
 use Rattle.matching.proofs.laws.rolling.TurnLaws.{runs-met}
 use borrow.Author.Needs.{needs}
 use Rattle.matching.proofs.rolling.meet_in_turn.Statement.{statement}
