@@ -8,7 +8,7 @@ ghost use lib.Dec.{leb};
 ghost use Rattle.measures.specs.Ranges.{mostEnergy};
 ghost use Rattle.matching.specs.Orders.{rising, numbers, quantities};
 ghost use Rattle.matching.specs.Memory.{ordersIn};
-ghost use Rattle.matching.specs.Answers.{numbersRise, fit};
+ghost use Rattle.matching.specs.Answers.{numbersRise, fit, fitBelow};
 
 // Whether the numbers of the first n orders rise: each is above the one before it.
 fn rise(orders: &[u64], n: usize) -> bool
@@ -75,4 +75,17 @@ pub fn fits(orders: &[u64], n: usize, rows: &[u64]) -> bool
         return false;
     }
     quantities_fit(orders, n)
+}
+
+// Whether the periods below `end` of the first n orders can be cleared one after the other, with these rows lent.
+pub(crate) fn fits_below(orders: &[u64], n: usize, end: u64, rows: &[u64]) -> bool
+    ensures { λ r. ⌜ r ≡ fitBelow (now (orders .entry)) n end (now (rows .entry)) ⌝ }
+{
+    if !fits(orders, n, rows) {
+        return false;
+    }
+    if rows.len() < 12 * n {
+        return false;
+    }
+    end <= 744
 }

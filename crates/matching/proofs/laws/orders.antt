@@ -9,3 +9,4 @@ pub mod TakeOffLaws
 pub mod AfterLaws
 pub mod TakingLaws
 pub mod ExchangeLaws
+pub mod LeftLaws

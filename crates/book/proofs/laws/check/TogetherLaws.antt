@@ -203,32 +203,6 @@ module _ (m : List ℕ) (k : ℕ) (hk : k < 256) where
         go true e = direction-same pb (eqb-true _ _ e)
         go false e = direction-other (eqb-false _ _ e)
 
--- an order's price entered, by cases
-module _ (d p price : ℕ) (l : List ℕ) where
-  pub high-new : d ≡ 1 → getD l p 0 ≤ price → highWith d p price l ≡ set l p (price + 1)
-  unfolding highWith
-  high-new e h = rw (eq-eqb d 1 e, le-leb (getD l p 0) price h)
-
-  pub high-not : (d ≡ 1 → price < getD l p 0) → highWith d p price l ≡ l
-  unfolding highWith
-  high-not f = go (ℕ-discrete d 1)
-    where
-      go : Dec (d ≡ 1) → cond (eqb d 1 && leb (getD l p 0) price) (set l p (price + 1)) l ≡ l
-      go (yes e) = rw (eq-eqb d 1 e, lt-leb (getD l p 0) price (f e))
-      go (no n) = rw (ne-eqb d 1 n)
-
-  pub low-new : (d ≡ 1 → ⊥) → price < getD l p 0 → lowWith d p price l ≡ set l p price
-  unfolding lowWith
-  low-new n h = rw (ne-eqb d 1 n, lt-ltb price (getD l p 0) h)
-
-  pub low-not : ((d ≡ 1 → ⊥) → getD l p 0 ≤ price) → lowWith d p price l ≡ l
-  unfolding lowWith
-  low-not f = go (ℕ-discrete d 1)
-    where
-      go : Dec (d ≡ 1) → cond (not (eqb d 1) && ltb price (getD l p 0)) (set l p price) l ≡ l
-      go (yes e) = rw (eq-eqb d 1 e)
-      go (no n) = rw (ne-eqb d 1 n, le-ltb price (getD l p 0) (f n))
-
 -- prices before any order
 const-at : (n c i : ℕ) → i < n → getD (replicate n c) i 0 ≡ c
 const-at zero c i h = absurd (omega arith)

@@ -31,19 +31,9 @@ pub record LessOffer (x y : OpenOffer) : Type 0 where
   pub less : total left ≤ total (y .amounts)
   pub some : 0 < total (y .amounts) → 0 < total left
 
--- x is what is left of the order y
-pub record LessOrder (x y : OpenOrder) : Type 0 where
-  pub left : ℕ
-  pub is : x ≡ leaving y left
-  pub fewer : left ≤ y .quantity
-  pub some : 0 < y .quantity → 0 < left
-
 pub same-offer : (o : OpenOffer) → LessOffer o o
 same-offer o =
     record { mark = o .taken; left = o .amounts; is = refl; marked = λ h. h; long = refl; fewer = λ p. omega arith; less = omega arith; some = λ h. h }
-
-pub same-order : (o : OpenOrder) → LessOrder o o
-same-order o = record { left = o .quantity; is = refl; fewer = omega arith; some = λ h. h }
 
 -- what is named in b is so in b′
 pub record Names (b b′ : Book) : Type 0 where

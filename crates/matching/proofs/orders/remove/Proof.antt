@@ -22,7 +22,10 @@ same-length-2 : tie.Need-same-length-2
 same-length-2 c = search needs
 
 returns-2 : tie.Need-returns-2
-returns-2 c = placed _ _ _ _ _ _ (sym (c .before .before .before .before .before .is-place .ensures) ∙ not-false _ (c .before .before .before .before .if1 .left)) (c .before .before .remove-at .ensures .0) (c .before .before .remove-at .ensures .1)
+returns-2 c =
+    let c4 = c .before .before .before .before in
+    let c5 = c4 .before in
+    placed _ _ _ _ _ _ (sym (c5 .is-place .ensures) ∙ not-false _ (c4 .if1 .left)) (c .before .before .remove-at .ensures .0) (c .before .before .remove-at .ensures .1)
 
 pub remove-spec : {M : Type 1} → statement M
 remove-spec =
