@@ -31,7 +31,7 @@ pub record EnrolledUnit : Type 0 where
 abbrev pub noUnit : EnrolledUnit
 noUnit = record { kind = 0; capacity = 0; asset = 0; figures = [] }
 
--- "Offer: a unit, a partner or 0, a price, an amount for each period", under its number; `taken` is 1 once some of it
+-- Offer: "a unit, a partner or 0, a price, an amount for each period", under its number; `taken` is 1 once some of it
 -- was taken
 pub record OpenOffer : Type 0 where
   pub number : ℕ

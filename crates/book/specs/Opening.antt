@@ -1,5 +1,5 @@
 -- Opening a book (paper 01, "Units of measure and the book").
-use Prim.Native.Nat.{ℕ, _+_, _*_}
+use Prim.Native.Nat.{ℕ, _+_, _*_, _≤_}
 use mathlib.Core.Bool.{Bool, cond, _&&_}
 use mathlib.Core.List.{List, [], _∷_}
 use lib.Dec.{ltb}
@@ -12,6 +12,10 @@ use Rattle.book.specs.Refusals.{Check, check, firstOf, badOpening}
 -- units' figures of 5 words and 8 offers' amounts.
 abbrev pub bookWords : ℕ → ℕ
 bookWords days = 1_776 + 7_872 * days
+
+-- "at most 262,144 bytes times one more than the days"; a word has 8 bytes
+abbrev pub WithinBytes : ℕ → ℕ → Type 0
+WithinBytes words days = 8 * words ≤ 262_144 * (days + 1)
 
 -- what the library publishes: 0 for days that no book has
 unfoldable pub wordsFor : ℕ → ℕ

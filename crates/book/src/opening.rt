@@ -7,13 +7,13 @@ ghost use Prim.Native.Nat.{ℕ, _+_, _*_, _<_, _≤_};
 ghost use lib.ListN.{length, drop};
 ghost use Rattle.book.specs.Book.{rulesOf};
 ghost use Rattle.limits.specs.Units.{mostDays};
-ghost use Rattle.book.specs.Opening.{fresh, bookWords, wordsFor};
+ghost use Rattle.book.specs.Opening.{fresh, bookWords, wordsFor, WithinBytes};
 ghost use Rattle.book.specs.Layout.{decode};
 ghost use Rattle.book.specs.Contract.{Opened};
 
 // How many words a book of these days needs; 0 where there is no such book.
 pub fn book_words(days: u64) -> u64
-    ensures { λ r. ⌜ (r ≡ wordsFor days) × (8 * r ≤ 262144 * (days + 1)) ⌝ }
+    ensures { λ r. ⌜ (r ≡ wordsFor days) × (WithinBytes r days) ⌝ }
 {
     if days < 1 {
         return 0;

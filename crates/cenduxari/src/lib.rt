@@ -1,14 +1,16 @@
-// The engine for Rust and C: paper 01's calls on numbers and slices. Each returns the refusal, or 0.
+// The engine for Rust and C: paper 01's calls on numbers and slices. Each call on a book returns the refusal, or 0, and
+// writes its number and its count of rows to `out`.
 use book::Answer;
 ghost use mathlib.Core.Path.{_≡_};
 ghost use mathlib.Core.List.{[], _∷_};
 ghost use lib.ListN.{length};
 ghost use Rattle.measures.specs.Sharing.{sharing, Is};
 ghost use Rattle.limits.specs.Limits.{limitsAt};
-ghost use Rattle.book.specs.Opening.{wordsFor};
+ghost use Rattle.book.specs.Book.{rulesOf};
+ghost use Rattle.book.specs.Opening.{wordsFor, WithinBytes};
 ghost use Rattle.book.specs.Calls.{callEnrol, callOffer, callTake, callWithdraw, callOrder, callCancel, callClear, callClose};
 ghost use Rattle.book.specs.Contract.{toldBy};
-ghost use Rattle.cenduxari.specs.Exports.{Called, Settled, BookOpened, CurveDrawn};
+ghost use Rattle.cenduxari.specs.Exports.{Called, BookOpened, CurveDrawn};
 
 // The refusal of an answer, or 0.
 fn refusal_of(answer: Answer) -> u64
@@ -56,17 +58,24 @@ pub extern "C" fn cenduxari_limits(
 // How many words a book of these days needs; 0 where there is no such book.
 #[no_mangle]
 pub extern "C" fn cenduxari_book_words(days: u64) -> u64
-    ensures { λ r. ⌜ r ≡ wordsFor days ⌝ }
+    ensures { λ r. ⌜ (r ≡ wordsFor days) × (WithinBytes r days) ⌝ }
 {
     book::opening::book_words(days)
 }
 
 // Opens a book.
 #[no_mangle]
-pub extern "C" fn cenduxari_open(book: &mut [u64], days: u64, floor: u64, ceiling: u64) -> u64
-    ensures { λ r. ⌜ BookOpened (now (book .entry)) days floor ceiling r (now (book .exit)) ⌝ }
+pub extern "C" fn cenduxari_open(
+    book: &mut [u64],
+    days: u64,
+    floor: u64,
+    ceiling: u64,
+    out: &mut [u64; 2],
+) -> u64
+    ensures { λ r. ⌜ BookOpened (now (book .entry)) (rulesOf days floor ceiling) r (now (out .exit)) (now (book .exit)) ⌝ }
 {
     let answer = book::opening::open(book, days, floor, ceiling);
+    *out = numbers_of(answer);
     refusal_of(answer)
 }
 
@@ -123,10 +132,16 @@ pub extern "C" fn cenduxari_take(
 
 // Removes an own offer of which nothing is taken.
 #[no_mangle]
-pub extern "C" fn cenduxari_withdraw(book: &mut [u64], unit: u64, number: u64) -> u64
-    ensures { λ r. ⌜ Settled (now (book .entry)) (callWithdraw unit number) r (now (book .exit)) ⌝ }
+pub extern "C" fn cenduxari_withdraw(
+    book: &mut [u64],
+    unit: u64,
+    number: u64,
+    out: &mut [u64; 2],
+) -> u64
+    ensures { λ r. ⌜ Called (now (book .entry)) [] (callWithdraw unit number) r (now (out .exit)) (now (book .exit)) [] ⌝ }
 {
     let answer = book::calls::withdraw(book, unit, number);
+    *out = numbers_of(answer);
     refusal_of(answer)
 }
 
@@ -152,10 +167,16 @@ pub extern "C" fn cenduxari_order(
 
 // Removes what is left of an own order.
 #[no_mangle]
-pub extern "C" fn cenduxari_cancel(book: &mut [u64], unit: u64, number: u64) -> u64
-    ensures { λ r. ⌜ Settled (now (book .entry)) (callCancel unit number) r (now (book .exit)) ⌝ }
+pub extern "C" fn cenduxari_cancel(
+    book: &mut [u64],
+    unit: u64,
+    number: u64,
+    out: &mut [u64; 2],
+) -> u64
+    ensures { λ r. ⌜ Called (now (book .entry)) [] (callCancel unit number) r (now (out .exit)) (now (book .exit)) [] ⌝ }
 {
     let answer = book::calls::cancel(book, unit, number);
+    *out = numbers_of(answer);
     refusal_of(answer)
 }
 
@@ -172,18 +193,26 @@ pub extern "C" fn cenduxari_clear(book: &mut [u64], rows: &mut [u64], out: &mut 
 
 // Closes the day.
 #[no_mangle]
-pub extern "C" fn cenduxari_close(book: &mut [u64]) -> u64
-    ensures { λ r. ⌜ Settled (now (book .entry)) callClose r (now (book .exit)) ⌝ }
+pub extern "C" fn cenduxari_close(book: &mut [u64], out: &mut [u64; 2]) -> u64
+    ensures { λ r. ⌜ Called (now (book .entry)) [] callClose r (now (out .exit)) (now (book .exit)) [] ⌝ }
 {
     let answer = book::calls::close(book);
+    *out = numbers_of(answer);
     refusal_of(answer)
 }
 
 // The 48 points of a unit on a day. The book is read alone.
 #[no_mangle]
-pub extern "C" fn cenduxari_curve(book: &[u64], unit: u64, day: u64, points: &mut [u64]) -> u64
-    ensures { λ r. ⌜ CurveDrawn (now (book .entry)) (now (points .entry)) unit day r (now (points .exit)) ⌝ }
+pub extern "C" fn cenduxari_curve(
+    book: &[u64],
+    unit: u64,
+    day: u64,
+    points: &mut [u64],
+    out: &mut [u64; 2],
+) -> u64
+    ensures { λ r. ⌜ CurveDrawn (now (book .entry)) (now (points .entry)) unit day r (now (out .exit)) (now (points .exit)) ⌝ }
 {
     let answer = book::calls::curve(book, unit, day, points);
+    *out = numbers_of(answer);
     refusal_of(answer)
 }

@@ -3,14 +3,14 @@ use Prim.Native.Nat.{ℕ}
 use mathlib.Core.Path.{_≡_}
 use mathlib.Core.List.{List, [], _∷_, _++_, map}
 use lib.ListN.{replicate}
-use Rattle.book.specs.Book.{rulesOf}
+use Rattle.book.specs.Book.{Book, rulesOf}
 use Rattle.measures.specs.Figures.{AllShared, figure1}
 use Rattle.limits.specs.Figures.{AllLimited, figure5, figure6}
 use Rattle.matching.specs.Orders.{Row}
 use Rattle.matching.specs.Figures.{Figure2, Figure3, Figure4}
 use Rattle.book.specs.Opening.{fresh, openingRefusal, bookWords}
-use Rattle.book.specs.Curve.{firstHalf, secondHalf}
-use Rattle.book.specs.Calls.{Call, callEnrol, callOffer, callTake, callWithdraw, callOrder, callCancel, callClear, callClose, Answer, answers}
+use Rattle.book.specs.Curve.{Drawn, curve}
+use Rattle.book.specs.Calls.{Call, callEnrol, callOffer, callTake, callWithdraw, callOrder, callCancel, callClear, callClose, Answer, answers, bookAfter}
 
 -- answers: accepted with a number and rows, or refused
 abbrev pub ok : ℕ → List Row → Answer
@@ -57,12 +57,15 @@ Figure7 =
     ∷ ok 0 (record { way = 2; period = 8; seller = 1; buyer = 2; quantity = 100; price = 5 } ∷ [])
     ∷ no 19 ∷ ok 0 [] ∷ ok 1 [] ∷ [])
 
--- "Nets 7, 1, 0: 3,4; 0,1; 0,0."
-abbrev pub halves : ℕ → List ℕ
-halves n = firstHalf n ∷ secondHalf n ∷ []
+-- a load that took 7 in hour 0, 1 in hour 1 and nothing else
+abbrev pub took8 : Book
+took8 =
+    bookAfter (fresh (rulesOf 1 0 1_000_000))
+    (callEnrol 2 100 0 ∷ callEnrol 3 100 0 ∷ callOffer 1 2 5 (7 ∷ 1 ∷ replicate 22 0) ∷ callTake 2 1 8 4_464 ∷ [])
 
+-- "Nets 7, 1, 0: 3,4; 0,1; 0,0."
 abbrev pub Figure8 : Type 0
-Figure8 = map halves (7 ∷ 1 ∷ 0 ∷ []) ≡ (3 ∷ 4 ∷ []) ∷ (0 ∷ 1 ∷ []) ∷ (0 ∷ 0 ∷ []) ∷ []
+Figure8 = curve took8 2 0 48 ≡ record { refusal = 0; points = 3 ∷ 4 ∷ 0 ∷ 1 ∷ 0 ∷ 0 ∷ replicate 42 0 }
 
 -- the transcript of program `rehearse`: O 1 0 1000000, then these
 abbrev pub Transcript : Type 0

@@ -24,6 +24,9 @@ pub record Amounts : Type 0 where
   pub unit : ℕ
   pub amounts : List ℕ
 
+abbrev pub noAmounts : Amounts
+noAmounts = record { number = 0; unit = 0; amounts = [] }
+
 pub record Tally : Type 0 where
   pub rules : Rules
   pub units : List Member

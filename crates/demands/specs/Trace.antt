@@ -8,7 +8,7 @@ use Rattle.book.specs.declared.Answer.{Answer}
 use Rattle.book.specs.Calls.{Call, callEnrol, callOffer, callTake, callWithdraw, callOrder, callCancel, callClear, callClose}
 use Rattle.book.specs.Calls.{Answer as Heard}
 use Rattle.book.specs.Book.{Rules}
-use Rattle.book.specs.Contract.{Told, toldBy, Made, Opened, Curved}
+use Rattle.book.specs.Contract.{Told, toldBy, soundIn, Made, Opened, Curved}
 use Rattle.book.specs.Layout.{decode}
 use Rattle.book.specs.inner.RowsIn.{rowsIn}
 use Rattle.demands.specs.Tally.{Tally, opened, tallied}
@@ -42,6 +42,8 @@ tallyOf t (next c rows rows′ a l p tr) = tallyOf (tallied t c (heard a rows′
 
 -- what is claimed of the tally t and the memory x that the same calls left
 pub record Claimed (t : Tally) (x : List ℕ) : Type 0 where
+  -- "Every book that opening and the calls make is sound."
+  pub sound : soundIn x ≡ true
   -- nets, volumes, balance and bounds
   pub book : Demand3 t (decode x)
   -- "Curves are called after the list, for any enrolled unit and any day of the term, 48 numbers lent": each hour's two
@@ -52,7 +54,7 @@ pub record Claimed (t : Tally) (x : List ℕ) : Type 0 where
       × (getD pts′ (2 * h) 0 ≤ getD pts′ (2 * h + 1) 0)
       × (getD pts′ (2 * h + 1) 0 ≤ getD pts′ (2 * h) 0 + 1))
 
--- "One theorem over every list of calls from a newly opened book"
+-- the theorem over every list of calls from a newly opened book
 abbrev pub OverEveryTrace : Type 0
 OverEveryTrace =
     (m₀ : List ℕ) (r : Rules) (a : Answer) (m x : List ℕ) → Opened m₀ r a m → toldBy a .refusal ≡ 0

@@ -24,9 +24,13 @@ Figure2 =
     (clearedVolume (bids 0 orders2) (asks 0 orders2) ≡ 14)
     × (clearPeriod 0 orders2 .rows ≡ aRow 3 3 1 10 475 ∷ aRow 3 4 2 4 475 ∷ [])
 
--- "Marginal bid 481, ask 470: 476."
+-- "Marginal bid 481, ask 470"
+abbrev pub orders3 : List Order
+orders3 = anOrder 1 1 1 481 10 ∷ anOrder 2 2 0 470 10 ∷ []
+
+-- ": 476."
 abbrev pub Figure3 : Type 0
-Figure3 = clearingPrice 481 470 ≡ 476
+Figure3 = (clearingPrice 481 470 ≡ 476) × (clearPeriod 0 orders3 .rows ≡ aRow 3 2 1 10 476 ∷ [])
 
 -- "Asks no. 1 460 for 5, no. 2 455 for 5; buy 460 for 7: 5 at 455, 2 at 460."
 abbrev pub Figure4 : Type 0

@@ -34,18 +34,30 @@ pub fn words(days: u64) -> Option<usize> {
     (words != 0).then_some(words as usize)
 }
 
+/// What a call hands over: its number and its count of rows.
+fn told(call: impl FnOnce(&mut [u64; 2]) -> u64) -> Result<(u64, usize), Refusal> {
+    let mut out = [0; 2];
+    outcome(call(&mut out))?;
+    Ok((out[0], out[1] as usize))
+}
+
+/// The same of a call that gives neither.
+fn done(call: impl FnOnce(&mut [u64; 2]) -> u64) -> Result<(), Refusal> {
+    told(call).map(|_| ())
+}
+
 /// Opens a book in this memory, whatever it held: [`Book::open`](crate::Book::open).
 pub fn open(book: &mut [u64], days: u64, floor: u64, ceiling: u64) -> Result<(), Refusal> {
-    outcome(unsafe { sys::cenduxari_open(book.as_mut_ptr(), book.len(), days, floor, ceiling) })
+    let (memory, len) = (book.as_mut_ptr(), book.len());
+    done(|out| unsafe { sys::cenduxari_open(memory, len, days, floor, ceiling, out) })
 }
 
 /// Adds a unit and gives its number: [`Book::enrol`](crate::Book::enrol).
 pub fn enrol(book: &mut [u64], kind: u64, capacity: u64, asset: u64) -> Result<u64, Refusal> {
-    let mut out = [0; 2];
-    outcome(unsafe {
-        sys::cenduxari_enrol(book.as_mut_ptr(), book.len(), kind, capacity, asset, &mut out)
-    })?;
-    Ok(out[0])
+    let (memory, len) = (book.as_mut_ptr(), book.len());
+    let (number, _) =
+        told(|out| unsafe { sys::cenduxari_enrol(memory, len, kind, capacity, asset, out) })?;
+    Ok(number)
 }
 
 /// Offers an amount for each period, to a partner or, with 0, as a listing: [`Book::offer`](crate::Book::offer).
@@ -56,20 +68,12 @@ pub fn offer(
     price: u64,
     amounts: &[u64],
 ) -> Result<u64, Refusal> {
-    let mut out = [0; 2];
-    outcome(unsafe {
-        sys::cenduxari_offer(
-            book.as_mut_ptr(),
-            book.len(),
-            unit,
-            partner,
-            price,
-            amounts.as_ptr(),
-            amounts.len(),
-            &mut out,
-        )
+    let (memory, len) = (book.as_mut_ptr(), book.len());
+    let (list, count) = (amounts.as_ptr(), amounts.len());
+    let (number, _) = told(|out| unsafe {
+        sys::cenduxari_offer(memory, len, unit, partner, price, list, count, out)
     })?;
-    Ok(out[0])
+    Ok(number)
 }
 
 /// Takes from an offer and gives the count of rows: [`Book::take`](crate::Book::take).
@@ -80,25 +84,18 @@ pub fn take(
     quantity: u64,
     rows: &mut [u64],
 ) -> Result<usize, Refusal> {
-    let mut out = [0; 2];
-    outcome(unsafe {
-        sys::cenduxari_take(
-            book.as_mut_ptr(),
-            book.len(),
-            unit,
-            number,
-            quantity,
-            rows.as_mut_ptr(),
-            rows.len(),
-            &mut out,
-        )
+    let (memory, len) = (book.as_mut_ptr(), book.len());
+    let (lent, words) = (rows.as_mut_ptr(), rows.len());
+    let (_, count) = told(|out| unsafe {
+        sys::cenduxari_take(memory, len, unit, number, quantity, lent, words, out)
     })?;
-    Ok(out[1] as usize)
+    Ok(count)
 }
 
 /// Removes an own offer of which nothing is taken: [`Book::withdraw`](crate::Book::withdraw).
 pub fn withdraw(book: &mut [u64], unit: u64, number: u64) -> Result<(), Refusal> {
-    outcome(unsafe { sys::cenduxari_withdraw(book.as_mut_ptr(), book.len(), unit, number) })
+    let (memory, len) = (book.as_mut_ptr(), book.len());
+    done(|out| unsafe { sys::cenduxari_withdraw(memory, len, unit, number, out) })
 }
 
 /// Orders a quantity of a period and gives the number and the count of rows: [`Book::order`](crate::Book::order).
@@ -111,53 +108,38 @@ pub fn order(
     quantity: u64,
     rows: &mut [u64],
 ) -> Result<(u64, usize), Refusal> {
-    let mut out = [0; 2];
-    outcome(unsafe {
+    let (memory, len) = (book.as_mut_ptr(), book.len());
+    let (lent, words) = (rows.as_mut_ptr(), rows.len());
+    told(|out| unsafe {
         sys::cenduxari_order(
-            book.as_mut_ptr(),
-            book.len(),
-            unit,
-            direction,
-            period,
-            price,
-            quantity,
-            rows.as_mut_ptr(),
-            rows.len(),
-            &mut out,
+            memory, len, unit, direction, period, price, quantity, lent, words, out,
         )
-    })?;
-    Ok((out[0], out[1] as usize))
+    })
 }
 
 /// Removes what is left of an own order: [`Book::cancel`](crate::Book::cancel).
 pub fn cancel(book: &mut [u64], unit: u64, number: u64) -> Result<(), Refusal> {
-    outcome(unsafe { sys::cenduxari_cancel(book.as_mut_ptr(), book.len(), unit, number) })
+    let (memory, len) = (book.as_mut_ptr(), book.len());
+    done(|out| unsafe { sys::cenduxari_cancel(memory, len, unit, number, out) })
 }
 
 /// Clears each period and gives the count of rows: [`Book::clear`](crate::Book::clear).
 pub fn clear(book: &mut [u64], rows: &mut [u64]) -> Result<usize, Refusal> {
-    let mut out = [0; 2];
-    outcome(unsafe {
-        sys::cenduxari_clear(book.as_mut_ptr(), book.len(), rows.as_mut_ptr(), rows.len(), &mut out)
-    })?;
-    Ok(out[1] as usize)
+    let (memory, len) = (book.as_mut_ptr(), book.len());
+    let (lent, words) = (rows.as_mut_ptr(), rows.len());
+    let (_, count) = told(|out| unsafe { sys::cenduxari_clear(memory, len, lent, words, out) })?;
+    Ok(count)
 }
 
 /// Closes the day: [`Book::close`](crate::Book::close).
 pub fn close(book: &mut [u64]) -> Result<(), Refusal> {
-    outcome(unsafe { sys::cenduxari_close(book.as_mut_ptr(), book.len()) })
+    let (memory, len) = (book.as_mut_ptr(), book.len());
+    done(|out| unsafe { sys::cenduxari_close(memory, len, out) })
 }
 
 /// Writes the 48 points of a unit on a day: [`Book::curve`](crate::Book::curve). Points past the 48 are kept.
 pub fn curve(book: &[u64], unit: u64, day: u64, points: &mut [u64]) -> Result<(), Refusal> {
-    outcome(unsafe {
-        sys::cenduxari_curve(
-            book.as_ptr(),
-            book.len(),
-            unit,
-            day,
-            points.as_mut_ptr(),
-            points.len(),
-        )
-    })
+    let (memory, len) = (book.as_ptr(), book.len());
+    let (lent, words) = (points.as_mut_ptr(), points.len());
+    done(|out| unsafe { sys::cenduxari_curve(memory, len, unit, day, lent, words, out) })
 }

@@ -1,5 +1,6 @@
 //! The exported functions of the proved library, as include/cenduxari.h has them. A slice passes as its pointer, then
-//! its length. Each returns the refusal or 0, and has no `requires`.
+//! its length. Each returns the refusal or 0, and has no `requires`; each call on a book writes `out`, its number and its
+//! count of rows.
 
 extern "C" {
     pub fn cenduxari_share(
@@ -27,6 +28,7 @@ extern "C" {
         days: u64,
         floor: u64,
         ceiling: u64,
+        out: *mut [u64; 2],
     ) -> u64;
 
     pub fn cenduxari_enrol(
@@ -60,7 +62,13 @@ extern "C" {
         out: *mut [u64; 2],
     ) -> u64;
 
-    pub fn cenduxari_withdraw(book: *mut u64, book_len: usize, unit: u64, number: u64) -> u64;
+    pub fn cenduxari_withdraw(
+        book: *mut u64,
+        book_len: usize,
+        unit: u64,
+        number: u64,
+        out: *mut [u64; 2],
+    ) -> u64;
 
     pub fn cenduxari_order(
         book: *mut u64,
@@ -75,7 +83,13 @@ extern "C" {
         out: *mut [u64; 2],
     ) -> u64;
 
-    pub fn cenduxari_cancel(book: *mut u64, book_len: usize, unit: u64, number: u64) -> u64;
+    pub fn cenduxari_cancel(
+        book: *mut u64,
+        book_len: usize,
+        unit: u64,
+        number: u64,
+        out: *mut [u64; 2],
+    ) -> u64;
 
     pub fn cenduxari_clear(
         book: *mut u64,
@@ -85,7 +99,7 @@ extern "C" {
         out: *mut [u64; 2],
     ) -> u64;
 
-    pub fn cenduxari_close(book: *mut u64, book_len: usize) -> u64;
+    pub fn cenduxari_close(book: *mut u64, book_len: usize, out: *mut [u64; 2]) -> u64;
 
     pub fn cenduxari_curve(
         book: *const u64,
@@ -94,5 +108,6 @@ extern "C" {
         day: u64,
         points: *mut u64,
         points_len: usize,
+        out: *mut [u64; 2],
     ) -> u64;
 }

@@ -91,6 +91,17 @@ fn the_rust_declarations_are_those_exported() {
 }
 
 #[test]
+fn every_call_on_a_book_hands_over_its_numbers() {
+    let on_a_book = |parameters: &&Vec<(String, String)>| parameters[0].0 == "book";
+    let exported = exported();
+    let calls: Vec<_> = exported.iter().map(|(_, list)| list).filter(on_a_book).collect();
+    assert_eq!(calls.len(), 10);
+    for parameters in calls {
+        assert_eq!(parameters.last(), Some(&("out".into(), "&mut [u64; 2]".into())));
+    }
+}
+
+#[test]
 fn a_program_in_c_plays_the_papers_transcript() {
     let program = Path::new(env!("CARGO_TARGET_TMPDIR")).join("transcript");
     let compiled = Command::new("cc")

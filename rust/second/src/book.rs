@@ -51,8 +51,8 @@ pub struct Figures {
     pub lowered: u64,
     /// All energy traded over the term.
     pub volume: u64,
-    /// Today's trades of way 3 or 4: 0 none, 1 sold, 2 bought.
-    pub way: u64,
+    /// Today's trades of way 3 or 4: 0 none, 1 sold, 2 bought, 3 both.
+    pub mark: u64,
 }
 
 /// An open offer; partner 0 makes it a listing.
@@ -146,13 +146,21 @@ impl Unit {
         figures.volume += quantity;
     }
 
-    /// Marks that the unit traded in this direction today by way 3 or 4.
+    /// Marks that the unit traded in this direction today by way 3 or 4; the other direction's mark stays.
     pub fn mark(&mut self, period: u64, direction: u64) {
-        self.figures[period as usize].way = if direction == SELL { 1 } else { 2 };
+        self.figures[period as usize].mark |= mark_of(direction);
     }
 }
 
 impl Figures {
+    /// The highest mark: sold and bought.
+    pub const MOST_MARK: u64 = 3;
+
+    /// Did the unit trade in this direction today by way 3 or 4?
+    pub fn marked(&self, direction: u64) -> bool {
+        self.mark & mark_of(direction) != 0
+    }
+
     /// The net of a sound book's figures.
     pub fn net(&self) -> u64 {
         self.held + self.raised - self.lowered
@@ -172,6 +180,15 @@ impl Offer {
 impl Order {
     /// The most open orders of a book.
     pub const MOST: usize = 256;
+}
+
+/// The mark of a direction: 1 sold, 2 bought.
+fn mark_of(direction: u64) -> u64 {
+    if direction == SELL {
+        1
+    } else {
+        2
+    }
 }
 
 /// The sum of a list. One past 64 bits stands at the top, which is over every limit.

@@ -265,7 +265,7 @@ impl Book {
                 figures.held = figures.net();
                 figures.raised = 0;
                 figures.lowered = 0;
-                figures.way = 0;
+                figures.mark = 0;
             }
         }
         Ok(Answer::of(0))

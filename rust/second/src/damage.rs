@@ -71,7 +71,7 @@ fn damage_figures(random: &mut Random, book: &mut Book) {
         1 => change(random, &mut figures.raised),
         2 => change(random, &mut figures.lowered),
         3 => change(random, &mut figures.volume),
-        _ => change(random, &mut figures.way),
+        _ => change(random, &mut figures.mark),
     }
 }
 

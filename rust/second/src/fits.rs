@@ -1,7 +1,7 @@
 //! What is open of a unit, and whether the unit fits its limits.
 //! Paper: "Limits", its last two paragraphs; checks 19, 20 and 21.
 
-use crate::book::{Book, Offer, Order, Unit};
+use crate::book::{Book, Figures, Offer, Order, Unit};
 use crate::limits::{hour_limit, term_limit, volume_limit, MOST_PERIODS};
 
 /// What is open of one unit in each period. Sums past 64 bits stand at the top, over every limit.
@@ -79,7 +79,7 @@ pub fn fit(days: u64, unit: &Unit, open: &Open) -> u64 {
         for (figures, ((&raising, &lowering), &limit)) in day.iter().zip(hours) {
             let up = figures.held.saturating_add(figures.raised).saturating_add(raising);
             let down = figures.lowered.saturating_add(lowering);
-            if figures.way > 2 {
+            if figures.mark > Figures::MOST_MARK {
                 return 1;
             }
             if up > limit || down > figures.held {

@@ -35,7 +35,8 @@ impl Generator {
         if (book.units.len() as u64) < self.units && !self.random.once_in(16) {
             return self.enrol();
         }
-        if self.manner.name == "numbers" && book.given < Book::MOST_NUMBERS {
+        let numbers = self.manner.name == "numbers" && book.given < Book::MOST_NUMBERS;
+        if numbers && !book.units.is_empty() {
             return self.next_number(book);
         }
         let mut drawn = self.random.below(self.manner.weights.iter().sum());
@@ -239,11 +240,13 @@ impl Generator {
         (unit, direction, period, self.room(book, unit, direction, period))
     }
 
-    /// The way the unit goes already in the period; else raising, or lowering of what is held.
+    /// The direction that the unit goes already in the period; else raising, or lowering of what is held.
     fn direction(&mut self, book: &Book, unit: u64, period: u64) -> u64 {
         let figures = &book.unit(unit).figures[period as usize];
-        if figures.way != 0 {
-            return figures.way - 1;
+        if let Some(direction) =
+            [SELL, BUY].into_iter().find(|&direction| figures.marked(direction))
+        {
+            return direction;
         }
         for order in &book.orders {
             if order.unit == unit && order.period == period {
@@ -382,7 +385,7 @@ impl Generator {
         Call::Curve { unit: self.spoil(unit), day: self.spoil(day), lent: self.lent(POINTS_LENT) }
     }
 
-    /// Orders and cancels in turn, so that the numbers of the day are used up.
+    /// Orders and cancels in turn, so that the numbers of the day are used up. A unit stands.
     fn next_number(&mut self, book: &Book) -> Call {
         if self.random.once_in(400) {
             return self.order(book);

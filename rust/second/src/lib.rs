@@ -1,6 +1,7 @@
 //! The second engine of Cenduxari: paper 01, "Term contracts for electricity", in plain Rust.
 //! It is written from the paper alone, so that the proved engine can be compared with it.
 
+pub mod beside;
 pub mod book;
 pub mod calls;
 pub mod clearing;
@@ -13,6 +14,7 @@ pub mod manners;
 pub mod orders;
 pub mod random;
 pub mod rehearse;
+pub mod replay;
 pub mod rooms;
 pub mod sharing;
 pub mod sound;

@@ -25,20 +25,10 @@ impl Book {
         check(energy_in_range(quantity), 9)?;
         check(period < self.periods(), 10)?;
         check(direction == SELL || direction == BUY, 12)?;
-        // The unit's open orders of the period: in the other direction, and all.
-        let mut other = 0;
-        let mut open = 0;
-        for order in &self.orders {
-            if order.unit == unit && order.period == period {
-                open += 1;
-                if order.direction != direction {
-                    other += 1;
-                }
-            }
-        }
-        let other_way = if direction == SELL { 2 } else { 1 };
-        let way = self.unit(unit).figures[period as usize].way;
-        check(other == 0 && way != other_way, 15)?;
+        let (other, open) = self.open_orders(unit, direction, period);
+        let figures = &self.unit(unit).figures[period as usize];
+        let marked = figures.marked(if direction == SELL { BUY } else { SELL });
+        check(other == 0 && !marked, 15)?;
         check(self.phase == ROLLING || open < 2, 16)?;
         check(self.orders.len() < Order::MOST, 17)?;
         check(self.given < Book::MOST_NUMBERS, 18)?;
@@ -53,6 +43,21 @@ impl Book {
             self.orders.push(incoming);
         }
         Ok(Answer { number, rows })
+    }
+
+    /// How many orders the unit has open in the period: in the other direction, and all.
+    fn open_orders(&self, unit: u64, direction: u64, period: u64) -> (usize, usize) {
+        let mut other = 0;
+        let mut open = 0;
+        for order in &self.orders {
+            if order.unit == unit && order.period == period {
+                open += 1;
+                if order.direction != direction {
+                    other += 1;
+                }
+            }
+        }
+        (other, open)
     }
 
     /// Matches an incoming order with the waiting ones and lessens both.

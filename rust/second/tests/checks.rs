@@ -66,7 +66,7 @@ fn order() {
     // leaves 2 of the 6 that the asset lets.
     let book = &mut wrong.book;
     book.given = Book::MOST_NUMBERS;
-    book.units[0].figures[0].way = 1;
+    book.units[0].figures[0].mark = 1;
     book.units[0].figures[5].volume = 2;
     for number in [1, 2] {
         let own = Order { number, unit: 1, direction: BUY, period: 0, price: 1, quantity: 1 };
@@ -81,7 +81,7 @@ fn order() {
         (9, |all| all.quantity = 4_000_000_000),
         (10, |all| all.period = 0),
         (12, |all| all.direction = BUY),
-        (15, |all| all.book.units[0].figures[0].way = 2),
+        (15, |all| all.book.units[0].figures[0].mark = 2),
         (16, |all| all.book.phase = ROLLING),
         (17, |all| all.book.orders.truncate(255)),
         (18, |all| all.book.given -= 1),

@@ -144,6 +144,6 @@ fn figure_8_curve() {
         assert_eq!(book.curve(unit, 0, 48).unwrap(), [0; 48]);
     }
     // The net of today: what is held counts on, lowering comes off.
-    book.units[0].figures[24] = Figures { held: 9, raised: 4, lowered: 2, volume: 15, way: 0 };
+    book.units[0].figures[24] = Figures { held: 9, raised: 4, lowered: 2, volume: 15, mark: 0 };
     assert_eq!(book.curve(1, 1, 48).unwrap()[..2], [5, 6]);
 }

@@ -60,6 +60,23 @@ fn lists_with_every_refusal() {
     assert!(counts.damaged_sound > 1_000 && counts.damaged > 2 * counts.damaged_sound);
 }
 
+/// Lists that are to use all numbers of a day make calls before a unit is enrolled, too.
+#[test]
+fn calls_before_a_unit() {
+    let mut early = 0;
+    for seed in 0..64 {
+        let mut generator = Generator::new(seed, &MANNERS[NUMBERS]);
+        let mut book = Book::blank();
+        for _ in 0..20 {
+            let call = generator.call(&book);
+            let bare = book.days > 0 && book.units.is_empty();
+            early += u64::from(bare && !matches!(call, Call::Enrol { .. }));
+            let _ = book.make(&call);
+        }
+    }
+    assert!(early > 0);
+}
+
 /// A book and a tally after a list that leaves nets, open offers and open orders.
 fn grown() -> (Book, Tally) {
     let mut book = Book::blank();

@@ -1,6 +1,7 @@
 //! The proved program `rehearse` against the second engine, byte for byte: the shared vectors, bytes of any kind, lines
 //! of any length, and inputs cut at every place. Left out where target/bin/rehearse is not built (`rt check rehearse`).
 
+use second::beside::pairs;
 use second::random::Random;
 use second::rehearse::rehearse;
 use std::io::Write;
@@ -70,18 +71,8 @@ fn agree(program: &Path, input: &[u8]) {
 #[test]
 fn vectors_agree() {
     let Some(program) = program() else { return };
-    let vectors = match std::env::var_os("CENDUXARI_VECTORS") {
-        Some(path) => PathBuf::from(path),
-        None => Path::new(env!("CARGO_MANIFEST_DIR")).join("../../../shared/vectors"),
-    };
-    let Ok(entries) = std::fs::read_dir(vectors) else { return };
-    for entry in entries {
-        let path = entry.unwrap().path();
-        if path.extension().is_some_and(|extension| extension == "in") {
-            let input = std::fs::read(&path).unwrap();
-            let expected = std::fs::read(path.with_extension("out")).unwrap();
-            assert!(printed(&program, &[&input]) == expected, "{}", path.display());
-        }
+    for (path, list, answers) in pairs("CENDUXARI_VECTORS", "shared/vectors", "") {
+        assert!(printed(&program, &[&list]) == answers, "{}", path.display());
     }
 }
 
@@ -139,9 +130,9 @@ fn any_lengths_agree() {
     {
         for byte in [b'0', b'9', b' ', b'C', 0, 255, b'\r'] {
             let mut input = b"O 1 0 9\nE 2 9 0\nR ".to_vec();
-            input.extend(std::iter::repeat_n(byte, length));
+            input.extend(vec![byte; length]);
             input.extend(b"1 0 0 5 1\nC\n");
-            input.extend(std::iter::repeat_n(byte, length));
+            input.extend(vec![byte; length]);
             agree(&program, &input);
         }
     }

@@ -139,8 +139,10 @@ fn figures_of_units_in_range() {
     unsound("asset 4,000,000,001", spare(3, 1, 4_000_000_001, 24));
     unsound("a period too few", spare(3, 1, 0, 23));
     unsound("a period too many", spare(3, 1, 0, 25));
-    still_sound("bought today", |book| book.units[3].figures[9].way = 2);
-    unsound("a third way", |book| book.units[3].figures[9].way = 3);
+    still_sound("bought today", |book| book.units[3].figures[9].mark = 2);
+    still_sound("sold and bought today", |book| book.units[3].figures[9].mark = 3);
+    unsound("a mark of 4", |book| book.units[3].figures[9].mark = 4);
+    unsound("a mark of another bit", |book| book.units[3].figures[9].mark = 1 << 63);
 }
 
 #[test]
@@ -231,7 +233,7 @@ fn figures_of_declarations_in_range() {
     unsound("order below the floor", |book| book.orders[1].price = 1);
     unsound("order above the ceiling", |book| book.orders[0].price = 10);
     still_sound("order at the ceiling", |book| book.orders[0].price = 9);
-    unsound("a mark of 2", |book| book.offers[0].taken = 2);
+    unsound("taken twice", |book| book.offers[0].taken = 2);
     still_sound("a listing of which some is taken", |book| book.offers[1].taken = 1);
     unsound("an empty offer", |book| book.offers[0].amounts = day(&[]));
     unsound("an amount too few", |book| book.offers[0].amounts.truncate(23));
@@ -334,8 +336,8 @@ fn nothing_crosses_in_the_rolling_phase() {
 fn what_the_list_does_not_demand() {
     still_sound("generators' nets unlike loads'", |book| book.units[0].figures[9].held = 3);
     still_sound("a volume less than the nets", |book| book.units[0].figures[0].volume = 0);
-    still_sound("marks with nothing traded", |book| book.units[0].figures[9].way = 1);
-    still_sound("an open buy beside a sale", |book| book.units[1].figures[3].way = 1);
+    still_sound("marks with nothing traded", |book| book.units[0].figures[9].mark = 1);
+    still_sound("an open buy beside a sale", |book| book.units[1].figures[3].mark = 1);
     still_sound("a bilateral offer marked as taken", |book| book.offers[0].taken = 1);
     still_sound("three orders of a unit and period", |book| {
         book.given = 11;
@@ -354,9 +356,19 @@ fn calls_on_forged_sound_books() {
     assert_eq!(book.order(1, SELL, 3, 6, 1, ROWS_LENT), Err(16));
     // A mark beside an open order of the other direction: both directions give 15.
     let mut book = base();
-    book.units[1].figures[3].way = 1;
+    book.units[1].figures[3].mark = 1;
     assert_eq!(book.order(2, BUY, 3, 4, 1, ROWS_LENT), Err(15));
     assert_eq!(book.order(2, SELL, 3, 9, 1, ROWS_LENT), Err(15));
+    // Its open buy is met: the mark keeps the sale, and both directions give 15 until the close.
+    book.phase = ROLLING;
+    assert_eq!(book.order(1, SELL, 3, 4, 2, ROWS_LENT).unwrap().rows.len(), 1);
+    let marks = |book: &Book| [0, 1].map(|unit: usize| book.units[unit].figures[3].mark);
+    assert_eq!(marks(&book), [1, 3]);
+    assert!(sound(&book));
+    assert_eq!(book.order(2, BUY, 3, 4, 1, ROWS_LENT), Err(15));
+    assert_eq!(book.order(2, SELL, 3, 9, 1, ROWS_LENT), Err(15));
+    book.close().unwrap();
+    assert_eq!(marks(&book), [0, 0]);
     // A bilateral offer marked as taken: not withdrawn, but taken by its partner.
     let mut book = base();
     book.offers[0].taken = 1;

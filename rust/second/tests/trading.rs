@@ -123,7 +123,7 @@ fn try_call(
             expected.orders = Vec::new();
             for figures in expected.units.iter_mut().flat_map(|unit| &mut unit.figures) {
                 figures.held = figures.held + figures.raised - figures.lowered;
-                (figures.raised, figures.lowered, figures.way) = (0, 0, 0);
+                (figures.raised, figures.lowered, figures.mark) = (0, 0, 0);
             }
             tried.closes += 1;
         }
@@ -163,7 +163,7 @@ fn book_rows(book: &mut Book, rows: &[Row]) {
             }
             figures.volume += row.quantity;
             if row.way >= 3 {
-                figures.way = if buys { 2 } else { 1 };
+                figures.mark |= if buys { 2 } else { 1 };
             }
         }
     }

@@ -1,9 +1,9 @@
 //! Every pair of the shared vectors, byte for byte, and the paper's transcript.
 //! Paper: "Program `rehearse`" in "Figures to check".
 
+use second::beside::pairs;
 use second::rehearse::rehearse;
 use std::io::Write;
-use std::path::{Path, PathBuf};
 use std::process::{Command, Stdio};
 
 fn run(input: &[u8]) -> Vec<u8> {
@@ -12,26 +12,13 @@ fn run(input: &[u8]) -> Vec<u8> {
     output
 }
 
-fn vectors() -> PathBuf {
-    match std::env::var_os("CENDUXARI_VECTORS") {
-        Some(path) => PathBuf::from(path),
-        None => Path::new(env!("CARGO_MANIFEST_DIR")).join("../../../shared/vectors"),
-    }
-}
-
 #[test]
 fn every_pair_is_byte_equal() {
-    let mut pairs = 0;
-    for entry in std::fs::read_dir(vectors()).expect("the shared vectors") {
-        let path = entry.unwrap().path();
-        if path.extension().is_some_and(|extension| extension == "in") {
-            let expected = std::fs::read(path.with_extension("out")).unwrap();
-            let printed = run(&std::fs::read(&path).unwrap());
-            assert!(printed == expected, "{}", path.display());
-            pairs += 1;
-        }
+    let pairs = pairs("CENDUXARI_VECTORS", "shared/vectors", "");
+    assert!(pairs.is_empty() || pairs.len() >= 100, "only {} pairs found", pairs.len());
+    for (path, list, answers) in pairs {
+        assert!(run(&list) == answers, "{}", path.display());
     }
-    assert!(pairs >= 100, "only {pairs} pairs found");
 }
 
 const TRANSCRIPT: &str = "O 1 0 1000000\nE 2 100 0\nE 3 100 0\nC\nR 1 0 8 455000 5\n\
@@ -91,11 +78,11 @@ fn lines_of_any_bytes() {
 #[test]
 fn lines_of_any_length() {
     let mut zeros = b"O 1 0 ".to_vec();
-    zeros.extend(std::iter::repeat_n(b'0', 1_000_000));
+    zeros.extend(vec![b'0'; 1_000_000]);
     let mut long = zeros.clone();
     zeros.extend(b"9\n");
     prints(&zeros, "ok 0");
-    long.extend(std::iter::repeat_n(b'9', 1_000_000));
+    long.extend(vec![b'9'; 1_000_000]);
     long.push(b'\n');
     prints(&long, "no 0");
     let mut fields = b"O 1 0 9\nC".to_vec();

@@ -37,7 +37,7 @@ struct Out {
     after: u64,
 }
 
-/// What a call that has `out` tells; it must write both numbers and nothing beside them.
+/// What a call tells; it must write both numbers and nothing beside them.
 fn told(call: impl FnOnce(&mut [u64; 2]) -> u64) -> Told {
     const GUARD: u64 = 0x5eed_5eed_5eed_5eed;
     let mut memory = Out { before: GUARD, out: [GUARD; 2], after: GUARD };
@@ -53,7 +53,7 @@ pub fn make(call: &Call, book: &mut [u64], lent: &mut [u64]) -> Told {
     let (rows, length) = (lent.as_mut_ptr(), lent.len());
     match *call {
         Call::Open { days, floor, ceiling, .. } => {
-            Told::of(unsafe { cenduxari_open(memory, words, days, floor, ceiling) })
+            told(|out| unsafe { cenduxari_open(memory, words, days, floor, ceiling, out) })
         }
         Call::Enrol { kind, capacity, asset } => {
             told(|out| unsafe { cenduxari_enrol(memory, words, kind, capacity, asset, out) })
@@ -66,7 +66,7 @@ pub fn make(call: &Call, book: &mut [u64], lent: &mut [u64]) -> Told {
             cenduxari_take(memory, words, unit, number, quantity, rows, length, out)
         }),
         Call::Withdraw { unit, number } => {
-            Told::of(unsafe { cenduxari_withdraw(memory, words, unit, number) })
+            told(|out| unsafe { cenduxari_withdraw(memory, words, unit, number, out) })
         }
         Call::Order { unit, direction, period, price, quantity, .. } => told(|out| unsafe {
             cenduxari_order(
@@ -74,14 +74,14 @@ pub fn make(call: &Call, book: &mut [u64], lent: &mut [u64]) -> Told {
             )
         }),
         Call::Cancel { unit, number } => {
-            Told::of(unsafe { cenduxari_cancel(memory, words, unit, number) })
+            told(|out| unsafe { cenduxari_cancel(memory, words, unit, number, out) })
         }
         Call::Clear { .. } => {
             told(|out| unsafe { cenduxari_clear(memory, words, rows, length, out) })
         }
-        Call::Close => Told::of(unsafe { cenduxari_close(memory, words) }),
+        Call::Close => told(|out| unsafe { cenduxari_close(memory, words, out) }),
         Call::Curve { unit, day, .. } => {
-            Told::of(unsafe { cenduxari_curve(memory, words, unit, day, rows, length) })
+            told(|out| unsafe { cenduxari_curve(memory, words, unit, day, rows, length, out) })
         }
     }
 }

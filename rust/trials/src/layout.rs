@@ -46,7 +46,7 @@ pub fn order_at(place: usize) -> usize {
     ORDERS + ORDER * place
 }
 
-/// Where the figures of the unit at this place begin: held, raised, lowered, volume, way.
+/// Where the figures of the unit at this place begin: held, raised, lowered, volume, mark.
 pub fn figures_at(place: usize, period: usize) -> usize {
     PERIODS + PERIOD * period + FIGURES * place
 }
@@ -89,8 +89,8 @@ fn decode_units(memory: &[u64], count: usize, periods: usize) -> Vec<Unit> {
     for period in 0..periods {
         let figures = memory[figures_at(0, period)..].chunks(FIGURES);
         for (unit, words) in units.iter_mut().zip(figures) {
-            let &[held, raised, lowered, volume, way] = words else { unreachable!() };
-            unit.figures[period] = Figures { held, raised, lowered, volume, way };
+            let &[held, raised, lowered, volume, mark] = words else { unreachable!() };
+            unit.figures[period] = Figures { held, raised, lowered, volume, mark };
         }
     }
     units
@@ -122,9 +122,9 @@ pub fn encode(book: &Book, memory: &mut [u64]) {
         let fields = [unit.kind, unit.capacity, unit.asset];
         memory[unit_at(place)..][..UNIT].copy_from_slice(&fields);
         for (period, figures) in unit.figures.iter().enumerate() {
-            let Figures { held, raised, lowered, volume, way } = *figures;
+            let Figures { held, raised, lowered, volume, mark } = *figures;
             memory[figures_at(place, period)..][..FIGURES]
-                .copy_from_slice(&[held, raised, lowered, volume, way]);
+                .copy_from_slice(&[held, raised, lowered, volume, mark]);
         }
     }
     for (place, offer) in book.offers.iter().enumerate() {

@@ -80,7 +80,6 @@ fn spent<T>(what: impl FnOnce() -> T) -> Duration {
 
 /// The sum of all words.
 #[inline(never)]
-#[inline(never)]
 fn read(memory: &[u64]) -> u64 {
     // In lanes, and never inlined: else what the loop costs hangs on where it stands.
     let mut lanes = [0u64; 16];

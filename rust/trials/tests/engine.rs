@@ -1,8 +1,11 @@
 //! The engine on random lists and damaged books: the exported functions and the safe crate.
 
+use second::book::{Order, BUY, CALL, ROLLING, SELL};
+use second::calls::{Call, ROWS_LENT};
 use second::manners::{Manner, MANNERS, MONTH, NUMBERS};
+use trials::books::book;
 use trials::deep::run_deep;
-use trials::engine::{published, safe};
+use trials::engine::{published, safe, Trial};
 use trials::exported;
 use trials::layout::{decode, encode, words};
 use trials::lists::{run_list, run_lists, Counts, Plan, TERM};
@@ -73,6 +76,38 @@ fn deep_books() {
     run_deep(PLAN.engine, 8, 20_000, &mut counts).unwrap();
     print!("{counts}");
     assert!(counts.most_rows["order"] > 200 && counts.most_rows["clear"] > 200);
+}
+
+/// Marks of ways 3 and 4 that no calls make, each with each: what orders, a clear and a close make of them.
+#[test]
+fn forged_marks() {
+    let mut random = Random(9);
+    let mut trial = Trial::new(PLAN.engine, words(1), &mut random);
+    let (period, lent) = (9, ROWS_LENT);
+    let mut calls = vec![Call::Clear { lent }, Call::Close];
+    for unit in 1..=4 {
+        for (direction, price) in [(SELL, 999), (BUY, 1_000)] {
+            calls.push(Call::Order { unit, direction, period, price, quantity: 7, lent });
+        }
+    }
+    let mut refused = 0;
+    // Unit 1 sells and unit 2 buys: in the call phase at prices that meet.
+    for (phase, bid) in [(CALL, 1_000), (ROLLING, 999)] {
+        let sell = Order { number: 2, unit: 1, direction: SELL, period, price: 1_000, quantity: 5 };
+        let buy = Order { number: 3, unit: 2, direction: BUY, price: bid, ..sell };
+        for (marks, call) in (0..16).flat_map(|marks| calls.iter().map(move |call| (marks, call))) {
+            let mut forged = book(1, 4, phase, vec![sell, buy]);
+            for (unit, mark) in forged.units.iter_mut().zip([marks % 4, marks / 4]) {
+                unit.figures[period as usize].mark = mark;
+            }
+            trial.forge(forged);
+            let made = trial.call(call, words(1), &mut random);
+            let (told, _) = made.unwrap_or_else(|fault| panic!("{fault}: {marks} {call:?}"));
+            refused += u64::from(told.refusal == 15);
+        }
+    }
+    // Against an own open order always, along it by two marks of four.
+    assert_eq!(refused, 2 * (16 + 16 + 8 + 8));
 }
 
 #[test]

@@ -53,7 +53,7 @@ fn with(call: &Call, book: &mut [u64], rows: &mut [u64], other: &[(usize, u64)])
 
 /// Words of figures: lowered and the mark of ways 3 and 4.
 const LOWERED: usize = 2;
-const WAY: usize = 4;
+const MARK: usize = 4;
 
 const WRONG: [(&str, &str, &Manner, Engine); 19] = [
     ("one kWh more in a row", "other rows", TIGHT, |call, book, rows| {
@@ -181,8 +181,8 @@ const WRONG: [(&str, &str, &Manner, Engine); 19] = [
     ("a mark out of range let through", "another refusal", DAY, |call, book, rows| {
         let units = book.get(UNIT_COUNT).map_or(0, |&units| units.min(64));
         let marks =
-            (0..units as usize).flat_map(|unit| (0..24).map(move |p| figures_at(unit, p) + WAY));
-        let wrong = marks.filter(|&at| book.len() > at && book[at] > 2);
+            (0..units as usize).flat_map(|unit| (0..24).map(move |p| figures_at(unit, p) + MARK));
+        let wrong = marks.filter(|&at| book.len() > at && book[at] > 3);
         let mended: Vec<(usize, u64)> = wrong.map(|at| (at, 0)).collect();
         with(call, book, rows, &mended)
     }),

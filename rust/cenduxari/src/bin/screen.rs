@@ -5,9 +5,8 @@ use cenduxari::{limits, share, Limits, Refusal};
 use std::env;
 use std::process::ExitCode;
 
-/// What ./cenduxari understands; the story and the curve are examples that it runs.
-const WORDS: &str =
-    "Ask by: story, curve FILE, share AMOUNT REMAINING.. or limits DAYS KIND CAPACITY ASSET PERIOD";
+/// What is understood here.
+const WORDS: &str = "Ask by: share AMOUNT REMAINING.. or limits DAYS KIND CAPACITY ASSET PERIOD";
 
 /// The paper's figures that these calls show.
 const FIGURES: [(&str, &[&str]); 3] = [
@@ -29,7 +28,7 @@ fn main() -> ExitCode {
     let words: Vec<&str> = words.iter().map(String::as_str).collect();
     let said = if words.is_empty() { figures() } else { answer(&words) };
     match said {
-        Ok(text) => println!("{text}"),
+        Ok(text) => print!("{text}"),
         Err(Failure::Refused(refusal)) => {
             println!("refusal {}: {refusal}", refusal.number());
             return ExitCode::from(1);
@@ -51,12 +50,12 @@ fn answer(words: &[&str]) -> Result<String, Failure> {
             let mut parts = vec![0; amounts.len()];
             share(*amount, amounts, &mut parts).map_err(Failure::Refused)?;
             let parts: Vec<String> = parts.iter().map(u64::to_string).collect();
-            Ok(parts.join(" "))
+            Ok(parts.join(" ") + "\n")
         }
         ("limits", &[days, kind, capacity, asset, period]) => {
             let Limits { hour, term, volume } =
                 limits(days, kind, capacity, asset, period).map_err(Failure::Refused)?;
-            Ok(format!("hour limit {hour}, term limit {term}, volume limit {volume}"))
+            Ok(format!("hour limit {hour}, term limit {term}, volume limit {volume}\n"))
         }
         _ => Err(Failure::NotUnderstood),
     }
@@ -69,8 +68,8 @@ fn figures() -> Result<String, Failure> {
         text += &format!("{figure}\n");
         for call in calls {
             let words: Vec<&str> = call.split(' ').collect();
-            text += &format!("  {call}: {}\n", answer(&words)?);
+            text += &format!("  {call}: {}", answer(&words)?);
         }
     }
-    Ok(text + WORDS)
+    Ok(text)
 }

@@ -100,7 +100,7 @@ pub fn sound(book: &Book) -> bool {
             || unit.capacity > 5_000_000
             || unit.asset > 4_000_000_000
             || unit.figures.len() as u64 != periods
-            || unit.figures.iter().any(|figures| ![0, 1, 2].contains(&figures.way))
+            || unit.figures.iter().any(|figures| ![0, 1, 2, 3].contains(&figures.mark))
         {
             return false;
         }

@@ -1,6 +1,6 @@
 -- From an outcome to the contract of a call: a law for the refused and one for the accepted.
 use Prim.Native.Nat.{ℕ, zero, suc, _+_, _*_, _≤_, _<_}
-use mathlib.Core.Path.{_≡_, refl, sym, ap, _∙_}
+use mathlib.Core.Path.{_≡_, refl, sym, ap, ap₂, _∙_}
 use mathlib.Core.Bool.{Bool, true, false, cond, not, _&&_}
 use mathlib.Core.List.{List, [], _∷_}
 use native.Mathlib.Omega.{arith}
@@ -85,6 +85,13 @@ made-refused m rows c r e n = record {
   past = refl;
   long = refl;
 }
+
+-- what is told fixes the answer
+pub told-fixes : (a b : Answer) → toldBy a ≡ toldBy b → a ≡ b
+told-fixes (Done n k) (Done n′ k′) e = ap₂ Done (ap (λ (t : Told). t .number) e) (ap (λ (t : Told). t .count) e)
+told-fixes (Done n k) (Refused r) e = both-ways (ap (λ (t : Told). t .done) e)
+told-fixes (Refused r) (Done n k) e = both-ways (sym (ap (λ (t : Told). t .done) e))
+told-fixes (Refused r) (Refused r′) e = ap Refused (ap (λ (t : Told). t .refusal) e)
 
 -- the contract of an accepted call
 pub made-accepted : (m rows : List ℕ) (c : Call) (n : ℕ) (rs : List Row) (b : Book) (k : ℕ) (m′ rows′ : List ℕ) → outcomeOn m c ≡ accepted n rs b

@@ -19,6 +19,7 @@ use Rattle.book.specs.Layout.{word, figuresAt, unitAt, offerAt, ordersPa
 use Rattle.book.specs.inner.Readable.{Readable, Netted}
 use Rattle.book.specs.Contract.{soundIn}
 use Rattle.book.specs.inner.Closing.{AllNetted, DayOver, Netting, DaysOver}
+use Rattle.book.proofs.laws.memory.WordLaws.{book-same}
 use Rattle.book.proofs.laws.curve.CurveLaws.{sound-netted}
 use Rattle.book.proofs.laws.close.ClosingLaws.{figures-same}
 
@@ -83,13 +84,6 @@ module _ (m x : List ℕ) (q : ℕ) (r : Readable m) (d : DaysOver m x q) where
 -- a sound book's figures come to nets
 pub sound-netting : (m : List ℕ) → soundIn m ≡ true → Netting m
 sound-netting m e = record { each = λ p l. record { held = λ k h. sound-netted m k e h .held p l; lowered = λ k h. sound-netted m k e h .lowered p l } }
-
--- two books are the same by their fields
-book-same : {d d′ f f′ c c′ p p′ g g′ : ℕ} {us us′ : List EnrolledUnit} {os os′ : List OpenOffer} {rs rs′ : List OpenOrder}
-    → d ≡ d′ → f ≡ f′ → c ≡ c′ → p ≡ p′ → g ≡ g′ → us ≡ us′ → os ≡ os′ → rs ≡ rs′
-    → _≡_ {A = Book} (record { rules = record { days = d; floor = f; ceiling = c }; phase = p; given = g; units = us; offers = os; orders = rs })
-    (record { rules = record { days = d′; floor = f′; ceiling = c′ }; phase = p′; given = g′; units = us′; offers = os′; orders = rs′ })
-book-same a b c d e f g h = rw (a, b, c, d, e, f, g, h)
 
 -- the four words of the head that the close sets
 module _ (m x : List ℕ) (r : Readable m) (d : DaysOver m x (24 * word m 0)) where
@@ -164,7 +158,7 @@ module _ (m x : List ℕ) (r : Readable m) (d : DaysOver m x (24 * word m 0)) wh
   pub closed-book : decode y ≡ dayClosed (decode m)
   unfolding decode ordersIn
   closed-book =
-      book-same w0
+      book-same _ _ w0
       (head 1 (omega arith) (omega arith) (omega arith) (omega arith) (omega arith))
       (head 2 (omega arith) (omega arith) (omega arith) (omega arith) (omega arith))
       w3 w4

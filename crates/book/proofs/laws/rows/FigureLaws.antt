@@ -14,6 +14,7 @@ use Rattle.book.specs.Book.{Figures, noFigures, EnrolledUnit, noUnit, Op
 use Rattle.book.specs.Layout.{word, figuresAt, unitAt, amountAt, offerAt, ordersPart, decode}
 use Rattle.book.specs.inner.Readable.{Readable}
 use Rattle.book.specs.inner.RowsIn.{SmallAt, Small, FiguresPut, Kept}
+use Rattle.book.proofs.laws.memory.WordLaws.{book-same}
 
 -- four stores one behind the other
 module _ (m : List ℕ) (a b c d r l v w : ℕ) (eb : b ≡ a + 1) (ec : c ≡ a + 2) (ed : d ≡ a + 3) (fits : d < length m) where
@@ -73,12 +74,6 @@ pub offer-same : {a b c d e a′ b′ c′ d′ e′ : ℕ} {f f′ : List ℕ} 
     → _≡_ {A = OpenOffer} (record { number = a; unit = b; partner = c; price = d; taken = e; amounts = f })
     (record { number = a′; unit = b′; partner = c′; price = d′; taken = e′; amounts = f′ })
 offer-same ha hb hc hd he hf = rw (ha, hb, hc, hd, he, hf)
-
-pub book-same : {a b c d e a′ b′ c′ d′ e′ : ℕ} {us us′ : List EnrolledUnit} {fs fs′ : List OpenOffer} {os os′ : List OpenOrder} → a ≡ a′ → b ≡ b′ → c ≡ c′ → d ≡ d′
-    → e ≡ e′ → us ≡ us′ → fs ≡ fs′ → os ≡ os′
-    → _≡_ {A = Book} (record { rules = record { days = a; floor = b; ceiling = c }; phase = d; given = e; units = us; offers = fs; orders = os })
-    (record { rules = record { days = a′; floor = b′; ceiling = c′ }; phase = d′; given = e′; units = us′; offers = fs′; orders = os′ })
-book-same ha hb hc hd he hu hf ho = rw (ha, hb, hc, hd, he, hu, hf, ho)
 
 -- the orders' part, where none of its words changed
 pub orders-part-same : (m x : List ℕ) → length x ≡ length m → ((i : ℕ) → 240 ≤ i → i < 1776 → word x i ≡ word m i) → ordersPart x ≡ ordersPart m
@@ -174,7 +169,7 @@ module _ (m x : List ℕ) (k p r l v w : ℕ) (f : FiguresPut m x k p r l v w) (
       let e5 = f .before 5 (omega arith) in
       let e6 = f .before 6 (omega arith) in
       let e7 = f .before 7 (omega arith) in
-      book-same e0 (f .before 1 (omega arith)) (f .before 2 (omega arith)) (f .before 3 (omega arith)) (f .before 4 (omega arith))
+      book-same _ _ e0 (f .before 1 (omega arith)) (f .before 2 (omega arith)) (f .before 3 (omega arith)) (f .before 4 (omega arith))
       (rw (e0, e5) (table-set (word m 5) (unitAt m (word m 0)) (unitAt x (word m 0)) k _ noUnit hu (unit-own (word m 0) hp)
       (λ j hj n. unit-other (word m 0) j (omega arith) n)))
       (rw (e0, e6) (table-ext (word m 6) (offerAt x (word m 0)) (offerAt m (word m 0)) (λ j hj. offer-other (word m 0) j (omega arith))))

@@ -14,7 +14,8 @@ use Rattle.book.specs.Take.{lessEach, offerLess}
 use Rattle.book.specs.Layout.{word, figuresAt, unitAt, amountAt, offerAt, decode}
 use Rattle.book.specs.inner.Readable.{Readable}
 use Rattle.book.specs.inner.RowsIn.{AmountsLess, OfferLessened}
-use Rattle.book.proofs.laws.rows.FigureLaws.{figures-same, unit-same, offer-same, book-same, orders-part-same}
+use Rattle.book.proofs.laws.memory.WordLaws.{book-same}
+use Rattle.book.proofs.laws.rows.FigureLaws.{figures-same, unit-same, offer-same, orders-part-same}
 
 each-length : (l ps : List ℕ) → length (lessEach l ps) ≡ length l
 unfolding lessEach
@@ -104,7 +105,7 @@ module _ (m x : List ℕ) (j : ℕ) (l ps : List ℕ) (g : Readable m) (hj : j <
       let long : length (set x (204 + 5 * j) 1) ≡ length m = simp length-set (a .long) in
       record {
         book =
-            book-same e0 (low 1 (omega arith) (λ z. absurd (omega arith))) (low 2 (omega arith) (λ z. absurd (omega arith)))
+            book-same _ _ e0 (low 1 (omega arith) (λ z. absurd (omega arith))) (low 2 (omega arith) (λ z. absurd (omega arith)))
             (low 3 (omega arith) (λ z. absurd (omega arith))) (low 4 (omega arith) (λ z. absurd (omega arith)))
             (rw (e0, e5) (table-ext (word m 5) (unitAt (set x (204 + 5 * j) 1) (word m 0)) (unitAt m (word m 0))
             (λ k hk. unit-kept (word m 0) k (omega arith))))

@@ -5,7 +5,7 @@ use mathlib.Core.Bool.{true}
 use mathlib.Core.List.{List, [], _∷_}
 use native.Mathlib.Omega.{arith}
 use native.Mathlib.Decide.{ℕ-discrete}
-use Rattle.book.specs.Book.{rulesOf, Book, callPhase, rollingPhase}
+use Rattle.book.specs.Book.{Rules, Book, callPhase, rollingPhase}
 use Rattle.book.specs.Sound.{sound}
 use Rattle.book.specs.Opening.{fresh, openingRefusal}
 use Rattle.book.specs.Refusals.{firstOf, unsound}
@@ -39,7 +39,7 @@ was-sound b (callCancel unit number) z = first-passed b _ (not-refused (cancelRe
 was-sound b (callClear lent) z = first-passed b _ (not-refused (clearRefusal b lent) b _ z)
 was-sound b callClose z = first-passed b [] (not-refused (firstOf (unsound b ∷ [])) b _ z)
 
--- two laws are still to come: order in the rolling phase, and clear
+-- from the laws of an order in the rolling phase and of a clear
 module _
     (rolling : (b : Book) (u d p price q lent : ℕ) → b .phase ≡ rollingPhase → sound b ≡ true → sound (ordering b u d p price q lent .book) ≡ true)
     (cleared : (b : Book) (lent : ℕ) → sound b ≡ true → sound (clearing b lent .book) ≡ true)
@@ -65,6 +65,6 @@ module _
     calls-sound b [] e = e
     calls-sound b (c ∷ cs) e = calls-sound (outcome b c .book) cs (outcome-sound b c e)
 
-    pub every-book-sound : (words days floor ceiling : ℕ) (cs : List Call) → openingRefusal words (rulesOf days floor ceiling) ≡ 0
-        → sound (bookAfter (fresh (rulesOf days floor ceiling)) cs) ≡ true
-    every-book-sound words days floor ceiling cs z = calls-sound (fresh (rulesOf days floor ceiling)) cs (fresh-sound words days floor ceiling z)
+    pub every-book-sound : (words : ℕ) (r : Rules) (cs : List Call) → openingRefusal words r ≡ 0
+        → sound (bookAfter (fresh r) cs) ≡ true
+    every-book-sound words r cs z = calls-sound (fresh r) cs (fresh-sound words r z)

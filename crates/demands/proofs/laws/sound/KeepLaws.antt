@@ -15,7 +15,7 @@ use Rattle.measures.proofs.RangeLaws.{In, within}
 use Rattle.measures.proofs.ListLaws.{and-left, and-right}
 use Rattle.limits.specs.Units.{mostDays, mostCapacity, daysIn, periods, capacityIn, assetIn}
 use Rattle.matching.specs.Orders.{Order as OpenOrder, rising}
-use Rattle.book.specs.Book.{rulesOf, Figures, noFigures, EnrolledUnit, noUnit, OpenOffer, Book, mostUnits, unitOf, figuresOf, withOffers, withOrders, noTrades}
+use Rattle.book.specs.Book.{Rules, Figures, noFigures, EnrolledUnit, noUnit, OpenOffer, Book, mostUnits, unitOf, figuresOf, withOffers, withOrders, noTrades}
 use Rattle.book.specs.Fit.{openOrders, openOffers, openRaising, openLowering, nothing}
 use Rattle.book.specs.Sound.{pricesIn, apart, eachTwo, sound}
 use Rattle.book.specs.Refusals.{firstOf, accepted, unsound, badOpening, badKind, badSize, unitsFull}
@@ -32,18 +32,18 @@ use Rattle.book.proofs.laws.sound.FormedLaws.{LessOffer, LessOrder, same-offer,
 use Rattle.book.proofs.laws.sound.OpenLaws.{moved-remaining, idle-fits}
 
 -- a book that opening makes
-pub fresh-sound : (words days floor ceiling : ℕ) → openingRefusal words (rulesOf days floor ceiling) ≡ 0 → sound (fresh (rulesOf days floor ceiling)) ≡ true
+pub fresh-sound : (words : ℕ) (r : Rules) → openingRefusal words r ≡ 0 → sound (fresh r) ≡ true
 unfolding openingRefusal rising eachTwo
-fresh-sound words days floor ceiling e =
-    let t = not-false _ (none-applies (tooShort words days ∷ badOpening days floor ceiling ∷ []) (omega arith) e .1 .0) in
-    let d = within 1 mostDays days (and-left (daysIn days) (pricesIn floor ceiling) t) in
-    let p = and-right (daysIn days) (pricesIn floor ceiling) t in
-    sound-holds (fresh (rulesOf days floor ceiling)) (record {
+fresh-sound words r e =
+    let t = not-false _ (none-applies (tooShort words r ∷ badOpening r ∷ []) (omega arith) e .1 .0) in
+    let d = within 1 mostDays (r .days) (and-left (daysIn (r .days)) (pricesIn (r .floor) (r .ceiling)) t) in
+    let p = and-right (daysIn (r .days)) (pricesIn (r .floor) (r .ceiling)) t in
+    sound-holds (fresh r) (record {
       formed = record {
         head = record {
           days = d;
-          prices = leb-true _ _ (and-left (leb floor ceiling) (leb ceiling mostPrice) p);
-          ceiling = leb-true _ _ (and-right (leb floor ceiling) (leb ceiling mostPrice) p);
+          prices = leb-true _ _ (and-left (leb (r .floor) (r .ceiling)) (leb (r .ceiling) mostPrice) p);
+          ceiling = leb-true _ _ (and-right (leb (r .floor) (r .ceiling)) (leb (r .ceiling) mostPrice) p);
           phase = omega arith;
           given = omega arith;
           units = omega arith;

@@ -6,7 +6,7 @@ use mathlib.Core.List.{List, [], _∷_}
 use native.Mathlib.Omega.{arith}
 use lib.Dec.{eqb}
 use Rattle.measures.proofs.ListLaws.{cond-case}
-use Rattle.book.specs.Book.{rulesOf, Book, callPhase, rollingPhase}
+use Rattle.book.specs.Book.{Rules, Book, callPhase, rollingPhase}
 use Rattle.book.specs.Sound.{sound}
 use Rattle.book.specs.Refusals.{Outcome, firstOf, decided, unsound}
 use Rattle.book.specs.Opening.{fresh, openingRefusal}
@@ -29,8 +29,8 @@ rolling b u d p price q lent r e = ordering-in-rolling-sound b u d p price q len
 pub sound-after : (b : Book) (c : Call) → sound b ≡ true → outcome b c .refusal ≡ 0 → sound (outcome b c .book) ≡ true
 sound-after b c e z = outcome-sound rolling clearing-sound b c e
 
-pub sound-over-every-list : (words days floor ceiling : ℕ) (cs : List Call) → openingRefusal words (rulesOf days floor ceiling) ≡ 0
-    → sound (bookAfter (fresh (rulesOf days floor ceiling)) cs) ≡ true
+pub sound-over-every-list : (words : ℕ) (r : Rules) (cs : List Call) → openingRefusal words r ≡ 0
+    → sound (bookAfter (fresh r) cs) ≡ true
 sound-over-every-list = every-book-sound rolling clearing-sound
 
 -- "with 0 as its number and as its row count; book and lent memory then stand as before"

@@ -12,7 +12,7 @@ use Rattle.measures.proofs.RangeLaws.{In, within}
 use Rattle.limits.specs.Units.{periods, generator}
 use Rattle.matching.specs.Orders.{Row}
 use Rattle.matching.proofs.laws.lists.EachLaws.{Each}
-use Rattle.book.specs.Book.{rulesOf, Figures, EnrolledUnit, noUnit, OpenOffer, Book, unitOf, figuresOf}
+use Rattle.book.specs.Book.{Rules, Figures, EnrolledUnit, noUnit, OpenOffer, Book, unitOf, figuresOf}
 use Rattle.book.specs.Opening.{fresh}
 use Rattle.demands.specs.Tally.{Member, Amounts, Tally, opened}
 use Rattle.demands.specs.Demand3.{memberOf, isMember}
@@ -57,8 +57,8 @@ pub record Agree (t : Tally) (b : Book) : Type 0 where
   pub parties : Each (Parties (length (b .units))) (t .rows)
   pub figures : AllFigured (t .rows) b
 
-pub agree-start : (days floor ceiling : ℕ) → Agree (opened days) (fresh (rulesOf days floor ceiling))
-agree-start days floor ceiling =
+pub agree-start : (r : Rules) → Agree (opened r) (fresh r)
+agree-start r =
     record { days = refl; units = refl; offers = refl; orders = refl; parties = tt; figures = λ u p h l. absurd (omega arith) }
 
 module _ (t : Tally) (b : Book) (a : Agree t b) where

@@ -28,6 +28,7 @@ use Rattle.demands.specs.Demand3.{
   netOf,
   volumeOf,
   Part,
+  ordersPart,
   raisingPart,
   loweringPart,
   netsOf,
@@ -102,20 +103,19 @@ module _ (t : Tally) (b : Book) (a : Agree t b) (w : Standing b) where
   -- a part of what is open is at most what is open
   module _ (x : Part t) (u p : ℕ) where
     orders-bound : (side : ℕ → ℕ → Bool)
-        → sumOf (λ (o : OpenOrder). cond (eqb (o .unit) u && eqb (o .period) p && side (memberOf t u .kind) (o .direction)) (x .part (o .number) p) 0)
-        (t .orders)
+        → ordersPart (x .ofOrder) (side (memberOf t u .kind)) u p (t .orders)
         ≤ sumOf (λ (o : OpenOrder). cond (eqb (o .unit) u && eqb (o .period) p && side (unitOf b u .kind) (o .direction)) (o .quantity) 0) (b .orders)
     orders-bound side =
         let k : memberOf t u .kind ≡ unitOf b u .kind = ap (λ (m : Member). m .kind) (member-of t b a u) in
-        rw (← k, ← a .orders) (orders-part (x .part) u p (side (memberOf t u .kind)) (t .orders) (x .ofOrders))
+        rw (← k, ← a .orders) (orders-part u p (side (memberOf t u .kind)) (x .ofOrder) (t .orders) (x .orders))
 
     raising-part : raisingPart t x u p ≤ openRaising b u p
     unfolding raisingPart openRaising openOffers openOrders
     raising-part =
-        let f = offers-part (x .part) u p (t .offers) (x .ofOffers) in
-        let e : sumOf (left (x .part) u p) (keep remains (t .offers))
+        let f = offers-part u p (x .ofOffer) (t .offers) (x .offers) in
+        let e : sumOf (left u p) (keep remains (t .offers))
         ≡ sumOf (λ (o : OpenOffer). cond (eqb (o .unit) u) (getD (o .amounts) p 0) 0) (b .offers) =
-        ap (sumOf (left (x .part) u p)) (a .offers) ∙ sumOf-map (left (x .part) u p) amountsOf (b .offers) in
+        ap (sumOf (left u p)) (a .offers) ∙ sumOf-map (left u p) amountsOf (b .offers) in
         let g = orders-bound raises in
         omega arith
 

@@ -20,7 +20,8 @@ use Rattle.book.specs.Take.{takeRefusal, takeRowsFrom, takeRows, lessEach, offe
 use Rattle.book.specs.Order.{orderRefusal, waiting, ordering}
 use Rattle.book.specs.Clear.{clearRefusal, clearFrom, clearing}
 use Rattle.book.specs.Close.{closing}
-use Rattle.book.specs.Calls.{answers}
+use Rattle.book.specs.Curve.{curveRefusal, pointsFrom, curve}
+use Rattle.book.specs.Calls.{answers, bookAfter}
 use Rattle.demands.specs.Figures.{Figure5, Figure6, Figure7, Figure8, Transcript, figures, Hold}
 
 figure5-calls : Figure5
@@ -40,6 +41,9 @@ unfolding holds sum all unitFits hourLimit termLimit volumeLimit openOrders open
 figure7-calls = refl
 
 figure8-holds : Figure8
+unfolding holds sum all unitFits hourLimit termLimit volumeLimit openOrders openOffers openRaising openLowering hourFits hoursFit termFits volumeFits headIn
+    unitIn offerIn orderIn rising numbersDiffer eachTwo sound firstOf enrolRefusal enrolment bookAfter parts traded booked rowsBooked offerRefusal offering
+    takeRefusal takeRowsFrom takeRows lessEach offersLess taking curveRefusal pointsFrom curve
 figure8-holds = refl
 
 -- figures 1 to 8

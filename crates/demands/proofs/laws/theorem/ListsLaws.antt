@@ -3,7 +3,7 @@ use mathlib.Core.Path.{_≡_, ap}
 use mathlib.Core.Bool.{true}
 use mathlib.Core.List.{List, [], _∷_}
 use native.Mathlib.Decide.{ℕ-discrete}
-use Rattle.book.specs.Book.{rulesOf, Book}
+use Rattle.book.specs.Book.{Rules, Book}
 use Rattle.book.specs.Sound.{sound}
 use Rattle.book.specs.Refusals.{Outcome}
 use Rattle.book.specs.Opening.{fresh}
@@ -52,6 +52,4 @@ demand-after (c ∷ cs) t b k = demand-after cs (tallied t c (answered (outcome 
 
 -- demand 3
 pub over-every-list : OverEveryList
-over-every-list words days floor ceiling cs e =
-    demand-after cs (opened days) (fresh (rulesOf days floor ceiling))
-    (record { agree = agree-start days floor ceiling; sound = fresh-sound words days floor ceiling e })
+over-every-list words r cs e = demand-after cs (opened r) (fresh r) (record { agree = agree-start r; sound = fresh-sound words r e })

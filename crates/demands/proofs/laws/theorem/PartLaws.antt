@@ -8,13 +8,14 @@ use borrow.Author.Tests.{eqb-true, eq-eqb, ne-eqb, not-false}
 use lib.ListN.{getD}
 use lib.Dec.{eqb}
 use Rattle.measures.specs.Lists.{keep, sumOf, sum}
-use Rattle.measures.specs.Lists.{Each as EachOf}
 use Rattle.measures.specs.Sharing.{total}
 use Rattle.measures.proofs.RangeLaws.{In}
 use Rattle.measures.proofs.ListLaws.{cond-case, sum-add, sum-change}
 use Rattle.matching.specs.Orders.{Order as OpenOrder, Row}
+use Rattle.matching.specs.Memory.{noOrder}
 use Rattle.matching.proofs.laws.lists.EachLaws.{Each}
-use Rattle.demands.specs.Tally.{Amounts}
+use Rattle.demands.specs.Tally.{Amounts, noAmounts}
+use Rattle.demands.specs.Demand3.{offersPart, ordersPart}
 use Rattle.demands.proofs.laws.tally.AgreeLaws.{remains}
 
 -- no amount is over the total
@@ -24,58 +25,53 @@ at-most-total (x ∷ l) zero = omega arith
 at-most-total (x ∷ l) (suc p) = let h = at-most-total l p in omega arith
 
 -- a part of each offer's amount, over all offers, against those of which something is left
-module _ (part : ℕ → ℕ → ℕ) (u p : ℕ) where
-  abbrev pub offered : Amounts → ℕ
-  offered a = cond (eqb (a .unit) u) (part (a .number) p) 0
-
+module _ (u p : ℕ) where
   abbrev pub left : Amounts → ℕ
   left a = cond (eqb (a .unit) u) (getD (a .amounts) p 0) 0
 
-  part-left : (a : Amounts) → part (a .number) p ≤ getD (a .amounts) p 0 → offered a ≤ left a
-  part-left a h = go (eqb (a .unit) u)
+  part-left : (a : Amounts) (x : ℕ) → x ≤ getD (a .amounts) p 0 → cond (eqb (a .unit) u) x 0 ≤ left a
+  part-left a x h = go (eqb (a .unit) u)
     where
-      go : (c : Bool) → cond c (part (a .number) p) 0 ≤ cond c (getD (a .amounts) p 0) 0
+      go : (c : Bool) → cond c x 0 ≤ cond c (getD (a .amounts) p 0) 0
       go true = h
       go false = omega arith
 
-  part-gone : (a : Amounts) → part (a .number) p ≤ getD (a .amounts) p 0 → remains a ≡ false → offered a ≡ 0
-  part-gone a h e = go (eqb (a .unit) u)
+  part-gone : (a : Amounts) (x : ℕ) → x ≤ getD (a .amounts) p 0 → remains a ≡ false → cond (eqb (a .unit) u) x 0 ≡ 0
+  part-gone a x h e = go (eqb (a .unit) u)
     where
       none : total (a .amounts) ≡ 0
       none = eqb-true (total (a .amounts)) 0 (not-false (eqb (total (a .amounts)) 0) e)
 
-      go : (c : Bool) → cond c (part (a .number) p) 0 ≡ 0
+      go : (c : Bool) → cond c x 0 ≡ 0
       go true = omega (arith, at-most-total (a .amounts) p, none)
       go false = refl
 
-  pub offers-part : (os : List Amounts) → EachOf (λ (a : Amounts). (p : ℕ) → part (a .number) p ≤ getD (a .amounts) p 0) os → sumOf offered os
+  pub offers-part : (f : ℕ → ℕ → ℕ) (os : List Amounts) → ((j q : ℕ) → f j q ≤ getD (getD os j noAmounts .amounts) q 0) → offersPart f u p os
       ≤ sumOf left (keep remains os)
-  offers-part [] h = omega arith
-  offers-part (a ∷ os) h =
-      let ih = offers-part os (h .1) in
-      let l = part-left a (h .0 p) in
-      cond-case (λ (l : List Amounts). offered a + sumOf offered os ≤ sumOf left l) (remains a) _ _ (λ e. omega arith)
-      (λ e. omega (arith, part-gone a (h .0 p) e))
+  unfolding offersPart
+  offers-part f [] h = omega arith
+  offers-part f (a ∷ os) h =
+      let ih = offers-part (λ j. f (suc j)) os (λ j. h (suc j)) in
+      let l = part-left a (f 0 p) (h 0 p) in
+      cond-case (λ (l : List Amounts). cond (eqb (a .unit) u) (f 0 p) 0 + offersPart (λ j. f (suc j)) u p os ≤ sumOf left l) (remains a) _ _
+      (λ e. omega arith)
+      (λ e. omega (arith, part-gone a (f 0 p) (h 0 p) e))
 
   -- and of each order's in a period
   module _ (side : ℕ → Bool) where
-    pub orders-part : (os : List OpenOrder) → EachOf (λ (o : OpenOrder). part (o .number) (o .period) ≤ o .quantity) os
-        → sumOf (λ (o : OpenOrder). cond (eqb (o .unit) u && eqb (o .period) p && side (o .direction)) (part (o .number) p) 0) os
+    pub orders-part : (g : ℕ → ℕ) (os : List OpenOrder) → ((i : ℕ) → g i ≤ getD os i noOrder .quantity)
+        → ordersPart g side u p os
         ≤ sumOf (λ (o : OpenOrder). cond (eqb (o .unit) u && eqb (o .period) p && side (o .direction)) (o .quantity) 0) os
-    orders-part [] h = omega arith
-    orders-part (o ∷ os) h =
-        let ih = orders-part os (h .1) in
-        let l = go (eqb (o .unit) u) (eqb (o .period) p) (side (o .direction)) refl in
+    unfolding ordersPart
+    orders-part g [] h = omega arith
+    orders-part g (o ∷ os) h =
+        let ih = orders-part (λ i. g (suc i)) os (λ i. h (suc i)) in
+        let l = go (eqb (o .unit) u && eqb (o .period) p && side (o .direction)) in
         omega arith
       where
-        at : eqb (o .period) p ≡ true → part (o .number) p ≤ o .quantity
-        at e = rw (eqb-true (o .period) p e) at (h .0)
-
-        go : (x y z : Bool) → eqb (o .period) p ≡ y → cond (x && y && z) (part (o .number) p) 0 ≤ cond (x && y && z) (o .quantity) 0
-        go true true true e = at e
-        go true true false e = omega arith
-        go true false z e = omega arith
-        go false y z e = omega arith
+        go : (c : Bool) → cond c (g 0) 0 ≤ cond c (o .quantity) 0
+        go true = h 0
+        go false = omega arith
 
 sum-zero : (n : ℕ) (f : ℕ → ℕ) → ((k : ℕ) → k < n → f k ≡ 0) → sum n f ≡ 0
 unfolding sum

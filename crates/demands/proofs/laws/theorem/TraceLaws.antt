@@ -14,7 +14,7 @@ use Rattle.matching.specs.Orders.{Row}
 use Rattle.matching.specs.Memory.{written}
 use Rattle.book.specs.declared.Answer.{Answer}
 use Rattle.book.specs.declared.Answer.the-variants.{Done, Refused}
-use Rattle.book.specs.Book.{rulesOf, Book}
+use Rattle.book.specs.Book.{Rules, Book}
 use Rattle.book.specs.Sound.{sound}
 use Rattle.book.specs.Refusals.{Outcome, firstOf}
 use Rattle.book.specs.Opening.{bookWords, fresh, openingRefusal}
@@ -38,7 +38,7 @@ use Rattle.demands.proofs.laws.sound.KeepLaws.{fresh-sound}
 use Rattle.demands.proofs.laws.theorem.ListsLaws.{InStep, in-step-after}
 
 -- the tally's days stay
-tallied-days : (t : Tally) (c : Call) (a : Heard) → tallied t c a .days ≡ t .rules .days
+tallied-days : (t : Tally) (c : Call) (a : Heard) → tallied t c a .rules .days ≡ t .rules .days
 unfolding accounted
 tallied-days t c a = go (eqb (a .refusal) 0) c
   where
@@ -159,7 +159,7 @@ module _ (t : Tally) (x : List ℕ) (h : Holding t x) where
   sound-x = and-true (enough x) (sound (decode x)) (h .long) (h .step .sound)
 
   pub claimed : Claimed t x
-  claimed = record { book = d; curves = λ u day pts a pts′ e l k c. at u day pts a pts′ e l k c }
+  claimed = record { sound = sound-x; book = d; curves = λ u day pts a pts′ e l k c. at u day pts a pts′ e l k c }
     where
       d : Demand3 t (decode x)
       d = demand-from t (decode x) (h .step .agree) (h .step .sound)
@@ -188,20 +188,20 @@ module _ (t : Tally) (x : List ℕ) (h : Holding t x) where
 
 -- demand 3
 pub over-every-trace : OverEveryTrace
-over-every-trace m₀ days floor ceiling a m x op z tr = claimed (tallyOf (opened days) tr) x (holding-all (opened days) tr start)
+over-every-trace m₀ rules a m x op z tr = claimed (tallyOf (opened rules) tr) x (holding-all (opened rules) tr start)
   where
-    r : openingRefusal (length m₀) (rulesOf days floor ceiling) ≡ 0
+    r : openingRefusal (length m₀) rules ≡ 0
     r = sym (ap (λ (y : Told). y .refusal) (op .answer)) ∙ z
 
-    b : decode m ≡ fresh (rulesOf days floor ceiling)
+    b : decode m ≡ fresh rules
     b = op .accepted r
 
-    d : word m 0 ≡ days
+    d : word m 0 ≡ rules .days
     d = sym (days-in m) ∙ ap (λ (y : Book). y .rules .days) b
 
-    start : Holding (opened days) m
+    start : Holding (opened rules) m
     start =
         record {
-          long = le-leb (bookWords (word m 0)) (length m) (let l = op .long in let w = opening-long (length m₀) days floor ceiling r in omega (arith, d));
-          step = rw b (record { agree = agree-start days floor ceiling; sound = fresh-sound (length m₀) days floor ceiling r });
+          long = le-leb (bookWords (word m 0)) (length m) (let l = op .long in let w = opening-long (length m₀) (rules .days) (rules .floor) (rules .ceiling) r in omega (arith, d));
+          step = rw b (record { agree = agree-start rules; sound = fresh-sound (length m₀) rules r });
         }

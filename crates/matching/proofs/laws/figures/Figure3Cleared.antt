@@ -18,7 +18,7 @@ module _ (m rows : List ℕ) (n period : ℕ)
     (bid : marginal (clearedVolume (bids period (ordersIn m n)) (asks period (ordersIn m n))) (bids period (ordersIn m n)) ≡ 481)
     (ask : marginal (clearedVolume (bids period (ordersIn m n)) (asks period (ordersIn m n))) (asks period (ordersIn m n)) ≡ 470) where
   price : priceOf period (ordersIn m n) ≡ 476
-  price = ap₂ clearingPrice bid ask ∙ figure3-holds
+  price = ap₂ clearingPrice bid ask ∙ figure3-holds .0
 
   pub figure3-cleared : (a : Matched) (m′ rows′ : List ℕ) → fit m n rows ≡ true → Clears m rows n period a m′ rows′
       → (rows′ ≡ written rows (clearPeriod period (ordersIn m n) .rows)) × Each (λ r. r .price ≡ 476) (clearPeriod period (ordersIn m n) .rows)

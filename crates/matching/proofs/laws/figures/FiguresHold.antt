@@ -24,7 +24,9 @@ unfolding parts lessen bidAhead askAhead insert laid tradedAt largest clearedVol
 figure2-holds = (refl, refl)
 
 pub figure3-holds : Figure3
-figure3-holds = refl
+unfolding parts lessen bidAhead askAhead insert laid tradedAt largest clearedVolume marginal filled fillsOf endToEnd rowsOfBid overlapRows afterFills
+    clearPeriod
+figure3-holds = (refl, refl)
 
 pub figure4-holds : Figure4
 unfolding lessen bidAhead askAhead insert laid candidate counterparts matches matchRow afterMatches meet
