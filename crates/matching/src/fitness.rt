@@ -31,7 +31,7 @@ fn rise(orders: &[u64], n: usize) -> bool
 pub fn numbers_rise(orders: &[u64], n: usize) -> bool
     ensures { λ r. ⌜ r ≡ numbersRise (now (orders .entry)) n ⌝ }
 {
-    if n > Order::MOST as usize {
+    if Order::MOST < n as u64 {
         return false;
     }
     if orders.len() < 6 * n {

@@ -1,22 +1,16 @@
 -- Orders that do not cross or go one way, and rows between two units.
 use Prim.Native.Nat.{ℕ, _-_, _<_}
-use mathlib.Core.Path.{_≡_, refl, ap, _∙_}
-use mathlib.Core.Bool.{Bool, true, false, cond, not, _&&_}
-use mathlib.Core.List.{List, [], _∷_, _++_}
-use native.Mathlib.Omega.{arith}
-use lib.Dec.{eqb, leb, ltb}
-use borrow.Author.Tests.{lt-ltb, eq-eqb, eqb-true, leb-false}
+use mathlib.Core.Path.{_≡_, refl, ap}
+use mathlib.Core.Bool.{Bool, true, false, not, _&&_}
+use mathlib.Core.List.{List}
+use lib.Dec.{eqb, ltb}
+use borrow.Author.Tests.{lt-ltb, eq-eqb, eqb-true}
 use Rattle.measures.specs.Lists.{Each, every}
 use Rattle.measures.proofs.RangeLaws.{In}
 use Rattle.measures.proofs.ListLaws.{or-left, or-right, or-other, and-true, and-left, and-right, not-fails}
-use Rattle.matching.specs.Orders.{Order as OpenOrder, Row, sells, buys, leaving, less, lessen}
-use Rattle.matching.specs.Clearing.{Fill, clearPeriod, afterFills}
-use Rattle.matching.specs.Rolling.{counterparts, matches, meet}
-use Rattle.matching.proofs.laws.clearing.PeriodLaws.{bidFillsOf, askFillsOf, cleared-orders}
-use Rattle.matching.proofs.laws.rolling.MetLaws.{fillsOf, matches-fill}
+use Rattle.matching.specs.Orders.{Order as OpenOrder, Row, sells, buys}
 use Rattle.book.specs.Sound.{oneDirection, apart, eachTwo}
-use Rattle.book.proofs.laws.sound.RemainLaws.{each-of, each-imp, Remains, ended, gone, kept, remains-all}
-use Rattle.book.proofs.laws.sound.FormedLaws.{LessOrder, same-order}
+use Rattle.matching.proofs.laws.lists.RemainLaws.{each-of, each-imp}
 use Rattle.book.proofs.laws.rows.TradeLaws.{Named}
 
 -- a buy and a sale of one period that do not cross

@@ -23,7 +23,7 @@ use Rattle.matching.specs.Answers.{fit, answerOf, Clears, fitBelow, Clea
 use Rattle.matching.proofs.laws.lists.EachLaws.{each-map, keep-nothing}
 use Rattle.matching.proofs.laws.orders.OrderLaws.{orders-at, orders-length}
 use Rattle.matching.proofs.laws.orders.RowLaws.{flat-length, flat-append, written-none}
-use Rattle.matching.proofs.laws.orders.FitLaws.{is-fit, below-gives}
+use Rattle.matching.proofs.laws.orders.FitLaws.{is-fit, below-is, below-gives}
 use Rattle.matching.proofs.laws.clearing.PeriodLaws.{isBid, isAsk}
 use Rattle.matching.proofs.laws.clearing.RestLaws.{numbers-rise-after}
 use Rattle.matching.specs.inner.Periods.{Clearable, Stepped, PassedAll}
@@ -291,3 +291,33 @@ module _ (m rows : List ℕ) (n end : ℕ) where
         handed = λ f. g .handed;
         past = g .past;
       }
+
+  pub clearable-fits : Clearable m rows n n → end ≤ 744 → fitBelow m n end rows ≡ true
+  clearable-fits c l =
+      let r = c .lent in
+      let f : fit m n rows ≡ true = is-fit m rows n (c .few) (c .inside) (omega arith) (c .rises) ∙ le-leb (quantities (ordersIn m n)) mostEnergy (c .small) in
+      below-is m rows n end f (omega arith) ∙ le-leb end 744 l
+
+  -- what the contract leaves where they fit
+  pub all-gives : (a : Matched) (count n′ : ℕ) (m′ rows′ : List ℕ) → fitBelow m n end rows ≡ true → ClearsAll m rows n end a m′ rows′
+      → answerOf a .count ≡ count → answerOf a .standing ≡ n′ → PassedAll m rows n end count n′ m′ rows′
+  all-gives a count n′ m′ rows′ e c ec en =
+      record {
+        orders = rw en at (c .orders e);
+        counted = sym ec ∙ c .count e;
+        handed = c .handed e;
+        past = c .past;
+      }
+
+  pub all-fit : {X : Type 0} (a : Matched) (m′ rows′ : List ℕ) → fitBelow m n end rows ≡ true → ClearsAll m rows n end a m′ rows′
+      → answerOf a .fits ≡ false → X
+  all-fit a m′ rows′ e c f = both-ways (sym e ∙ sym (c .fits) ∙ f)
+
+  module _ (count n′ : ℕ) (m′ rows′ : List ℕ) (g : PassedAll m rows n end count n′ m′ rows′) where
+    pub passed-fewer : n′ ≤ n
+    passed-fewer =
+        let a : length (ordersIn m′ n′) ≡ length (clearFrom 0 end (ordersIn m n) .orders) = ap length (g .orders) in
+        omega (arith, from-fewer 0 end (ordersIn m n), orders-length m′ n′, orders-length m n)
+
+    pub passed-few : rising (numbers (ordersIn m n)) ≡ true → count ≤ n
+    passed-few e = omega (arith, all-rows-few end (ordersIn m n) e, g .counted, orders-length m n)

@@ -24,8 +24,8 @@ same-length-2 c = search needs
 returns-2 : tie.Need-returns-2
 returns-2 c =
     let c4 = c .before .before .before .before in
-    let c5 = c4 .before in
-    placed _ _ _ _ _ _ (sym (c5 .is-place .ensures) ∙ not-false _ (c4 .if1 .left)) (c .before .before .remove-at .ensures .0) (c .before .before .remove-at .ensures .1)
+    let u = c .before .before .remove-at .ensures in
+    placed _ _ _ _ _ _ (sym (c4 .before .is-place .ensures) ∙ not-false _ (c4 .if1 .left)) (u .0) (u .1)
 
 pub remove-spec : {M : Type 1} → statement M
 remove-spec =
