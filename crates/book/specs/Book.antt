@@ -1,13 +1,14 @@
 -- The book (paper 01, "Units of measure and the book"). How memory holds a book is a definition of its own.
 use Prim.Native.Nat.{ℕ, _+_, _-_}
 use mathlib.Core.Bool.{Bool}
-use mathlib.Core.List.{List, [], _∷_}
+use mathlib.Core.List.{List, []}
 use lib.ListN.{length, getD, replicate}
 use lib.Dec.{eqb, ltb}
 use Rattle.measures.specs.Ranges.{between}
 use Rattle.measures.specs.Lists.{keep}
 use Rattle.limits.specs.Units.{periods}
 use Rattle.matching.specs.Orders.{Order as OpenOrder}
+use Rattle.matching.specs.Memory.{noOrder}
 
 -- the figures of a unit in a period: held when the trading day began, raised and lowered by trades today, the volume
 -- over the term, and today's mark of ways 3 and 4 (0 none, 1 sold, 2 bought, 3 both)
@@ -43,9 +44,6 @@ pub record OpenOffer : Type 0 where
 
 abbrev pub noOffer : OpenOffer
 noOffer = record { number = 0; unit = 0; partner = 0; price = 0; taken = 0; amounts = [] }
-
-abbrev pub noOrder : OpenOrder
-noOrder = record { number = 0; unit = 0; direction = 0; period = 0; price = 0; quantity = 0 }
 
 -- the phases of a trading day
 abbrev pub callPhase : ℕ

@@ -1,5 +1,6 @@
 // Whether open orders may stand together: paper 01, "A book is sound if".
 use crate::standing::link_orders;
+use matching::periods::note_price;
 ghost use mathlib.Core.Path.{_≡_};
 ghost use mathlib.Core.Bool.{true, not};
 ghost use Prim.Native.Nat.{ℕ, _+_, _*_, _-_, _<_, _≤_};
@@ -9,7 +10,7 @@ ghost use Rattle.matching.specs.Memory.{orderAt};
 ghost use Rattle.book.specs.Sound.{oneDirection};
 ghost use Rattle.book.specs.Layout.{word, ordersPart, decode};
 ghost use Rattle.book.specs.inner.Readable.{Ranged, pairsFit};
-ghost use Rattle.book.specs.inner.Whole.{Chained, Alike, highWith, lowWith, Prices, crossless, Priced, pairsBefore, OrderStands};
+ghost use Rattle.book.specs.inner.Whole.{Chained, Alike, Prices, crossless, Priced, pairsBefore, OrderStands};
 
 // One more than the place of an order before the one at place k with its unit and period, or 0 where there is none: the
 // orders of the unit and those of the period are walked together, so that the shorter way ends it.
@@ -50,24 +51,6 @@ fn one_direction(book: &[u64], k: usize, own: &[u64], peers: &[u64]) -> bool
         return true;
     }
     book[240 + 6 * (t - 1) + 2] == book[240 + 6 * k + 2]
-}
-
-// Enters the price of an order of period p: `high` has one more than the highest buy price of each period so far, `low` the
-// lowest sell price.
-pub(crate) fn note_price(direction: u64, p: usize, price: u64, high: &mut [u64], low: &mut [u64])
-    requires { ⌜ (p < 744) × (price ≤ 10000000) × (length (now high) ≡ 744) × (length (now low) ≡ 744) ⌝ }
-    ensures { λ _. ⌜ (now (high .exit) ≡ highWith direction p price (now (high .entry)))
-        × (now (low .exit) ≡ lowWith direction p price (now (low .entry))) ⌝ }
-{
-    if direction == 1 {
-        if high[p] <= price {
-            high[p] = price + 1;
-        }
-        return;
-    }
-    if price < low[p] {
-        low[p] = price;
-    }
 }
 
 // Whether the order at place k crosses one before it.

@@ -5,11 +5,12 @@ ghost use mathlib.Core.List.{List};
 ghost use Prim.Native.Nat.{ℕ, _+_, _*_, _-_, _<_, _≤_};
 ghost use lib.ListN.{length};
 ghost use Rattle.measures.specs.Ranges.{mostEnergy};
+ghost use Rattle.matching.specs.Memory.{rowAt};
 ghost use Rattle.book.specs.Book.{Book, unitOf};
 ghost use Rattle.book.specs.Trades.{raises, markWith, markAfter};
 ghost use Rattle.book.specs.Layout.{word, decode};
 ghost use Rattle.book.specs.inner.Readable.{Readable};
-ghost use Rattle.book.specs.inner.RowsIn.{rowAt, Small, SmallAt, FiguresPut, Traded, RowTraded, RowFits, RowsFit, smallFigures, RowsTraded};
+ghost use Rattle.book.specs.inner.RowsIn.{Small, SmallAt, FiguresPut, Traded, RowTraded, RowFits, RowsFit, smallFigures, RowsTraded};
 
 // Whether a trade in this direction (0 sold, 1 bought) raises the unit's net.
 pub(crate) fn raises_net(book: &[u64], unit: u64, direction: u64) -> bool

@@ -7,9 +7,8 @@ use lib.Dec.{eqb, leb}
 use Rattle.measures.specs.Lists.{keep, sumOf}
 use Rattle.limits.specs.Units.{periods}
 use Rattle.matching.specs.Orders.{Order as OpenOrder, Row, buys, less, orderWith}
-use Rattle.matching.specs.Clearing.{Cleared}
+use Rattle.matching.specs.Clearing.{Cleared, clearFrom}
 use Rattle.book.specs.Book.{Rules}
-use Rattle.book.specs.Clear.{clearFrom}
 use Rattle.book.specs.Calls.{Call, callEnrol, callOffer, callTake, callWithdraw, callOrder, callCancel, callClear, callClose, Answer}
 
 -- a unit with the fields given at its enrol

@@ -10,7 +10,7 @@ use Rattle.book.specs.Calls.{Answer as Heard}
 use Rattle.book.specs.Book.{Rules}
 use Rattle.book.specs.Contract.{Told, toldBy, soundIn, Made, Opened, Curved}
 use Rattle.book.specs.Layout.{decode}
-use Rattle.book.specs.inner.RowsIn.{rowsIn}
+use Rattle.matching.specs.Memory.{rowsIn}
 use Rattle.demands.specs.Tally.{Tally, opened, tallied}
 use Rattle.demands.specs.Demand3.{Demand3, isMember, netOf}
 

@@ -4,4 +4,5 @@ pub mod laying
 pub mod rolling
 pub mod clearing
 pub mod rows
+pub mod periods
 pub mod figures

@@ -1,5 +1,5 @@
--- Clearing one period (paper 01, "The eight calls", Clear).
-use Prim.Native.Nat.{ℕ, _+_, _-_, _/_, min, max}
+-- Clearing one period, and all (paper 01, "The eight calls", Clear).
+use Prim.Native.Nat.{ℕ, zero, suc, _+_, _-_, _/_, min, max}
 use mathlib.Core.Bool.{Bool, cond}
 use mathlib.Core.List.{List, [], _∷_, _++_, map}
 use lib.Dec.{eqb, leb, ltb}
@@ -111,3 +111,11 @@ clearPeriod period os =
       rows = overlapRows period (clearingPrice b s) (endToEnd 0 fb) (endToEnd 0 fa);
       orders = afterFills fa (afterFills fb os);
     })
+
+-- "each period, rising": the periods from p on, n of them: their rows one after the other, and the orders left
+unfoldable pub clearFrom : ℕ → ℕ → List Order → Cleared
+clearFrom p zero os = record { rows = []; orders = os }
+clearFrom p (suc n) os =
+    let c = clearPeriod p os in
+    let rest = clearFrom (suc p) n (c .orders) in
+    record { rows = c .rows ++ rest .rows; orders = rest .orders }

@@ -3,5 +3,6 @@ pub mod Memory
 pub mod Rolling
 pub mod Clearing
 pub mod Answers
+pub mod Prices
 pub mod Figures
 pub mod inner

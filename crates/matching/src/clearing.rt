@@ -95,7 +95,7 @@ fn trade(
 
 // Clears the orders of a period among the first n, which are fit for it: the rows, how many they are, and how many orders
 // then stand.
-pub fn clear_fit(orders: &mut [u64], n: usize, period: u64, rows: &mut [u64]) -> Matched
+pub(crate) fn clear_fit(orders: &mut [u64], n: usize, period: u64, rows: &mut [u64]) -> Matched
     requires { ⌜ fit (now orders) n (now rows) ≡ true ⌝ }
     ensures { λ r. ⌜ Clears (now (orders .entry)) (now (rows .entry)) n period r (now (orders .exit)) (now (rows .exit)) ⌝ }
 {

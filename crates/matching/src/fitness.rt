@@ -8,10 +8,10 @@ ghost use lib.Dec.{leb};
 ghost use Rattle.measures.specs.Ranges.{mostEnergy};
 ghost use Rattle.matching.specs.Orders.{rising, numbers, quantities};
 ghost use Rattle.matching.specs.Memory.{ordersIn};
-ghost use Rattle.matching.specs.Answers.{fit};
+ghost use Rattle.matching.specs.Answers.{numbersRise, fit, fitBelow};
 
 // Whether the numbers of the first n orders rise: each is above the one before it.
-pub fn numbers_rise(orders: &[u64], n: usize) -> bool
+fn rise(orders: &[u64], n: usize) -> bool
     requires { ⌜ (6 * n ≤ length (now orders)) × (n ≤ 256) ⌝ }
     ensures { λ r. ⌜ r ≡ rising (numbers (ordersIn (now (orders .entry)) n)) ⌝ }
 {
@@ -25,6 +25,19 @@ pub fn numbers_rise(orders: &[u64], n: usize) -> bool
         k += 1;
     }
     true
+}
+
+// Whether the first n orders stand there and their numbers rise.
+pub fn numbers_rise(orders: &[u64], n: usize) -> bool
+    ensures { λ r. ⌜ r ≡ numbersRise (now (orders .entry)) n ⌝ }
+{
+    if Order::MOST < n as u64 {
+        return false;
+    }
+    if orders.len() < 6 * n {
+        return false;
+    }
+    rise(orders, n)
 }
 
 // Whether the first n orders have at most Energy::MOST open together.
@@ -58,8 +71,21 @@ pub fn fits(orders: &[u64], n: usize, rows: &[u64]) -> bool
     if rows.len() < 6 * n {
         return false;
     }
-    if !numbers_rise(orders, n) {
+    if !rise(orders, n) {
         return false;
     }
     quantities_fit(orders, n)
+}
+
+// Whether the periods below `end` of the first n orders can be cleared one after the other, with these rows lent.
+pub(crate) fn fits_below(orders: &[u64], n: usize, end: u64, rows: &[u64]) -> bool
+    ensures { λ r. ⌜ r ≡ fitBelow (now (orders .entry)) n end (now (rows .entry)) ⌝ }
+{
+    if !fits(orders, n, rows) {
+        return false;
+    }
+    if rows.len() < 12 * n {
+        return false;
+    }
+    end <= 744
 }

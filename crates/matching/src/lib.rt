@@ -1,4 +1,4 @@
-// Rolling matching and clearing of the orders of one period: paper 01, "The eight calls", Order and Clear.
+// Rolling matching and clearing of orders: paper 01, "The eight calls", Order and Clear.
 pub mod clearing;
 mod fills;
 pub mod fitness;
@@ -6,5 +6,6 @@ mod laying;
 mod margins;
 pub mod orders;
 mod overlaps;
+pub mod periods;
 mod rests;
 pub mod rolling;

@@ -6,7 +6,8 @@ ghost use mathlib.Core.List.{List, [], _∷_, _++_};
 ghost use Prim.Native.Nat.{ℕ, _+_, _*_, _-_, _<_, _≤_};
 ghost use lib.ListN.{length, getD, set, drop, take};
 ghost use Rattle.matching.specs.Orders.{Row as RowRecord, orderWith, leaving};
-ghost use Rattle.matching.specs.Memory.{asOrder, asRow, orderAt, ordersIn, noOrder, written};
+ghost use Rattle.matching.specs.Memory.{asOrder, asRow, orderAt, ordersIn, placeIn, written};
+ghost use Rattle.matching.specs.Answers.{Written, Removed, RowPut};
 
 // An open order.
 pub struct Order {
@@ -100,8 +101,8 @@ pub(crate) fn leave(orders: &mut [u64], n: usize, k: usize, q: Energy)
     orders[6 * k + 5] = q.0;
 }
 
-// An order takes place k.
-pub fn write(orders: &mut [u64], n: usize, k: usize, o: Order)
+// An order takes place k, which is there.
+pub(crate) fn write_at(orders: &mut [u64], n: usize, k: usize, o: Order)
     requires { ⌜ (6 * n ≤ length (now orders)) × (k < n) × (n ≤ 256) ⌝ }
     ensures { λ _. ⌜ (ordersIn (now (orders .exit)) n ≡ set (ordersIn (now (orders .entry)) n) k (asOrder o))
         × (drop (6 * n) (now (orders .exit)) ≡ drop (6 * n) (now (orders .entry))) ⌝ }
@@ -115,8 +116,8 @@ pub fn write(orders: &mut [u64], n: usize, k: usize, o: Order)
     orders[at + 5] = o.quantity.0;
 }
 
-// The order at place k goes, and those behind it move up by one place.
-pub fn remove(orders: &mut [u64], n: usize, k: usize)
+// The order at place k, which is there, goes, and those behind it move up by one place.
+fn remove_at(orders: &mut [u64], n: usize, k: usize)
     requires { ⌜ (6 * n ≤ length (now orders)) × (k < n) × (n ≤ 256) ⌝ }
     ensures { λ _. ⌜ (ordersIn (now (orders .exit)) (n - 1) ≡ take k (ordersIn (now (orders .entry)) n) ++ drop (k + 1) (ordersIn (now (orders .entry)) n))
         × (drop (6 * n) (now (orders .exit)) ≡ drop (6 * n) (now (orders .entry))) ⌝ }
@@ -129,9 +130,44 @@ pub fn remove(orders: &mut [u64], n: usize, k: usize)
     }
 }
 
-// Row number n, behind the n rows that stand there.
-pub fn put_row(rows: &mut [u64], n: usize, r: Row)
-    requires { ⌜ (6 * n + 6 ≤ length (now rows)) × (n < 1000000) ⌝ }
+// Whether place k is one of the first n orders, which all stand there.
+fn is_place(orders: &[u64], n: usize, k: usize) -> bool
+    ensures { λ r. ⌜ r ≡ placeIn (now (orders .entry)) n k ⌝ }
+{
+    if n > Order::MOST as usize {
+        return false;
+    }
+    if orders.len() < 6 * n {
+        return false;
+    }
+    k < n
+}
+
+// An order takes place k of the first n; whether that place is there.
+pub fn write(orders: &mut [u64], n: usize, k: usize, o: Order) -> bool
+    ensures { λ r. ⌜ Written (now (orders .entry)) n k (asOrder o) r (now (orders .exit)) ⌝ }
+{
+    if !is_place(orders, n, k) {
+        return false;
+    }
+    write_at(orders, n, k, o);
+    true
+}
+
+// The order at place k of the first n goes, and those behind it move up by one place; whether that place is there.
+pub fn remove(orders: &mut [u64], n: usize, k: usize) -> bool
+    ensures { λ r. ⌜ Removed (now (orders .entry)) n k r (now (orders .exit)) ⌝ }
+{
+    if !is_place(orders, n, k) {
+        return false;
+    }
+    remove_at(orders, n, k);
+    true
+}
+
+// Row number n, behind the n rows that stand there; there is room for it.
+pub(crate) fn put_row_at(rows: &mut [u64], n: usize, r: Row)
+    requires { ⌜ 6 * n + 6 ≤ length (now rows) ⌝ }
     ensures { λ _. ⌜ ((m : List ℕ) (rs : List RowRecord) → length rs ≡ n → now (rows .entry) ≡ written m rs → now (rows .exit)
         ≡ written m (rs ++ (asRow r ∷ []))) ⌝ }
 {
@@ -142,4 +178,15 @@ pub fn put_row(rows: &mut [u64], n: usize, r: Row)
     rows[at + 3] = r.buyer;
     rows[at + 4] = r.quantity.0;
     rows[at + 5] = r.price.0;
+}
+
+// Row number n, behind the n rows that stand there; whether there is room for it.
+pub fn put_row(rows: &mut [u64], n: usize, r: Row) -> bool
+    ensures { λ x. ⌜ RowPut (now (rows .entry)) n (asRow r) x (now (rows .exit)) ⌝ }
+{
+    if n >= rows.len() / 6 {
+        return false;
+    }
+    put_row_at(rows, n, r);
+    true
 }

@@ -49,7 +49,7 @@ fn put_some(rows: &mut [u64], count: usize, r: Row) -> usize
     if r.quantity.0 == 0 {
         return count;
     }
-    crate::orders::put_row(rows, count, r);
+    crate::orders::put_row_at(rows, count, r);
     count + 1
 }
 

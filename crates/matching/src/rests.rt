@@ -66,7 +66,7 @@ fn close_gaps(orders: &mut [u64], n: usize, stands: &[u64]) -> usize
             k += 1;
         } else {
             let o = crate::orders::read(orders, k);
-            crate::orders::write(orders, n, to, o);
+            crate::orders::write_at(orders, n, to, o);
             to += 1;
             k += 1;
         }

@@ -16,11 +16,11 @@ ghost use lib.ListN.{length};
 ghost use Rattle.matching.specs.Orders.{Row as RowRecord, rising, numbers};
 ghost use Rattle.matching.specs.Memory.{asOrder, asRow, orderAt, ordersIn, written};
 ghost use Rattle.matching.specs.Rolling.{matchRow};
-ghost use Rattle.matching.specs.inner.Runs.{keyOf, MetInTurn};
+ghost use Rattle.matching.specs.inner.Runs.{keyOf, RunsMet, MetInTurn};
 ghost use Rattle.matching.specs.Answers.{Meets};
 
 // What is left of an incoming order, and how many orders it met.
-pub struct Traded {
+pub struct Meeting {
     pub left: Energy,
     pub count: usize,
 }
@@ -82,12 +82,64 @@ fn match_at(
 {
     let o = orders::read(orders, p);
     let x = left.least(o.quantity);
-    orders::put_row(rows, count, match_row(incoming, o, x));
+    orders::put_row_at(rows, count, match_row(incoming, o, x));
     x
 }
 
-// The incoming order meets the first n orders, best price first, then lowest number, until it is spent or no order
-// is left that it meets. Each match is a row; the places that were met, and what was taken there, are kept.
+// An incoming order, of which some is open, meets the orders of the runs, best price first, then lowest number, until it is
+// spent or no order is left. Each match is a row; the places that were met, and what was taken there, are kept.
+fn meet_runs(
+    orders: &[u64],
+    n: usize,
+    incoming: Order,
+    keys: &[u64],
+    places: &[u64],
+    heads: &mut [u64],
+    ends: &[u64],
+    runs: usize,
+    met: &mut [u64],
+    taken: &mut [u64],
+    rows: &mut [u64],
+) -> Meeting
+    requires { ⌜ (6 * n ≤ length (now orders)) × (n ≤ 256) × (rising (numbers (ordersIn (now orders) n)) ≡ true) × (0 < incoming .quantity .0)
+        × (n ≤ length (now keys)) × (n ≤ length (now places)) × (length (now places) ≤ 256) × (16 ≤ length (now heads)) × (16 ≤ length (now ends))
+        × (n ≤ length (now met)) × (n ≤ length (now taken)) × (6 * n ≤ length (now rows))
+        × RunsMet (now orders) (now keys) (now places) (now heads) (now ends) n runs (asOrder incoming) ⌝ }
+    ensures { λ r. ⌜ MetInTurn (now (orders .entry)) n (asOrder incoming) (now (rows .entry)) (r .left .0) (r .count) (now (met .exit)) (now (taken .exit))
+        (now (rows .exit)) ⌝ }
+{
+    let mut left = incoming.quantity;
+    let mut count: usize = 0;
+    'meeting: while count < n {
+        let mut best = First {
+            run: runs,
+            key: u64::MAX,
+        };
+        let mut j: usize = 0;
+        while j < runs {
+            best = laying::nearer(keys, heads, ends, best, j);
+            j += 1;
+        }
+        if best.run == runs {
+            break 'meeting;
+        }
+        let p = laying::take_first(places, heads, best.run);
+        let x = match_at(orders, p, incoming, left, rows, count);
+        met[count] = p as u64;
+        taken[count] = x.0;
+        left = left.minus(x);
+        count += 1;
+        if left.is_zero() {
+            break 'meeting;
+        }
+    }
+    Meeting {
+        left: left,
+        count: count,
+    }
+}
+
+// The incoming order meets the first n orders in turn.
 fn meet_in_turn(
     orders: &[u64],
     n: usize,
@@ -95,9 +147,9 @@ fn meet_in_turn(
     met: &mut [u64],
     taken: &mut [u64],
     rows: &mut [u64],
-) -> Traded
+) -> Meeting
     requires { ⌜ (6 * n ≤ length (now orders)) × (n ≤ 256) × (rising (numbers (ordersIn (now orders) n)) ≡ true) × (incoming .direction < 2)
-        × (n ≤ length (now met)) × (n ≤ length (now taken)) × (6 * n ≤ length (now rows)) ⌝ }
+        × (0 < incoming .quantity .0) × (n ≤ length (now met)) × (n ≤ length (now taken)) × (6 * n ≤ length (now rows)) ⌝ }
     ensures { λ r. ⌜ MetInTurn (now (orders .entry)) n (asOrder incoming) (now (rows .entry)) (r .left .0) (r .count) (now (met .exit)) (now (taken .exit))
         (now (rows .exit)) ⌝ }
 {
@@ -115,35 +167,19 @@ fn meet_in_turn(
         &mut heads,
         &mut ends,
     );
-    let mut left = incoming.quantity;
-    let mut count: usize = 0;
-    'meeting: while count < n {
-        if left.is_zero() {
-            break 'meeting;
-        }
-        let mut best = First {
-            run: runs,
-            key: u64::MAX,
-        };
-        let mut j: usize = 0;
-        while j < runs {
-            best = laying::nearer(&keys, &heads, &ends, best, j);
-            j += 1;
-        }
-        if best.run == runs {
-            break 'meeting;
-        }
-        let p = laying::take_first(&places, &mut heads, best.run);
-        let x = match_at(orders, p, incoming, left, rows, count);
-        met[count] = p as u64;
-        taken[count] = x.0;
-        left = left.minus(x);
-        count += 1;
-    }
-    Traded {
-        left: left,
-        count: count,
-    }
+    meet_runs(
+        orders,
+        n,
+        incoming,
+        &keys,
+        &places,
+        &mut heads,
+        &ends,
+        runs,
+        met,
+        taken,
+        rows,
+    )
 }
 
 // The incoming order meets the first n orders, and what was taken off them goes; an emptied order goes with it. Orders
@@ -154,14 +190,17 @@ pub fn meet(orders: &mut [u64], n: usize, incoming: Order, rows: &mut [u64]) -> 
     if !fits(orders, n, rows) {
         return Matched::Unfit;
     }
+    let quantity = incoming.quantity;
     if incoming.direction > 1 {
-        let quantity = incoming.quantity;
+        return Matched::Done(quantity, 0, n);
+    }
+    if quantity.is_zero() {
         return Matched::Done(quantity, 0, n);
     }
     let mut met = [0u64; 256];
     let mut taken = [0u64; 256];
-    let traded = meet_in_turn(orders, n, incoming, &mut met, &mut taken, rows);
-    let standing = crate::rests::leave_rest(orders, n, &met, &taken, traded.count);
-    let left = traded.left;
-    Matched::Done(left, traded.count, standing)
+    let meeting = meet_in_turn(orders, n, incoming, &mut met, &mut taken, rows);
+    let standing = crate::rests::leave_rest(orders, n, &met, &taken, meeting.count);
+    let left = meeting.left;
+    Matched::Done(left, meeting.count, standing)
 }

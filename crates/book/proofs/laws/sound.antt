@@ -1,6 +1,5 @@
 pub mod SoundLaws
 pub mod FormedLaws
-pub mod RemainLaws
 pub mod FitLaws
 pub mod OpenLaws
 pub mod DeclareLaws

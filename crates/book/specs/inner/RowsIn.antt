@@ -10,7 +10,7 @@ use Rattle.measures.specs.Lists.{keep, table}
 use Rattle.measures.specs.Sharing.{parts}
 use Rattle.limits.specs.Units.{periods}
 use Rattle.matching.specs.Orders.{Row}
-use Rattle.matching.specs.Memory.{written}
+use Rattle.matching.specs.Memory.{rowAt, rowsIn, written}
 use Rattle.book.specs.Book.{OpenOffer, Book, offerOf, withOffers}
 use Rattle.book.specs.Trades.{booked, rowBooked, rowsBooked}
 use Rattle.book.specs.Fit.{Declaration}
@@ -31,22 +31,6 @@ use Rattle.book.specs.Refusals.{
 }
 use Rattle.book.specs.Opening.{bookWords}
 use Rattle.book.specs.Layout.{word, amountAt, offerAt, decode}
-
--- the row at place k of lent memory, and the first n rows
-abbrev pub rowAt : List ℕ → ℕ → Row
-rowAt m k =
-    record {
-      way = getD m (6 * k) 0;
-      period = getD m (6 * k + 1) 0;
-      seller = getD m (6 * k + 2) 0;
-      buyer = getD m (6 * k + 3) 0;
-      quantity = getD m
-          (6 * k + 4) 0;
-      price = getD m (6 * k + 5) 0;
-    }
-
-unfoldable pub rowsIn : List ℕ → ℕ → List Row
-rowsIn m n = table n (rowAt m)
 
 -- what today's trades and the volume of the unit at place k come to in period p is at most this
 pub record SmallAt (m : List ℕ) (k p most : ℕ) : Type 0 where

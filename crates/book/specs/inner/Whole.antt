@@ -36,13 +36,6 @@ pub record Alike (m : List ℕ) (k t : ℕ) : Type 0 where
   pub period : 0 < t → word m (240 + 6 * (t - 1) + 3) ≡ word m (240 + 6 * k + 3)
   pub none : t ≡ 0 → (j : ℕ) → j < k → word m (240 + 6 * j + 1) ≡ word m (240 + 6 * k + 1) → word m (240 + 6 * j + 3) ≡ word m (240 + 6 * k + 3) → ⊥
 
--- by period, one more than the highest buy price, and the lowest sell price, once an order's price is entered
-unfoldable pub highWith : ℕ → ℕ → ℕ → List ℕ → List ℕ
-highWith direction p price high = cond (eqb direction 1 && leb (getD high p 0) price) (set high p (price + 1)) high
-
-unfoldable pub lowWith : ℕ → ℕ → ℕ → List ℕ → List ℕ
-lowWith direction p price low = cond (not (eqb direction 1) && ltb price (getD low p 0)) (set low p price) low
-
 -- of each period and the first k orders: what is above each buy price and not above it needlessly, and what is not above
 -- any sell price and not below it needlessly
 pub record Prices (m : List ℕ) (k : ℕ) (high low : List ℕ) : Type 0 where

@@ -1,6 +1,7 @@
 pub mod OrderLaws
 pub mod RowLaws
 pub mod FitLaws
+pub mod PlacedLaws
 pub mod AheadLaws
 pub mod LaidLaws
 pub mod LessenLaws
@@ -8,3 +9,4 @@ pub mod TakeOffLaws
 pub mod AfterLaws
 pub mod TakingLaws
 pub mod ExchangeLaws
+pub mod LeftLaws

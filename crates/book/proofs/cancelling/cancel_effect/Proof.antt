@@ -4,6 +4,7 @@ use native.Mathlib.Omega.{arith}
 use mathlib.Core.Path.{_≡_, _∙_}
 use borrow.Rule.Slice.PartMut.{mid-len}
 use lib.ListN.{length, length-take, length-drop}
+use Rattle.matching.proofs.laws.orders.PlacedLaws.{place-there}
 use Rattle.book.specs.Layout.{word}
 use Rattle.book.specs.inner.Readable.{Readable}
 use Rattle.book.proofs.laws.answer.MadeLaws.{sound-readable}
@@ -41,9 +42,7 @@ part-remove-end : tie.Need-part-remove-end
 part-remove-end c = let r = ok (c .before .before .before .before) in omega arith
 
 remove-requires : tie.Need-remove-requires
-remove-requires c κs =
-    let c5 = c .before .before .before .before .before in
-    let r = ok c5 in let f = found (c .before) in (simp (length-take, length-drop) (omega arith), f, r .ordersTo)
+remove-requires c κs = search needs
 
 sub-book : tie.Need-sub-book
 sub-book c = let f = found (c .before .before .before .before) in omega arith
@@ -61,11 +60,13 @@ returns c =
     let c4 = c .before .before .before .before in
     let s = c .before .before .before .before .before .before .before .before in
     let f = found c4 in
-    let w = c4 .order-place in (
+    let w = c4 .order-place in
+    let r = ok s in
+    let p = c .before .before .remove .ensures .orders (place-there _ _ _ (r .ordersTo) (simp (length-take, length-drop) (omega arith)) f) in (
       cancelled (s .args .book .now) (c .before .before .remove .last .0) (s .args .number) (w .result) (s .pre .0) f (w .ensures .2 f) (long c)
-          (c .before .before .remove .ensures .0),
+          p,
       cancelled-past (s .args .book .now) (c .before .before .remove .last .0) (s .args .number) (w .result) (s .pre .0) f (w .ensures .2 f) (long c)
-          (c .before .before .remove .ensures .0),
+          p,
     )
 
 pub cancel-effect-spec : {M : Type 1} → statement M

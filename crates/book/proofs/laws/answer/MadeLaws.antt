@@ -15,7 +15,7 @@ use Rattle.book.specs.declared.Answer.{Answer}
 use Rattle.book.specs.declared.Answer.the-variants.{Done, Refused}
 use Rattle.limits.specs.Units.{periods}
 use Rattle.measures.specs.Lists.{keep}
-use Rattle.matching.specs.Clearing.{Cleared}
+use Rattle.matching.specs.Clearing.{Cleared, clearFrom}
 use Rattle.matching.specs.Rolling.{Met, meet}
 use Rattle.book.specs.Trades.{rowsBooked}
 use Rattle.book.specs.Book.{Book, callPhase, rollingPhase, offerOf, withOffers, withOrders, inPhase, nextNumber}
@@ -29,7 +29,7 @@ use Rattle.book.specs.Take.{taking, takeRefusal, takeChecks, takenParts,
 use Rattle.book.specs.Withdraw.{withdrawal, withdrawRefusal, withdrawChecks}
 use Rattle.book.specs.Order.{ordering, orderRefusal, orderChecks, newOrder, orderedInCall, orderedInRolling}
 use Rattle.book.specs.Cancel.{cancellation, cancelRefusal, cancelChecks}
-use Rattle.book.specs.Clear.{clearing, clearRefusal, clearChecks, clearFrom}
+use Rattle.book.specs.Clear.{clearing, clearRefusal, clearChecks}
 use Rattle.book.specs.Close.{closing, dayClosed}
 use Rattle.book.specs.Calls.{Call, callEnrol, callOffer, callTake, callWithdraw, callOrder, callCancel, callClear, callClose, outcome}
 use Rattle.book.specs.Contract.{Told, toldBy, soundIn, outcomeOn, Made}

@@ -1,39 +1,29 @@
 -- Open orders that may stand together: a unit's orders of a period go one way, and no two of a period cross.
 use Prim.Native.Nat.{ℕ, zero, suc, _+_, _-_, _*_, _≤_, _<_}
 use mathlib.Core.Path.{_≡_, refl, sym, ap, _∙_}
-use mathlib.Core.Bool.{Bool, true, false, cond, not, _&&_, _||_}
+use mathlib.Core.Bool.{Bool, true, false, not, _&&_}
 use mathlib.Core.List.{List, [], _∷_}
 use native.Mathlib.Omega.{arith}
 use native.Mathlib.Decide.{ℕ-discrete, decLt}
-use borrow.Author.Tests.{eq-eqb, ne-eqb, eqb-true, eqb-false, le-leb, lt-leb, lt-ltb, le-ltb, not-false}
+use borrow.Author.Tests.{eq-eqb, eqb-true, eqb-false, not-false}
 use lib.ListN.{length, getD, set, replicate}
 use lib.Seq.{getD-set-same, getD-set-other}
-use lib.Dec.{eqb, leb, ltb}
+use lib.Dec.{eqb}
 use Rattle.measures.specs.Lists.{holds, all}
 use Rattle.measures.proofs.ListLaws.{both-ways, false-by, not-both, all-true, holds-all, all-none, all-more, all-fails, all-at, all-by, all-ext}
 use Rattle.limits.specs.Units.{periods}
 use Rattle.matching.specs.Orders.{Order as OpenOrder}
-use Rattle.matching.specs.Memory.{orderAt, ordersIn}
+use Rattle.matching.specs.Memory.{mostWord, orderAt}
+use Rattle.matching.specs.Prices.{highWith, lowWith}
+use Rattle.matching.proofs.laws.periods.NoteLaws.{high-new, high-not, low-new, low-not}
 use Rattle.book.specs.Sound.{oneDirection, apart}
 use Rattle.book.specs.Layout.{word, ordersPart, decode}
 use Rattle.book.specs.inner.Readable.{Ranged, pairFits, pairsFit}
-use Rattle.book.specs.inner.Whole.{Latest, Alike, highWith, lowWith, Prices, crossless, Priced, pairsBefore, OrderStands}
+use Rattle.book.specs.inner.Whole.{Latest, Alike, Prices, crossless, Priced, pairsBefore, OrderStands}
 use Rattle.book.proofs.laws.memory.RangeFacts.{order-word}
 use Rattle.book.proofs.laws.check.ShareLaws.{order-words}
 use Rattle.book.proofs.laws.check.MisfitLaws.{zeros-at}
-use Rattle.book.proofs.laws.check.PairLaws.{
-  OneDirection,
-  one-direction-holds,
-  one-direction-fact,
-  Apart,
-  apart-holds,
-  apart-fact,
-  Pair,
-  pair-holds,
-  pair-fact,
-  pairs-by,
-  pairs-fail,
-}
+use Rattle.book.proofs.laws.check.PairLaws.{one-direction-holds, one-direction-fact, apart-holds, apart-fact, pair-holds, pair-fact, pairs-by, pairs-fail}
 
 abbrev orderIn : List ℕ → ℕ → OpenOrder
 orderIn m k = orderAt (ordersPart m) k
@@ -206,32 +196,6 @@ module _ (m : List ℕ) (k : ℕ) (hk : k < 256) where
         go true e = direction-same pb (eqb-true _ _ e)
         go false e = direction-other (eqb-false _ _ e)
 
--- an order's price entered, by cases
-module _ (d p price : ℕ) (l : List ℕ) where
-  pub high-new : d ≡ 1 → getD l p 0 ≤ price → highWith d p price l ≡ set l p (price + 1)
-  unfolding highWith
-  high-new e h = rw (eq-eqb d 1 e, le-leb (getD l p 0) price h)
-
-  pub high-not : (d ≡ 1 → price < getD l p 0) → highWith d p price l ≡ l
-  unfolding highWith
-  high-not f = go (ℕ-discrete d 1)
-    where
-      go : Dec (d ≡ 1) → cond (eqb d 1 && leb (getD l p 0) price) (set l p (price + 1)) l ≡ l
-      go (yes e) = rw (eq-eqb d 1 e, lt-leb (getD l p 0) price (f e))
-      go (no n) = rw (ne-eqb d 1 n)
-
-  pub low-new : (d ≡ 1 → ⊥) → price < getD l p 0 → lowWith d p price l ≡ set l p price
-  unfolding lowWith
-  low-new n h = rw (ne-eqb d 1 n, lt-ltb price (getD l p 0) h)
-
-  pub low-not : ((d ≡ 1 → ⊥) → getD l p 0 ≤ price) → lowWith d p price l ≡ l
-  unfolding lowWith
-  low-not f = go (ℕ-discrete d 1)
-    where
-      go : Dec (d ≡ 1) → cond (not (eqb d 1) && ltb price (getD l p 0)) (set l p price) l ≡ l
-      go (yes e) = rw (eq-eqb d 1 e)
-      go (no n) = rw (ne-eqb d 1 n, le-ltb price (getD l p 0) (f n))
-
 -- prices before any order
 const-at : (n c i : ℕ) → i < n → getD (replicate n c) i 0 ≡ c
 const-at zero c i h = absurd (omega arith)
@@ -370,28 +334,28 @@ module _ (m : List ℕ) (g : Ranged m) (k : ℕ) (h : k < word m 7) (high low : 
   abbrev price : ℕ
   price = word m (240 + 6 * k + 4)
 
-  price-entered : p < length high → p < length low → Dec (d ≡ 1) → Dec (price < getD high p 0) → Dec (price < getD low p 0)
+  price-entered : price < mostWord → p < length high → p < length low → Dec (d ≡ 1) → Dec (price < getD high p 0) → Dec (price < getD low p 0)
       → Prices m (k + 1) (highWith d p price high) (lowWith d p price low)
-  price-entered rh rl (yes e) (yes u) w = rw (high-not d p price high (λ _. u), low-not d p price low (λ n. absurd (n e)))
+  price-entered small rh rl (yes e) (yes u) w = rw (high-not d p price high (λ _. u), low-not d p price low (λ n. absurd (n e)))
       (buy-entered high e (λ q n. refl) (omega arith) u (λ x a b. a))
-  price-entered rh rl (yes e) (no u) w =
+  price-entered small rh rl (yes e) (no u) w =
       let v = getD-set-same high p (price + 1) 0 rh in
-      rw (high-new d p price high e (omega arith), low-not d p price low (λ n. absurd (n e)))
+      rw (high-new d p price high e (omega arith) small, low-not d p price low (λ n. absurd (n e)))
       (buy-entered (set high p (price + 1)) e (λ q n. getD-set-other high p q (price + 1) 0 n) (omega arith) (omega arith) (λ x a b. omega arith))
-  price-entered rh rl (no n) u (yes w) =
+  price-entered small rh rl (no n) u (yes w) =
       let v = getD-set-same low p price 0 rl in
       rw (high-not d p price high (λ e. absurd (n e)), low-new d p price low n w)
       (sell-entered (set low p price) (is-sale n) (λ q z. getD-set-other low p q price 0 z) (omega arith) (omega arith) (λ x a b. omega arith))
-  price-entered rh rl (no n) u (no w) = rw (high-not d p price high (λ e. absurd (n e)), low-not d p price low (λ _. omega arith))
+  price-entered small rh rl (no n) u (no w) = rw (high-not d p price high (λ e. absurd (n e)), low-not d p price low (λ _. omega arith))
       (sell-entered low (is-sale n) (λ q z. refl) (omega arith) (omega arith) (λ x a b. a))
 
-  pub priced : (r : Bool) → r ≡ not (all k (crossless m k)) → r ≡ false → length high ≡ 744 → length low ≡ 744
+  pub priced : word m 2 ≤ 10_000_000 → (r : Bool) → r ≡ not (all k (crossless m k)) → r ≡ false → length high ≡ 744 → length low ≡ 744
       → Priced m k true (highWith d p price high) (lowWith d p price low)
-  priced r e f lh ll =
+  priced top r e f lh ll =
       record {
         answer = sym (not-false (all k (crossless m k)) (sym e ∙ f));
-        entered = λ z. let t = term in let y = g .readable .daysTo in price-entered (omega arith) (omega arith) (ℕ-discrete d 1)
-            (decLt price (getD high p 0)) (decLt price (getD low p 0));
+        entered = λ z. let t = term in let y = g .readable .daysTo in let w = order-words m k g h .price .1 in
+            price-entered (omega arith) (omega arith) (omega arith) (ℕ-discrete d 1) (decLt price (getD high p 0)) (decLt price (getD low p 0));
       }
 
 pub not-priced : (m : List ℕ) (k : ℕ) (high low : List ℕ) → false ≡ all k (crossless m k) → Priced m k false high low

@@ -1,6 +1,6 @@
 -- Clear on a sound book in memory: the orders' part cleared, its rows booked, and the phase set.
 use Prim.Native.Nat.{ℕ, _+_, _*_, _≤_, _<_}
-use mathlib.Core.Path.{_≡_, refl, sym, ap, _∙_}
+use mathlib.Core.Path.{_≡_, refl, ap, _∙_}
 use mathlib.Core.Bool.{true}
 use mathlib.Core.List.{List}
 use native.Mathlib.Omega.{arith}
@@ -8,22 +8,23 @@ use borrow.Rule.Slice.PartMut.{putMid}
 use lib.ListN.{length, getD, take, set, length-set, length-take, length-drop}
 use lib.Seq.{getD-set-same, getD-set-other, drop-set-lt}
 use Rattle.measures.specs.Lists.{table}
-use Rattle.measures.proofs.ListLaws.{all-true, all-at}
-use Rattle.matching.specs.Orders.{Row}
-use Rattle.matching.specs.Memory.{orderAt, ordersIn, written}
+use Rattle.matching.specs.Orders.{Row, rising, numbers}
+use Rattle.matching.specs.Memory.{ordersIn, written, rowAt, rowsIn}
+use Rattle.matching.specs.Answers.{fitBelow}
+use Rattle.matching.specs.inner.Periods.{Clearable, PassedAll}
 use Rattle.matching.proofs.laws.lists.EachLaws.{each-at}
 use Rattle.matching.proofs.laws.orders.RowLaws.{written-length}
+use Rattle.matching.proofs.laws.periods.PassingLaws.{clearable-fits, passed-fewer, passed-few}
 use Rattle.book.specs.Book.{Book, inPhase}
 use Rattle.book.specs.Trades.{rowsBooked}
-use Rattle.book.specs.Sound.{sound, orderIn}
 use Rattle.book.specs.Opening.{bookWords}
 use Rattle.book.specs.Layout.{word, decode, ordersPart, unitAt, offerAt}
 use Rattle.book.specs.inner.Readable.{Readable}
 use Rattle.book.specs.Contract.{soundIn}
-use Rattle.book.specs.inner.RowsIn.{rowAt, rowsIn, Small, smallFigures, RowFits, RowsFit, RowsTraded}
-use Rattle.book.specs.inner.Periods.{Clearable, OrdersBelow, ClearsAll, clearedAll, Swept, AllCleared}
-use Rattle.book.proofs.laws.memory.RangeFacts.{units-held, order-facts, orders-every, order-word}
-use Rattle.book.proofs.laws.answer.MadeLaws.{sound-book, sound-head, sound-readable}
+use Rattle.book.specs.inner.RowsIn.{Small, smallFigures, RowFits, RowsFit, RowsTraded}
+use Rattle.book.specs.inner.Periods.{clearedAll, Swept, AllCleared}
+use Rattle.book.proofs.laws.memory.RangeFacts.{units-held}
+use Rattle.book.proofs.laws.answer.MadeLaws.{sound-book, sound-readable}
 use Rattle.book.proofs.laws.sound.SoundLaws.{sound-facts}
 use Rattle.book.proofs.laws.memory.WordLaws.{
   book-same,
@@ -42,7 +43,7 @@ use Rattle.book.proofs.laws.rows.SmallLaws.{sound-small, row-written, r
 use Rattle.book.proofs.laws.clear.SweepLaws.{orders-small, RowIn, cleared-rows-in}
 
 -- a sound book's orders can be cleared
-pub clear-asks : (m rows : List ℕ) → soundIn m ≡ true → 4464 ≤ length rows → Clearable (ordersPart m) rows (word m 7) (word m 7)
+clear-asks : (m rows : List ℕ) → soundIn m ≡ true → 4464 ≤ length rows → Clearable (ordersPart m) rows (word m 7) (word m 7)
 unfolding decode
 clear-asks m rows s l =
     let r = sound-readable m s in
@@ -56,21 +57,18 @@ clear-asks m rows s l =
           orders-small (decode m) f;
     }
 
-pub orders-below : (m : List ℕ) → soundIn m ≡ true → OrdersBelow (ordersPart m) (word m 7)
-unfolding sound
-orders-below m s k h =
+clear-rises : (m : List ℕ) → soundIn m ≡ true → rising (numbers (ordersIn (ordersPart m) (word m 7))) ≡ true
+unfolding decode
+clear-rises m s = sound-facts (decode m) (sound-book m s) .formed .ordersRise
+
+pub clear-fits : (m rows : List ℕ) → soundIn m ≡ true → 4464 ≤ length rows → fitBelow (ordersPart m) (word m 7) (24 * word m 0) rows ≡ true
+clear-fits m rows s l =
     let r = sound-readable m s in
-    let f = sound-head m s in
-    let t = all-true _ (sound-book m s) in
-    let o = order-facts m k (omega arith) (all-at (word m 7) (λ i. orderIn (decode m) (orderAt (ordersPart m) i)) k (sym (orders-every m)
-    ∙ t .1 .1 .1 .0) h) in
-    let a : getD (ordersPart m) (6 * k + 3) 0 ≡ word m (240 + 6 * k + 3) = order-word m (6 * k + 3) (omega arith) ∙ ap (word m) (omega arith) in
-    let b : getD (ordersPart m) (6 * k + 4) 0 ≡ word m (240 + 6 * k + 4) = order-word m (6 * k + 4) (omega arith) ∙ ap (word m) (omega arith) in
-    (omega (arith, o .period), omega (arith, o .price .1, f .ceiling))
+    clearable-fits (ordersPart m) rows (word m 7) (24 * word m 0) (clear-asks m rows s l) (omega arith)
 
 -- the part is back, and the orders that stand are counted
 module _ (m rows ys rows′ : List ℕ) (count n′ : ℕ) (s : soundIn m ≡ true) (same : length ys
-    ≡ 1536) (c : ClearsAll (ordersPart m) rows (word m 7) (24 * word m 0) count n′ ys rows′) where
+    ≡ 1536) (c : PassedAll (ordersPart m) rows (word m 7) (24 * word m 0) count n′ ys rows′) where
   abbrev x : List ℕ
   x = set (putMid 240 1536 m ys) 7 n′
 
@@ -104,8 +102,8 @@ module _ (m rows ys rows′ : List ℕ) (count n′ : ℕ) (s : soundIn m ≡ tr
   pub swept : Swept m rows count x rows′
   swept =
       let r = sound-readable m s in
-      let a = c .fewer in
-      let b = c .few in
+      let a = passed-fewer (ordersPart m) rows (word m 7) (24 * word m 0) count n′ ys rows′ c in
+      let b = passed-few (ordersPart m) rows (word m 7) (24 * word m 0) count n′ ys rows′ c (clear-rises m s) in
       let d = stand in
       record {
         book = orders-changed x m (clearedAll (decode m) .orders) (r .unitsTo) (r .offersTo) low high left;

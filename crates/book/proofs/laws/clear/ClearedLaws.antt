@@ -13,7 +13,7 @@ use Rattle.measures.specs.Lists.{Each, every}
 use Rattle.measures.proofs.ListLaws.{and-true, and-left, and-right}
 use Rattle.limits.specs.Units.{periods}
 use Rattle.matching.specs.Orders.{Order as OpenOrder, Row, sells, buys, rising, numbers}
-use Rattle.matching.specs.Clearing.{Cleared, clearPeriod}
+use Rattle.matching.specs.Clearing.{Cleared, clearPeriod, clearFrom}
 use Rattle.matching.proofs.laws.lists.EachLaws.{Has, each-map, each-append, each-has, has-each}
 use Rattle.matching.proofs.laws.clearing.ClearingLaws.{AskOf, BidOf, row-sides}
 use Rattle.matching.proofs.laws.clearing.RestLaws.{numbers-rise-after, rests-each, rests-two, rests-positive}
@@ -21,23 +21,13 @@ use Rattle.matching.proofs.laws.clearing.CrossLaws.{nothing-crosses-after}
 use Rattle.matching.proofs.laws.orders.ExchangeLaws.{Exchanged, exchanged-none, exchanged-append, period-exchanged}
 use Rattle.book.specs.Book.{Book, rollingPhase}
 use Rattle.book.specs.Sound.{apart, eachTwo, sound}
-use Rattle.book.specs.Clear.{clearRefusal, clearFrom, clearing}
-use Rattle.book.proofs.laws.sound.RemainLaws.{each-holds, each-imp, Remains, remains-all, remains-each}
+use Rattle.book.specs.Clear.{clearRefusal, clearing}
+use Rattle.matching.proofs.laws.lists.RemainLaws.{each-holds, each-imp, Remains, remains-all, remains-each}
 use Rattle.book.proofs.laws.sound.SoundLaws.{OrderRanges, Sound, sound-facts}
 use Rattle.book.proofs.laws.answer.RefusalLaws.{decided-sound}
-use Rattle.book.proofs.laws.sound.FormedLaws.{LessOrder, same-order}
+use Rattle.matching.proofs.laws.orders.LeftLaws.{LessOrder, same-order, remains-then, less-then, cleared-remain}
 use Rattle.book.proofs.laws.rows.ExchangedLaws.{exchanged-sound}
-use Rattle.book.proofs.laws.order.LeftLaws.{
-  Far,
-  far-apart,
-  remains-then,
-  less-then,
-  cleared-remain,
-  SameDirection,
-  one-direction-same,
-  TwoUnits,
-  two-named,
-}
+use Rattle.book.proofs.laws.order.LeftLaws.{Far, far-apart, SameDirection, one-direction-same, TwoUnits, two-named}
 
 -- two orders of a period below p do not cross
 abbrev pub FarBelow : ℕ → OpenOrder → OpenOrder → Type 0
@@ -94,8 +84,7 @@ rows-two-units n p os c =
         let t : b .order .direction ≡ 1 = eqb-true _ _ (and-left (buys (b .order .direction)) (eqb (b .order .period) p) (b .buy)) in
         let v : a .order .period ≡ p = eqb-true _ _ (and-right (sells (a .order .direction)) (eqb (a .order .period) p) (a .sale)) in
         let w : b .order .period ≡ p = eqb-true _ _ (and-right (buys (b .order .direction)) (eqb (b .order .period) p) (b .buy)) in
-        let same = has-each (SameDirection (a .order)) os (b .order)
-        (has-each (λ (x : OpenOrder). Each (SameDirection x) os) os (a .order) (c .sameDirection) (a .stands))
+        let same = has-each (SameDirection (a .order)) os (b .order) (has-each (λ (x : OpenOrder). Each (SameDirection x) os) os (a .order) (c .sameDirection) (a .stands))
         (b .stands) in
         let d = same (a .unit ∙ e ∙ sym (b .unit)) (v ∙ sym w) in
         omega arith

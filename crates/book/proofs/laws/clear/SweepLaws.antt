@@ -16,14 +16,13 @@ use Rattle.limits.specs.Units.{periods, generator}
 use Rattle.limits.specs.Limits.{hourOf}
 use Rattle.limits.proofs.LimitLaws.{hour-most}
 use Rattle.matching.specs.Orders.{Order as OpenOrder, Row, sells, buys, quantities}
-use Rattle.matching.specs.Clearing.{clearPeriod}
+use Rattle.matching.specs.Clearing.{clearPeriod, clearFrom}
 use Rattle.matching.proofs.laws.lists.EachLaws.{Has, each-map, each-append, each-has, has-each, each-at}
 use Rattle.matching.proofs.laws.clearing.ClearingLaws.{rows-at-price}
 use Rattle.matching.proofs.laws.orders.ExchangeLaws.{Exchanged, isOf, openOf}
 use Rattle.book.specs.Book.{noUnit, Book, unitOf}
 use Rattle.book.specs.Trades.{raises, lowers}
 use Rattle.book.specs.Fit.{nothing, openOrders, openRaising, openLowering}
-use Rattle.book.specs.Clear.{clearFrom}
 use Rattle.book.proofs.laws.sound.FitLaws.{Fits}
 use Rattle.book.proofs.laws.sound.SoundLaws.{OrderRanges, UnitRanges, Sound}
 use Rattle.book.proofs.laws.clear.ClearedLaws.{clear-clears}

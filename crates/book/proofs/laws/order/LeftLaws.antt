@@ -1,71 +1,17 @@
--- What matching and clearing leave of the orders: each keeps all but its quantity.
+-- Orders that do not cross or go one way, and rows between two units.
 use Prim.Native.Nat.{ℕ, _-_, _<_}
-use mathlib.Core.Path.{_≡_, refl, ap, _∙_}
-use mathlib.Core.Bool.{Bool, true, false, cond, not, _&&_}
-use mathlib.Core.List.{List, [], _∷_, _++_}
-use native.Mathlib.Omega.{arith}
-use lib.Dec.{eqb, leb, ltb}
-use borrow.Author.Tests.{lt-ltb, eq-eqb, eqb-true, leb-false}
+use mathlib.Core.Path.{_≡_, refl, ap}
+use mathlib.Core.Bool.{Bool, true, false, not, _&&_}
+use mathlib.Core.List.{List}
+use lib.Dec.{eqb, ltb}
+use borrow.Author.Tests.{lt-ltb, eq-eqb, eqb-true}
 use Rattle.measures.specs.Lists.{Each, every}
 use Rattle.measures.proofs.RangeLaws.{In}
 use Rattle.measures.proofs.ListLaws.{or-left, or-right, or-other, and-true, and-left, and-right, not-fails}
-use Rattle.matching.specs.Orders.{Order as OpenOrder, Row, sells, buys, leaving, less, lessen}
-use Rattle.matching.specs.Clearing.{Fill, clearPeriod, afterFills}
-use Rattle.matching.specs.Rolling.{counterparts, matches, meet}
-use Rattle.matching.proofs.laws.clearing.PeriodLaws.{bidFillsOf, askFillsOf, cleared-orders}
-use Rattle.matching.proofs.laws.rolling.MetLaws.{fillsOf, matches-fill}
+use Rattle.matching.specs.Orders.{Order as OpenOrder, Row, sells, buys}
 use Rattle.book.specs.Sound.{oneDirection, apart, eachTwo}
-use Rattle.book.proofs.laws.sound.RemainLaws.{each-of, each-imp, Remains, ended, gone, kept, remains-all}
-use Rattle.book.proofs.laws.sound.FormedLaws.{LessOrder, same-order}
+use Rattle.matching.proofs.laws.lists.RemainLaws.{each-of, each-imp}
 use Rattle.book.proofs.laws.rows.TradeLaws.{Named}
-
-module _ {A : Type 0} (R : A → A → Type 0) where
-  pub remains-then : ((x y z : A) → R x y → R y z → R x z) → {xs ys zs : List A} → Remains R xs ys → Remains R ys zs → Remains R xs zs
-  remains-then h t ended = t
-  remains-then h t (gone s) = gone (remains-then h t s)
-  remains-then h (gone t) (kept r s) = gone (remains-then h t s)
-  remains-then h (kept q t) (kept r s) = kept (h _ _ _ q r) (remains-then h t s)
-
-  pub remains-append : {xs ys vs ws : List A} → Remains R xs ys → Remains R vs ws → Remains R (xs ++ vs) (ys ++ ws)
-  remains-append ended s = s
-  remains-append (gone t) s = gone (remains-append t s)
-  remains-append (kept r t) s = kept r (remains-append t s)
-
-pub less-then : (x y z : OpenOrder) → LessOrder x y → LessOrder y z → LessOrder x z
-less-then x y z k l =
-    let e : y .quantity ≡ l .left = ap (λ (o : OpenOrder). o .quantity) (l .is) in
-    record {
-      left = k .left;
-      is = k .is ∙ ap (λ (o : OpenOrder). leaving o (k .left)) (l .is);
-      fewer = let a = k .fewer in let b = l .fewer in omega arith;
-      some = λ h. let a = l .some h in k .some (omega arith);
-    }
-
-pub lessen-remains : (n x : ℕ) (os : List OpenOrder) → Remains LessOrder (lessen n x os) os
-unfolding lessen
-lessen-remains n x [] = ended
-lessen-remains n x (o ∷ os) = go (eqb (o .number) n) (leb (o .quantity) x) refl (lessen-remains n x os)
-  where
-    go : (t z : Bool) → leb (o .quantity) x ≡ z → Remains LessOrder (lessen n x os) os
-        → Remains LessOrder (cond t (cond z os (less o x ∷ os)) (o ∷ lessen n x os)) (o ∷ os)
-    go true true e h = gone (remains-all LessOrder same-order os)
-    go true false e h =
-        let l : x < o .quantity = leb-false _ _ e in
-        let k : LessOrder (less o x) o = record { left = o .quantity - x; is = refl; fewer = omega arith; some = λ p. omega arith } in
-        kept k (remains-all LessOrder same-order os)
-    go false z e h = kept (same-order o) h
-
-pub fills-remain : (fs : List Fill) (os : List OpenOrder) → Remains LessOrder (afterFills fs os) os
-unfolding afterFills
-fills-remain [] os = remains-all LessOrder same-order os
-fills-remain (f ∷ fs) os = remains-then LessOrder less-then (fills-remain fs _) (lessen-remains (f .order .number) (f .amount) os)
-
-pub cleared-remain : (period : ℕ) (os : List OpenOrder) → Remains LessOrder (clearPeriod period os .orders) os
-cleared-remain period os = rw (cleared-orders period os) (fills-remain (bidFillsOf period os ++ askFillsOf period os) os)
-
-pub met-remain : (i : OpenOrder) (os : List OpenOrder) → Remains LessOrder (meet i os .orders) os
-unfolding meet
-met-remain i os = rw (matches-fill (matches (i .quantity) (counterparts i os)) os) (fills-remain (fillsOf (matches (i .quantity) (counterparts i os))) os)
 
 -- a buy and a sale of one period that do not cross
 abbrev pub Far : OpenOrder → OpenOrder → Type 0

@@ -37,7 +37,7 @@ use Rattle.book.specs.Refusals.{
   volumeMisfit,
 }
 use Rattle.book.specs.Order.{orderDeclares, orderRefusal, newOrder, ordering}
-use Rattle.book.proofs.laws.sound.RemainLaws.{each-holds}
+use Rattle.matching.proofs.laws.lists.RemainLaws.{each-holds}
 use Rattle.book.proofs.laws.sound.FitLaws.{Fits, fits-with, fits-after}
 use Rattle.book.proofs.laws.sound.SoundLaws.{OrderRanges, Sound, sound-facts, sound-holds}
 use Rattle.book.proofs.laws.answer.RefusalLaws.{NoneApplies, none-applies, decided-sound}

@@ -10,7 +10,7 @@ use lib.Dec.{eqb}
 use Rattle.measures.specs.Lists.{keep}
 use Rattle.measures.proofs.ListLaws.{cond-case}
 use Rattle.matching.specs.Orders.{Order as OpenOrder, Row, leaving, orderWith}
-use Rattle.matching.specs.Memory.{ordersIn, written}
+use Rattle.matching.specs.Memory.{ordersIn, written, rowAt, rowsIn}
 use Rattle.matching.specs.Rolling.{Match, Met, meet, matches, counterparts, candidate, aheadFor, matchRow}
 use Rattle.matching.proofs.laws.lists.EachLaws.{Each, Has, each-at, each-has, has-each}
 use Rattle.matching.proofs.laws.lists.SumLaws.{sumOf-has}
@@ -25,7 +25,7 @@ use Rattle.book.specs.Layout.{word, decode, ordersPart}
 use Rattle.book.specs.Refusals.{firstOf}
 use Rattle.book.specs.inner.Readable.{Readable}
 use Rattle.book.specs.Contract.{soundIn}
-use Rattle.book.specs.inner.RowsIn.{rowAt, rowsIn, Small, smallFigures, RowFits, RowsFit, RowsTraded}
+use Rattle.book.specs.inner.RowsIn.{Small, smallFigures, RowFits, RowsFit, RowsTraded}
 use Rattle.book.specs.Order.{orderChecks, orderRefusal, newOrder, waiting}
 use Rattle.book.specs.inner.Ordering.{OrdersPut, Rolled, RolledOn}
 use Rattle.book.proofs.laws.memory.RangeFacts.{units-held, orders-held}
@@ -33,10 +33,10 @@ use Rattle.book.proofs.laws.check.NumberLaws.{orders-from}
 use Rattle.book.proofs.laws.answer.MadeLaws.{sound-book, sound-readable, chain-sound}
 use Rattle.book.proofs.laws.answer.RefusalLaws.{none-applies}
 use Rattle.book.proofs.laws.sound.SoundLaws.{Sound, sound-facts}
-use Rattle.book.proofs.laws.sound.RemainLaws.{remains-length}
-use Rattle.book.proofs.laws.sound.FormedLaws.{LessOrder}
+use Rattle.matching.proofs.laws.lists.RemainLaws.{remains-length}
+use Rattle.matching.proofs.laws.orders.LeftLaws.{LessOrder, met-remain}
 use Rattle.book.proofs.laws.order.OrderingLaws.{OrderPassed, order-passed}
-use Rattle.book.proofs.laws.order.LeftLaws.{met-remain, TwoUnits}
+use Rattle.book.proofs.laws.order.LeftLaws.{TwoUnits}
 use Rattle.book.proofs.laws.order.RolledLaws.{rolled-two-units}
 use Rattle.book.proofs.laws.rows.SmallLaws.{sound-small, row-written, rows-written}
 use Rattle.book.proofs.laws.rows.BookingLaws.{kept-past}

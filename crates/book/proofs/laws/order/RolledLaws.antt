@@ -17,21 +17,22 @@ use Rattle.matching.proofs.laws.lists.EachLaws.{each-map, has-each}
 use Rattle.matching.proofs.laws.rolling.RollingLaws.{Sides, row-sides, traded-and-left, nothing-crosses-after}
 use Rattle.matching.proofs.laws.orders.ExchangeLaws.{isOf, openOf, Exchanged}
 use Rattle.matching.proofs.laws.rolling.MetLaws.{met-exchanged}
+use Rattle.matching.proofs.laws.orders.LeftLaws.{LessOrder, same-order, remains-append, met-remain}
 use Rattle.book.specs.Book.{EnrolledUnit, noUnit, Book, callPhase, rollingPhase, withUnits, withOrders, inPhase, numbered}
 use Rattle.book.specs.Trades.{unitTraded, booked, rowBooked, rowsBooked}
 use Rattle.book.specs.Fit.{Declaration, openRaising, openLowering, nothing}
 use Rattle.book.specs.Sound.{apart, eachTwo, sound}
 use Rattle.book.specs.Order.{orderDeclares, orderRefusal, newOrder, waiting, orderedInRolling, ordering}
-use Rattle.book.proofs.laws.sound.RemainLaws.{each-holds, Remains, ended, gone, kept, remains-all}
+use Rattle.matching.proofs.laws.lists.RemainLaws.{each-holds, Remains, ended, gone, kept, remains-all}
 use Rattle.book.proofs.laws.sound.FitLaws.{Fits}
 use Rattle.book.proofs.laws.sound.SoundLaws.{OrderRanges, Sound, sound-facts}
 use Rattle.book.proofs.laws.answer.RefusalLaws.{decided-sound}
-use Rattle.book.proofs.laws.sound.FormedLaws.{LessOffer, LessOrder, same-offer, same-order, order-after, two-remain, formed-remaining}
+use Rattle.book.proofs.laws.sound.FormedLaws.{LessOffer, same-offer, order-after, two-remain, formed-remaining}
 use Rattle.book.proofs.laws.sound.DeclareLaws.{withOrder, two-more, formed-order}
 use Rattle.book.proofs.laws.order.OrderingLaws.{Follows, OrderPassed, order-passed, one-direction-beside, order-fits}
 use Rattle.book.proofs.laws.rows.TradeLaws.{kept-rows}
 use Rattle.book.proofs.laws.rows.ExchangedLaws.{exchanged-sound}
-use Rattle.book.proofs.laws.order.LeftLaws.{Far, far-apart, remains-append, met-remain, TwoUnits, two-named}
+use Rattle.book.proofs.laws.order.LeftLaws.{Far, far-apart, TwoUnits, two-named}
 
 -- rows change the units alone, whatever else the book holds
 pub rows-units : (rs : List Row) (b c : Book) → b .units ≡ c .units → rowsBooked rs b .units ≡ rowsBooked rs c .units

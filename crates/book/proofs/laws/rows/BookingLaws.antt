@@ -13,12 +13,13 @@ use Rattle.measures.specs.Lists.{table}
 use Rattle.measures.proofs.ListLaws.{cond-true, cond-false, table-at, table-is, table-more}
 use Rattle.limits.specs.Units.{periods, generator}
 use Rattle.matching.specs.Orders.{Row}
+use Rattle.matching.specs.Memory.{rowAt, rowsIn}
 use Rattle.book.specs.Book.{Figures, noFigures, EnrolledUnit, Book, unitOf, withUnits}
 use Rattle.book.specs.Trades.{raises, markWith, markAfter, traded, unitTraded, booked, rowBooked, rowsBooked}
 use Rattle.book.specs.Opening.{bookWords}
 use Rattle.book.specs.Layout.{word, figuresAt, decode}
 use Rattle.book.specs.inner.Readable.{Readable}
-use Rattle.book.specs.inner.RowsIn.{rowAt, rowsIn, SmallAt, Small, FiguresPut, Kept, Traded, RowTraded, RowFits, RowsFit, smallFigures, RowsTraded}
+use Rattle.book.specs.inner.RowsIn.{SmallAt, Small, FiguresPut, Kept, Traded, RowTraded, RowFits, RowsFit, smallFigures, RowsTraded}
 use Rattle.book.proofs.laws.memory.RangeFacts.{unit-at, kind-at}
 use Rattle.book.proofs.laws.rows.FigureLaws.{unit-same, put-kept, put-book, put-small}
 

@@ -10,14 +10,15 @@ use Rattle.measures.proofs.RangeLaws.{In}
 use Rattle.limits.specs.Units.{periods, generator}
 use Rattle.matching.specs.Orders.{Order as OpenOrder, Row, sells, buys}
 use Rattle.matching.proofs.laws.orders.ExchangeLaws.{Exchanged}
+use Rattle.matching.proofs.laws.orders.LeftLaws.{LessOrder}
 use Rattle.book.specs.Book.{noUnit, Book, rollingPhase, unitOf, figuresOf, withUnits, withOrders, inPhase}
 use Rattle.book.specs.Trades.{raises, lowers, rowsBooked}
 use Rattle.book.specs.Fit.{openOrders, openRaising, openLowering, nothing}
 use Rattle.book.specs.Sound.{apart, eachTwo, sound}
-use Rattle.book.proofs.laws.sound.RemainLaws.{each-at, Remains, remains-all}
+use Rattle.matching.proofs.laws.lists.RemainLaws.{each-at, Remains, remains-all}
 use Rattle.book.proofs.laws.sound.FitLaws.{Moved, fits-after}
 use Rattle.book.proofs.laws.sound.SoundLaws.{UnitRanges, Sound, sound-holds}
-use Rattle.book.proofs.laws.sound.FormedLaws.{LessOffer, LessOrder, same-offer, Remaining, formed-remaining}
+use Rattle.book.proofs.laws.sound.FormedLaws.{LessOffer, same-offer, Remaining, formed-remaining}
 use Rattle.book.proofs.laws.rows.TradeLaws.{tradedBy, sold, bought, rowsRaise, rowsLower, Named, Kept, kept-rows, grown-rows}
 
 -- a unit's orders lose what it raises by the rows, and what it lowers

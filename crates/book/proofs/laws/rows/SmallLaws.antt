@@ -15,13 +15,13 @@ use Rattle.limits.specs.Units.{periods, mostCapacity, mostDays}
 use Rattle.limits.specs.Limits.{hourOf, hourLimit, volumeLimit}
 use Rattle.limits.proofs.LimitLaws.{term-most, hour-most, volume-most}
 use Rattle.matching.specs.Orders.{Row}
-use Rattle.matching.specs.Memory.{flatRow, flat, written}
+use Rattle.matching.specs.Memory.{flatRow, flat, written, rowAt, rowsIn}
 use Rattle.book.specs.Book.{Figures, noFigures, EnrolledUnit, noUnit, Book, unitOf, figuresOf}
 use Rattle.book.specs.Fit.{nothing, raisingToday, loweringToday, openRaising, openLowering, hourFits, termOf, volumeFits, unitFits}
 use Rattle.book.specs.Sound.{sound, unitIn}
 use Rattle.book.specs.Layout.{word, figuresAt, decode}
 use Rattle.book.specs.Contract.{soundIn}
-use Rattle.book.specs.inner.RowsIn.{rowAt, rowsIn, Small, smallFigures}
+use Rattle.book.specs.inner.RowsIn.{Small, smallFigures}
 use Rattle.book.proofs.laws.memory.RangeFacts.{units-held, unit-at}
 use Rattle.book.proofs.laws.answer.MadeLaws.{sound-book, sound-head}
 

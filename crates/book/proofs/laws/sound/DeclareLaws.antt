@@ -11,15 +11,16 @@ use borrow.Author.Tests.{eq-eqb, ne-eqb}
 use Rattle.measures.specs.Lists.{every, Each}
 use Rattle.measures.proofs.ListLaws.{and-true, not-fails}
 use Rattle.matching.specs.Orders.{Order as OpenOrder}
+use Rattle.matching.proofs.laws.orders.LeftLaws.{same-order}
 use Rattle.book.specs.Book.{OpenOffer, Book, rollingPhase, mostOffers, mostOrders, mostNumbers, unitOf, withOffers, withOrders, nextNumber, numbered}
 use Rattle.book.specs.Trades.{raises, lowers}
 use Rattle.book.specs.Fit.{openRaising, openLowering, Declaration}
 use Rattle.book.specs.Sound.{oneDirection, apart, eachTwo}
-use Rattle.book.proofs.laws.sound.RemainLaws.{each-holds, each-imp, each-append, every-append, every-both, rising-append}
+use Rattle.matching.proofs.laws.lists.RemainLaws.{each-holds, each-imp, each-append, every-append, every-both, rising-append}
 use Rattle.book.proofs.laws.sound.SoundLaws.{HeadRanges, OfferRanges, OrderRanges, otherNumber, Formed}
 use Rattle.book.proofs.laws.sound.FitLaws.{Moved}
 use Rattle.book.proofs.laws.sound.OpenLaws.{offerOpens, orderOpens, offers-more, orders-more}
-use Rattle.book.proofs.laws.sound.FormedLaws.{same-offer, same-order, Names, offer-after, order-after}
+use Rattle.book.proofs.laws.sound.FormedLaws.{same-offer, Names, offer-after, order-after}
 
 -- the book with an offer or an order more, under the next number
 abbrev pub withOffer : Book → OpenOffer → Book

@@ -1,7 +1,7 @@
 -- When offers and orders stay in their ranges, and a book keeps its form.
 use Prim.Native.Nat.{ℕ, _≤_, _<_}
 use mathlib.Core.Path.{_≡_, refl, ap, _∙_}
-use mathlib.Core.Bool.{Bool, true, not}
+use mathlib.Core.Bool.{Bool, true}
 use mathlib.Core.List.{List}
 use native.Mathlib.Omega.{arith}
 use lib.ListN.{length, getD}
@@ -9,10 +9,11 @@ use Rattle.measures.specs.Lists.{every, Each}
 use Rattle.measures.specs.Sharing.{total}
 use Rattle.measures.proofs.RangeLaws.{In}
 use Rattle.limits.specs.Units.{generator}
-use Rattle.matching.specs.Orders.{Order as OpenOrder, leaving, numbers}
+use Rattle.matching.specs.Orders.{Order as OpenOrder, leaving}
 use Rattle.book.specs.Book.{OpenOffer, Book, rollingPhase, mostUnits, mostNumbers, unitOf}
 use Rattle.book.specs.Sound.{oneDirection, apart, eachTwo}
-use Rattle.book.proofs.laws.sound.RemainLaws.{Remains, remains-each, remains-every, remains-length, remains-rising}
+use Rattle.matching.proofs.laws.orders.LeftLaws.{LessOrder}
+use Rattle.matching.proofs.laws.lists.RemainLaws.{Remains, remains-each, remains-every, remains-length, remains-rising}
 use Rattle.book.proofs.laws.sound.SoundLaws.{HeadRanges, UnitRanges, Sides, OfferRanges, OrderRanges, otherNumber, numbersApart, Formed}
 
 -- an offer with other amounts left
@@ -31,19 +32,9 @@ pub record LessOffer (x y : OpenOffer) : Type 0 where
   pub less : total left ≤ total (y .amounts)
   pub some : 0 < total (y .amounts) → 0 < total left
 
--- x is what is left of the order y
-pub record LessOrder (x y : OpenOrder) : Type 0 where
-  pub left : ℕ
-  pub is : x ≡ leaving y left
-  pub fewer : left ≤ y .quantity
-  pub some : 0 < y .quantity → 0 < left
-
 pub same-offer : (o : OpenOffer) → LessOffer o o
 same-offer o =
     record { mark = o .taken; left = o .amounts; is = refl; marked = λ h. h; long = refl; fewer = λ p. omega arith; less = omega arith; some = λ h. h }
-
-pub same-order : (o : OpenOrder) → LessOrder o o
-same-order o = record { left = o .quantity; is = refl; fewer = omega arith; some = λ h. h }
 
 -- what is named in b is so in b′
 pub record Names (b b′ : Book) : Type 0 where

@@ -11,11 +11,12 @@ use Rattle.measures.specs.Lists.{Each, sum}
 use Rattle.measures.proofs.ListLaws.{sumOf-append}
 use Rattle.limits.specs.Units.{periods}
 use Rattle.matching.specs.Orders.{Order as OpenOrder}
+use Rattle.matching.proofs.laws.orders.LeftLaws.{LessOrder}
 use Rattle.book.specs.Book.{Figures, noFigures, EnrolledUnit, OpenOffer, Book, unitOf, figuresOf}
 use Rattle.book.specs.Trades.{raises, lowers}
 use Rattle.book.specs.Fit.{openOrders, openOffers, openRaising, openLowering, nothing}
-use Rattle.book.proofs.laws.sound.RemainLaws.{Remains, remains-sum}
-use Rattle.book.proofs.laws.sound.FormedLaws.{LessOffer, LessOrder}
+use Rattle.matching.proofs.laws.lists.RemainLaws.{Remains, remains-sum}
+use Rattle.book.proofs.laws.sound.FormedLaws.{LessOffer}
 use Rattle.book.proofs.laws.sound.FitLaws.{raisedTo, volumeTo, Fits, Moved}
 
 cond-mono : (t : Bool) (x y : ℕ) → x ≤ y → cond t x 0 ≤ cond t y 0

@@ -18,7 +18,7 @@ use Rattle.matching.specs.Orders.{Order as OpenOrder, rising, numbers}
 use Rattle.book.specs.Book.{Figures, EnrolledUnit, OpenOffer, Book, rollingPhase, mostUnits, mostOffers, mostOrders, mostNumbers, known, unitOf}
 use Rattle.book.specs.Fit.{nothing, unitFits}
 use Rattle.book.specs.Sound.{headIn, unitIn, bilateralSides, offerSides, offerIn, orderIn, numbersDiffer, oneDirection, apart, eachTwo, sound}
-use Rattle.book.proofs.laws.sound.RemainLaws.{each-of, each-holds}
+use Rattle.matching.proofs.laws.lists.RemainLaws.{each-of, each-holds}
 use Rattle.book.proofs.laws.sound.FitLaws.{Fits, unit-fits, fits-unit}
 
 -- the ranges of the book's own figures

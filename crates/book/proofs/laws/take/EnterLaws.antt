@@ -14,7 +14,7 @@ use Rattle.measures.proofs.RangeLaws.{In}
 use Rattle.measures.proofs.ListLaws.{cond-case, table-at}
 use Rattle.limits.specs.Units.{periods, generator}
 use Rattle.matching.specs.Orders.{Row}
-use Rattle.matching.specs.Memory.{written}
+use Rattle.matching.specs.Memory.{written, rowAt, rowsIn}
 use Rattle.matching.proofs.laws.orders.RowLaws.{written-length}
 use Rattle.book.specs.Book.{Book, unitOf}
 use Rattle.book.specs.Trades.{rowsBooked}
@@ -23,7 +23,7 @@ use Rattle.book.specs.Opening.{bookWords}
 use Rattle.book.specs.Layout.{word, amountAt, offerAt, decode}
 use Rattle.book.specs.Contract.{soundIn}
 use Rattle.book.specs.inner.Readable.{Readable}
-use Rattle.book.specs.inner.RowsIn.{rowAt, rowsIn, Small, RowFits, RowsFit, smallFigures, RowsTraded, RowsPut, PartsThere, OfferLessened, PartTaken}
+use Rattle.book.specs.inner.RowsIn.{Small, RowFits, RowsFit, smallFigures, RowsTraded, RowsPut, PartsThere, OfferLessened, PartTaken}
 use Rattle.book.proofs.laws.answer.MadeLaws.{sound-readable}
 use Rattle.book.proofs.laws.rows.BookingLaws.{past-dropped}
 use Rattle.book.proofs.laws.rows.SmallLaws.{noRow, row-written, rows-written, sound-small}

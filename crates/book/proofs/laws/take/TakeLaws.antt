@@ -18,7 +18,7 @@ use Rattle.matching.specs.Orders.{Row}
 use Rattle.book.specs.Book.{OpenOffer, noOffer, Book, unitOf}
 use Rattle.book.specs.Fit.{openOffers}
 use Rattle.book.specs.Take.{takeRowsFrom, takeRows, wayOf, lessEach, offerLess, offersLess}
-use Rattle.book.proofs.laws.sound.RemainLaws.{Remains, gone, kept, ended, remains-all}
+use Rattle.matching.proofs.laws.lists.RemainLaws.{Remains, gone, kept, ended, remains-all}
 use Rattle.book.proofs.laws.sound.FormedLaws.{LessOffer, same-offer}
 use Rattle.book.proofs.laws.rows.TradeLaws.{tradedBy, rowsRaise, rowsLower, Named}
 

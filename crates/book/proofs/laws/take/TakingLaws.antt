@@ -16,6 +16,7 @@ use Rattle.measures.proofs.ListLaws.{both-ways, and-left, and-right}
 use Rattle.measures.proofs.SharingLaws.{no-part-exceeds}
 use Rattle.limits.specs.Units.{periods, generator}
 use Rattle.matching.specs.Orders.{Row}
+use Rattle.matching.proofs.laws.orders.LeftLaws.{LessOrder, same-order}
 use Rattle.book.specs.Book.{noUnit, OpenOffer, noOffer, Book, unitOf, figuresOf, offersOf, offerOf, withUnits, withOffers}
 use Rattle.book.specs.Trades.{rowsBooked}
 use Rattle.book.specs.Fit.{openOffers, openRaising, openLowering, Declaration, nothing}
@@ -36,11 +37,11 @@ use Rattle.book.specs.Refusals.{
 }
 use Rattle.book.specs.Offer.{raisingAmounts}
 use Rattle.book.specs.Take.{takenParts, takeRefusal, takeRows, offersLess, taking}
-use Rattle.book.proofs.laws.sound.RemainLaws.{each-at, remains-all, remains-keep, remains-each}
+use Rattle.matching.proofs.laws.lists.RemainLaws.{each-at, remains-all, remains-keep, remains-each}
 use Rattle.book.proofs.laws.sound.FitLaws.{Fits, fits-with, Moved, fits-after}
 use Rattle.book.proofs.laws.sound.SoundLaws.{UnitRanges, OfferRanges, Sound, sound-facts, sound-holds}
 use Rattle.book.proofs.laws.answer.RefusalLaws.{NoneApplies, none-applies, decided-sound}
-use Rattle.book.proofs.laws.sound.FormedLaws.{LessOrder, same-order, Remaining, formed-remaining}
+use Rattle.book.proofs.laws.sound.FormedLaws.{Remaining, formed-remaining}
 use Rattle.book.proofs.laws.rows.TradeLaws.{Kept, kept-rows, Grown, grown-rows}
 use Rattle.book.proofs.laws.take.TakeLaws.{offers-remain, offers-fall, rows-named, take-raises}
 

@@ -10,7 +10,7 @@ use Rattle.measures.specs.Lists.{keep}
 use Rattle.measures.proofs.RangeLaws.{In}
 use Rattle.measures.proofs.ListLaws.{cond-case}
 use Rattle.matching.specs.Orders.{Row}
-use Rattle.matching.specs.Memory.{written}
+use Rattle.matching.specs.Memory.{written, rowAt, rowsIn}
 use Rattle.matching.proofs.laws.orders.RowLaws.{written-length}
 use Rattle.book.specs.Book.{Figures, EnrolledUnit, OpenOffer, Book, unitOf, figuresOf, withOffers}
 use Rattle.book.specs.Trades.{rowsBooked}
@@ -19,7 +19,7 @@ use Rattle.book.specs.Opening.{bookWords}
 use Rattle.book.specs.Layout.{word, figuresAt, offerAt, decode}
 use Rattle.book.specs.Contract.{soundIn}
 use Rattle.book.specs.inner.Readable.{Readable}
-use Rattle.book.specs.inner.RowsIn.{rowAt, rowsIn, Small, RowFits, RowsFit, smallFigures, RowsTraded, RowsPut, PartsThere, WholeTaken}
+use Rattle.book.specs.inner.RowsIn.{Small, RowFits, RowsFit, smallFigures, RowsTraded, RowsPut, PartsThere, WholeTaken}
 use Rattle.book.proofs.laws.memory.RangeFacts.{units-held, offers-held, orders-held}
 use Rattle.book.proofs.laws.answer.MadeLaws.{sound-readable}
 use Rattle.book.proofs.laws.rows.SmallLaws.{noRow, row-written, rows-written, sound-small, figures-at}

@@ -1,9 +1,9 @@
 -- `numbers_differ`: the three tests of `numbersDiffer`, one by one.
-use mathlib.Core.Path.{_≡_, sym, ap, _∙_}
-use mathlib.Core.Bool.{true, false}
+use mathlib.Core.Path.{sym, _∙_}
+use native.Mathlib.Omega.{arith}
 use borrow.Author.Tests.{not-true, not-false}
-use Rattle.matching.specs.Orders.{Order as OpenOrder, rising, numbers}
-use Rattle.book.specs.Layout.{decode}
+use lib.ListN.{length-take, length-drop}
+use Rattle.matching.proofs.laws.orders.PlacedLaws.{rise-is}
 use Rattle.book.proofs.laws.check.NumberLaws.{differ-offers, differ-orders, differ-free, orders-from}
 use borrow.Author.Needs.{needs}
 use Rattle.book.proofs.numbers.numbers_differ.Statement.{statement}
@@ -33,7 +33,10 @@ numbers-rise-requires c κs = search needs
 returns-2 : tie.Need-returns-2
 returns-2 c =
     let c7 = c .before .before .before .before .before .before .before in
-    differ-orders (c7 .args .book .now) (rw (orders-from (c7 .args .book .now)) (sym (c .before .numbers-rise .ensures) ∙ not-true _ (c .if2 .taken)))
+    let p = c7 .pre in
+    let e = sym (c .before .numbers-rise .ensures) ∙ not-true _ (c .if2 .taken) in
+    differ-orders (c7 .args .book .now) (rw (orders-from (c7 .args .book .now))
+    (sym (rise-is _ _ (p .ordersTo) (simp (length-take, length-drop) (omega arith))) ∙ e))
 
 numbers-free-requires : tie.Need-numbers-free-requires
 numbers-free-requires c κs = search needs
@@ -43,10 +46,12 @@ returns-3 c =
     let c5 = c .before .before .before .before .before in
     let c6 = c5 .before in
     let c8 = c6 .before .before in
+    let p = c8 .pre in
+    let e = sym (c .before .before .numbers-rise .ensures) ∙ not-false _ (c .before .if2 .left) in
     c .numbers-free .ensures
     ∙ differ-free (c8 .args .book .now)
     (sym (c6 .offers-rise .ensures) ∙ not-false _ (c5 .if1 .left))
-    (rw (orders-from (c8 .args .book .now)) (sym (c .before .before .numbers-rise .ensures) ∙ not-false _ (c .before .if2 .left)))
+    (rw (orders-from (c8 .args .book .now)) (sym (rise-is _ _ (p .ordersTo) (simp (length-take, length-drop) (omega arith))) ∙ e))
 
 pub numbers-differ-spec : {M : Type 1} → statement M
 numbers-differ-spec =

@@ -2,6 +2,8 @@
 use native.Mathlib.Omega.{arith}
 use mathlib.Core.Path.{_∙_}
 use borrow.Rule.Slice.PartMut.{mid-len}
+use lib.ListN.{length-take, length-drop}
+use Rattle.matching.proofs.laws.orders.PlacedLaws.{place-there}
 use Rattle.book.proofs.laws.order.WaitLaws.{appended}
 use borrow.Author.Needs.{needs}
 use Rattle.book.proofs.ordering.append.Statement.{statement}
@@ -38,7 +40,8 @@ returns : tie.Need-returns
 returns c =
     let s = c .before .before .before .before .before .before in
     appended (s .args .book .now) (c .before .before .write .last .0) _ (omega arith) (c .before .before .write .kept .0
-    ∙ mid-len 240 1776 (s .args .book .now) (omega arith)) (c .before .before .write .ensures .0)
+    ∙ mid-len 240 1776 (s .args .book .now) (omega arith)) (c .before .before .write .ensures .orders
+    (place-there _ _ _ (omega arith) (simp (length-take, length-drop) (omega arith)) (omega arith)))
 
 pub append-spec : {M : Type 1} → statement M
 append-spec =

@@ -1,8 +1,6 @@
 -- `stands_apart`: no order before it is crossed, and its price is entered.
 use mathlib.Core.Path.{sym, _∙_}
 use borrow.Author.Tests.{not-true}
-use native.Mathlib.Omega.{arith}
-use Rattle.book.proofs.laws.check.ShareLaws.{order-words}
 use Rattle.book.proofs.laws.check.TogetherLaws.{not-priced, priced}
 use borrow.Author.Needs.{needs}
 use Rattle.book.proofs.pairs.stands_apart.Statement.{statement}
@@ -54,12 +52,7 @@ shared-slice-read-note-price-2 : tie.Need-shared-slice-read-note-price-2
 shared-slice-read-note-price-2 c = search needs
 
 note-price-requires : tie.Need-note-price-requires
-note-price-requires c κs =
-    let c12 = c .before .before .before .before .before .before .before .before .before .before .before .before in
-    let a = c12 .args in
-    let g = c12 .pre in
-    let o = order-words (a .book .now) (a .k) (g .0) (g .2) in
-    (omega (arith, o .period, g .0 .readable .daysTo), omega (arith, o .price .1), g .3, g .4)
+note-price-requires c κs = search needs
 
 same-length-3 : tie.Need-same-length-3
 same-length-3 c = search needs
@@ -76,7 +69,7 @@ returns-2 c =
     let a = c17 .args in
     let g = c17 .pre in
     let n = c4 .note-price .ensures in
-    rw (n .0, n .1) (priced (a .book .now) (g .0) (a .k) (g .2) (a .high .now) (a .low .now) (g .5) _ (c11 .crosses .ensures) (c10 .if1 .left) (g .3)
+    rw (n .0, n .1) (priced (a .book .now) (g .0) (a .k) (g .2) (a .high .now) (a .low .now) (g .5) (g .1) _ (c11 .crosses .ensures) (c10 .if1 .left) (g .3)
     (g .4))
 
 pub stands-apart-spec : {M : Type 1} → statement M

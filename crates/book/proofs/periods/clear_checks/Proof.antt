@@ -1,6 +1,6 @@
 -- `clear_checks`: a law for each way out.
 use native.Mathlib.Omega.{arith}
-use Rattle.book.proofs.laws.clear.PassingLaws.{clear-few-rows, clear-rolling, clear-passes}
+use Rattle.book.proofs.laws.clear.ClearCheckLaws.{clear-few-rows, clear-rolling, clear-passes}
 use borrow.Author.Needs.{needs}
 use Rattle.book.proofs.periods.clear_checks.Statement.{statement}
 use Rattle.book.proofs.periods.clear_checks.Tie as tie

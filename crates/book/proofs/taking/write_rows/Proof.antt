@@ -2,6 +2,7 @@
 use Prim.Native.Nat.{_≤_, _-_}
 use native.Mathlib.Omega.{arith}
 use lib.ListN.{take}
+use Rattle.matching.proofs.laws.orders.PlacedLaws.{room-there}
 use Rattle.book.proofs.laws.take.WritingLaws.{Writing, writing-none, writing-skip, writing-row, writing-end}
 use borrow.Author.Needs.{needs}
 use Rattle.book.proofs.taking.write_rows.Statement.{statement}
@@ -57,7 +58,7 @@ loop-again-2 c =
     let c10 = c7 .before .before .before in (
       omega arith,
       writing-row _ _ _ _ (c10 .args .parts .now) _ (c10 .pre .1) _ _ (c7 .loop .p) _ (c6 .loop-test .taken) (c7 .loop .inv .1) _
-          (c4 .if1 .left) (search needs) (c .before .before .put-row .ensures),
+          (c4 .if1 .left) (search needs) (c .before .before .put-row .ensures .row (room-there _ _ (omega arith))),
     )
 
 same-length : tie.Need-same-length Inv-loop μ-loop

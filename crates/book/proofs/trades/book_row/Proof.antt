@@ -1,5 +1,5 @@
 -- `book_row`: the seller sold, the buyer bought.
-use Rattle.book.specs.inner.RowsIn.{rowAt}
+use Rattle.matching.specs.Memory.{rowAt}
 use Rattle.book.proofs.laws.rows.BookingLaws.{row-traded, seller-asks, buyer-asks}
 use borrow.Author.Needs.{needs}
 use Rattle.book.proofs.trades.book_row.Statement.{statement}

@@ -15,6 +15,7 @@ use Rattle.measures.proofs.RangeLaws.{In, within}
 use Rattle.measures.proofs.ListLaws.{and-left, and-right}
 use Rattle.limits.specs.Units.{mostDays, mostCapacity, daysIn, periods, capacityIn, assetIn}
 use Rattle.matching.specs.Orders.{Order as OpenOrder, rising}
+use Rattle.matching.proofs.laws.orders.LeftLaws.{LessOrder, same-order}
 use Rattle.book.specs.Book.{Rules, Figures, noFigures, EnrolledUnit, noUnit, OpenOffer, Book, mostUnits, unitOf, figuresOf, withOffers, withOrders, noTrades}
 use Rattle.book.specs.Fit.{openOrders, openOffers, openRaising, openLowering, nothing}
 use Rattle.book.specs.Sound.{pricesIn, apart, eachTwo, sound}
@@ -24,11 +25,11 @@ use Rattle.book.specs.Enrol.{enrolRefusal, enrolled, enrolment}
 use Rattle.book.specs.Withdraw.{withdrawRefusal, withdrawal}
 use Rattle.book.specs.Cancel.{cancelRefusal, cancellation}
 use Rattle.book.specs.Close.{dayOver, unitDayOver, dayClosed, closing}
-use Rattle.book.proofs.laws.sound.RemainLaws.{each-by, each-append, each-imp, Remains, remains-all, remains-keep}
+use Rattle.matching.proofs.laws.lists.RemainLaws.{each-by, each-append, each-imp, Remains, remains-all, remains-keep}
 use Rattle.book.proofs.laws.sound.FitLaws.{Fits, Moved, fits-after}
 use Rattle.book.proofs.laws.sound.SoundLaws.{UnitRanges, OfferRanges, OrderRanges, Formed, Sound, sound-facts, sound-holds}
 use Rattle.book.proofs.laws.answer.RefusalLaws.{NoneApplies, none-applies, decided-sound}
-use Rattle.book.proofs.laws.sound.FormedLaws.{LessOffer, LessOrder, same-offer, same-order, Names, two-remain, Remaining, formed-remaining}
+use Rattle.book.proofs.laws.sound.FormedLaws.{LessOffer, same-offer, Names, two-remain, Remaining, formed-remaining}
 use Rattle.book.proofs.laws.sound.OpenLaws.{moved-remaining, idle-fits}
 
 -- a book that opening makes

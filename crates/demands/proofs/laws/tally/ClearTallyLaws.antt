@@ -6,21 +6,20 @@ use lib.ListN.{length}
 use Rattle.measures.proofs.RangeLaws.{In}
 use Rattle.limits.specs.Units.{periods}
 use Rattle.matching.specs.Orders.{Order as OpenOrder}
-use Rattle.matching.specs.Clearing.{clearPeriod}
+use Rattle.matching.specs.Clearing.{clearPeriod, clearFrom}
 use Rattle.matching.proofs.laws.lists.EachLaws.{Each, Has, has-each, each-map, each-append}
 use Rattle.matching.proofs.laws.clearing.ClearingLaws.{AskOf, BidOf, row-sides}
 use Rattle.book.specs.Book.{Book, rollingPhase, withOrders, inPhase}
 use Rattle.book.specs.Trades.{rowsBooked}
 use Rattle.book.specs.Refusals.{accepted}
-use Rattle.book.specs.Clear.{clearRefusal, clearFrom, clearing}
+use Rattle.book.specs.Clear.{clearRefusal, clearing}
 use Rattle.book.specs.Calls.{callClear, outcome}
 use Rattle.demands.specs.Tally.{Tally, accounted}
 use Rattle.demands.proofs.laws.tally.AgreeLaws.{Parties, Agree}
 use Rattle.demands.proofs.laws.tally.StandingLaws.{Standing}
 use Rattle.book.proofs.laws.sound.SoundLaws.{OrderRanges}
-use Rattle.book.proofs.laws.sound.RemainLaws.{remains-each}
-use Rattle.book.proofs.laws.sound.FormedLaws.{LessOrder}
-use Rattle.book.proofs.laws.order.LeftLaws.{cleared-remain}
+use Rattle.matching.proofs.laws.lists.RemainLaws.{remains-each}
+use Rattle.matching.proofs.laws.orders.LeftLaws.{LessOrder, cleared-remain}
 use Rattle.demands.proofs.laws.tally.AcceptedLaws.{AgreeAfter, decided-is, accepted-agree, agree-head, agree-changed}
 
 -- the rows name units that have open orders

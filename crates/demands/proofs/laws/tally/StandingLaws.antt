@@ -13,7 +13,7 @@ use Rattle.matching.proofs.laws.lists.EachLaws.{Each}
 use Rattle.book.specs.Book.{noUnit, OpenOffer, Book, unitOf}
 use Rattle.book.specs.Fit.{nothing}
 use Rattle.book.specs.Sound.{eachTwo, oneDirection, sound}
-use Rattle.book.proofs.laws.sound.RemainLaws.{each-of, each-at}
+use Rattle.matching.proofs.laws.lists.RemainLaws.{each-of, each-at}
 use Rattle.book.proofs.laws.sound.FitLaws.{Fits}
 use Rattle.book.proofs.laws.sound.SoundLaws.{UnitRanges, OfferRanges, OrderRanges, sound-facts}
 

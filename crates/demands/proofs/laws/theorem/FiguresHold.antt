@@ -7,7 +7,7 @@ use Rattle.limits.specs.Limits.{hourLimit, termLimit, volumeLimit}
 use Rattle.limits.proofs.FiguresHold.{figure5-holds, figure6-holds}
 use Rattle.matching.specs.Orders.{rising, lessen, bidAhead, askAhead, insert, laid}
 use Rattle.matching.specs.Rolling.{candidate, counterparts, matches, matchRow, afterMatches, meet}
-use Rattle.matching.specs.Clearing.{tradedAt, largest, clearedVolume, marginal, filled, fillsOf, endToEnd, rowsOfBid, overlapRows, afterFills, clearPeriod}
+use Rattle.matching.specs.Clearing.{tradedAt, largest, clearedVolume, marginal, filled, fillsOf, endToEnd, rowsOfBid, overlapRows, afterFills, clearPeriod, clearFrom}
 use Rattle.matching.proofs.laws.figures.FiguresHold.{figure2-holds, figure3-holds, figure4-holds}
 use Rattle.book.specs.Trades.{traded, booked, rowsBooked}
 use Rattle.book.specs.Fit.{openOrders, openOffers, openRaising, openLowering, hourFits, hoursFit, termFits, volumeFits, unitFits}
@@ -18,7 +18,7 @@ use Rattle.book.specs.Enrol.{enrolRefusal, enrolment}
 use Rattle.book.specs.Offer.{offerRefusal, offering}
 use Rattle.book.specs.Take.{takeRefusal, takeRowsFrom, takeRows, lessEach, offersLess, taking}
 use Rattle.book.specs.Order.{orderRefusal, waiting, ordering}
-use Rattle.book.specs.Clear.{clearRefusal, clearFrom, clearing}
+use Rattle.book.specs.Clear.{clearRefusal, clearing}
 use Rattle.book.specs.Close.{closing}
 use Rattle.book.specs.Curve.{curveRefusal, pointsFrom, curve}
 use Rattle.book.specs.Calls.{answers, bookAfter}

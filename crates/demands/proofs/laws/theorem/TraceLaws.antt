@@ -11,7 +11,7 @@ use lib.Dec.{eqb, leb}
 use Rattle.measures.proofs.RangeLaws.{In, within}
 use Rattle.measures.proofs.ListLaws.{cond-true, cond-false, and-true}
 use Rattle.matching.specs.Orders.{Row}
-use Rattle.matching.specs.Memory.{written}
+use Rattle.matching.specs.Memory.{written, rowsIn}
 use Rattle.book.specs.declared.Answer.{Answer}
 use Rattle.book.specs.declared.Answer.the-variants.{Done, Refused}
 use Rattle.book.specs.Book.{Rules, Book}
@@ -20,7 +20,6 @@ use Rattle.book.specs.Refusals.{Outcome, firstOf}
 use Rattle.book.specs.Opening.{bookWords, fresh, openingRefusal}
 use Rattle.book.specs.Curve.{Drawn, curve, curveRefusal, curveChecks, points, pointsFrom}
 use Rattle.book.specs.Layout.{word, decode, enough}
-use Rattle.book.specs.inner.RowsIn.{rowsIn}
 use Rattle.book.specs.Calls.{Call, callEnrol, callOffer, callTake, callWithdraw, callOrder, callCancel, callClear, callClose, outcome, answered}
 use Rattle.book.specs.Calls.{Answer as Heard}
 use Rattle.book.specs.Contract.{Told, toldBy, soundIn, outcomeOn, Made, Opened, curveOn, Curved}

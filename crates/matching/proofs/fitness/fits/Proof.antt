@@ -22,11 +22,11 @@ mul-if3 c = search needs
 returns-3 : tie.Need-returns-3
 returns-3 c = sym (not-lent _ _ _ (omega arith) (omega arith) (omega arith))
 
-numbers-rise-requires : tie.Need-numbers-rise-requires
-numbers-rise-requires c κs = search needs
+rise-requires : tie.Need-rise-requires
+rise-requires c κs = search needs
 
 returns-4 : tie.Need-returns-4
-returns-4 c = sym (not-rising _ _ _ (omega arith) (omega arith) (omega arith) (sym (c .before .numbers-rise .ensures) ∙ not-true _ (c .if4 .taken)))
+returns-4 c = sym (not-rising _ _ _ (omega arith) (omega arith) (omega arith) (sym (c .before .rise .ensures) ∙ not-true _ (c .if4 .taken)))
 
 quantities-fit-requires : tie.Need-quantities-fit-requires
 quantities-fit-requires c κs = search needs
@@ -34,7 +34,7 @@ quantities-fit-requires c κs = search needs
 returns-5 : tie.Need-returns-5
 returns-5 c =
     c .quantities-fit .ensures
-    ∙ sym (is-fit _ _ _ (omega arith) (omega arith) (omega arith) (sym (c .before .before .numbers-rise .ensures) ∙ not-false _ (c .before .if4 .left)))
+    ∙ sym (is-fit _ _ _ (omega arith) (omega arith) (omega arith) (sym (c .before .before .rise .ensures) ∙ not-false _ (c .before .if4 .left)))
 
 pub fits-spec : {M : Type 1} → statement M
 fits-spec =
@@ -45,7 +45,7 @@ fits-spec =
     returns-2
     mul-if3
     returns-3
-    numbers-rise-requires
+    rise-requires
     returns-4
     quantities-fit-requires
     returns-5)

@@ -99,17 +99,17 @@ pub margins-found : (bl al : List Order) (i j rb ra v b s : ℕ) → Walking bl 
 margins-found bl al i j rb ra v b s w e = record { cleared = sym e; ofBids = λ h. sym (w .walk .marginBid h); ofAsks = λ h. sym (w .walk .marginAsk h) }
 
 -- the walk by places
-pub record Meeting (m bs ks : List ℕ) (nb na i j rb ra v b s : ℕ) : Type 0 where
+pub record WalkAt (m bs ks : List ℕ) (nb na i j rb ra v b s : ℕ) : Type 0 where
   pub bidsIn : i ≤ nb
   pub asksIn : j ≤ na
   pub walking : Walking (ordersAt m (take nb bs)) (ordersAt m (take na ks)) i j rb ra v b s
 
-pub meeting-start : (m bs ks : List ℕ) (nb na rb ra : ℕ) → rb ≡ getD (ordersAt m (take nb bs)) 0 noOrder .quantity → ra
-    ≡ getD (ordersAt m (take na ks)) 0 noOrder .quantity → Meeting m bs ks nb na 0 0 rb ra 0 0 0
-meeting-start m bs ks nb na rb ra eb ea =
+pub walk-at-start : (m bs ks : List ℕ) (nb na rb ra : ℕ) → rb ≡ getD (ordersAt m (take nb bs)) 0 noOrder .quantity → ra
+    ≡ getD (ordersAt m (take na ks)) 0 noOrder .quantity → WalkAt m bs ks nb na 0 0 rb ra 0 0 0
+walk-at-start m bs ks nb na rb ra eb ea =
     record { bidsIn = omega arith; asksIn = omega arith; walking = rw (eb, ea) (walking-start (ordersAt m (take nb bs)) (ordersAt m (take na ks))) }
 
-module _ (m bs ks : List ℕ) (n nb na i j rb ra v b s : ℕ) (sd : Sides m bs ks n nb na) (g : Meeting m bs ks nb na i j rb ra v b s) where
+module _ (m bs ks : List ℕ) (n nb na i j rb ra v b s : ℕ) (sd : Sides m bs ks n nb na) (g : WalkAt m bs ks nb na i j rb ra v b s) where
   abbrev bl : List Order
   bl = ordersAt m (take nb bs)
 
@@ -119,8 +119,8 @@ module _ (m bs ks : List ℕ) (n nb na i j rb ra v b s : ℕ) (sd : Sides m bs k
   so : Sorted bl al nb na
   so = sorted m bs ks n nb na sd
 
-  pub meeting-bid : (q : ℕ) → i < nb → rb ≡ 0 → q ≡ getD bl (i + 1) noOrder .quantity → Meeting m bs ks nb na (i + 1) j q ra v b s
-  meeting-bid q h e eq =
+  pub walk-at-bid : (q : ℕ) → i < nb → rb ≡ 0 → q ≡ getD bl (i + 1) noOrder .quantity → WalkAt m bs ks nb na (i + 1) j q ra v b s
+  walk-at-bid q h e eq =
       record {
         bidsIn = omega arith;
         asksIn = g .asksIn;
@@ -128,8 +128,8 @@ module _ (m bs ks : List ℕ) (n nb na i j rb ra v b s : ℕ) (sd : Sides m bs k
             (walking-next-bid bl al i j rb ra v b s (g .walking) (omega (arith, so .manyBids)) e);
       }
 
-  pub meeting-ask : (q : ℕ) → j < na → ra ≡ 0 → q ≡ getD al (j + 1) noOrder .quantity → Meeting m bs ks nb na i (j + 1) rb q v b s
-  meeting-ask q h e eq =
+  pub walk-at-ask : (q : ℕ) → j < na → ra ≡ 0 → q ≡ getD al (j + 1) noOrder .quantity → WalkAt m bs ks nb na i (j + 1) rb q v b s
+  walk-at-ask q h e eq =
       record {
         bidsIn = g .bidsIn;
         asksIn = omega arith;
@@ -137,14 +137,14 @@ module _ (m bs ks : List ℕ) (n nb na i j rb ra v b s : ℕ) (sd : Sides m bs k
             (walking-next-ask bl al i j rb ra v b s (g .walking) (omega (arith, so .manyAsks)) e);
       }
 
-  pub meeting-small : v + rb ≤ mostEnergy
-  meeting-small = let w = walking-small bl al i j rb ra v b s (g .walking) in omega (arith, so .small)
+  pub walk-at-small : v + rb ≤ mostEnergy
+  walk-at-small = let w = walking-small bl al i j rb ra v b s (g .walking) in omega (arith, so .small)
 
-  pub meeting-bids-end : nb ≤ i → AreMargins bl al v b s
-  meeting-bids-end h = margins-found bl al i j rb ra v b s (g .walking) (walking-bids-end bl al i j rb ra v b s (g .walking) (omega (arith, so .manyBids)))
+  pub walk-at-bids-end : nb ≤ i → AreMargins bl al v b s
+  walk-at-bids-end h = margins-found bl al i j rb ra v b s (g .walking) (walking-bids-end bl al i j rb ra v b s (g .walking) (omega (arith, so .manyBids)))
 
-  pub meeting-asks-end : na ≤ j → AreMargins bl al v b s
-  meeting-asks-end h = margins-found bl al i j rb ra v b s (g .walking) (walking-asks-end bl al i j rb ra v b s (g .walking) (omega (arith, so .manyAsks)))
+  pub walk-at-asks-end : na ≤ j → AreMargins bl al v b s
+  walk-at-asks-end h = margins-found bl al i j rb ra v b s (g .walking) (walking-asks-end bl al i j rb ra v b s (g .walking) (omega (arith, so .manyAsks)))
 
   module _ (x y : Order) (hi : i < nb) (hj : j < na) (ex : x ≡ orderAt m (getD bs i 0)) (ey : y ≡ orderAt m (getD ks j 0)) where
     bid-is : priceAt bl i ≡ x .price
@@ -153,9 +153,9 @@ module _ (m bs ks : List ℕ) (n nb na i j rb ra v b s : ℕ) (sd : Sides m bs k
     ask-is : priceAt al j ≡ y .price
     ask-is = ap (λ (o : Order). o .price) (here-at m ks n na _ (sd .asksStand) j hj ∙ sym ey)
 
-    pub meeting-takes : (t : ℕ) → y .price ≤ x .price → t ≡ min rb ra → (rb ≡ 0 → ⊥) → (ra ≡ 0 → ⊥)
-        → Meeting m bs ks nb na i j (rb - t) (ra - t) (v + t) (x .price) (y .price)
-    meeting-takes t le et nb0 na0 =
+    pub walk-at-takes : (t : ℕ) → y .price ≤ x .price → t ≡ min rb ra → (rb ≡ 0 → ⊥) → (ra ≡ 0 → ⊥)
+        → WalkAt m bs ks nb na i j (rb - t) (ra - t) (v + t) (x .price) (y .price)
+    walk-at-takes t le et nb0 na0 =
         record {
           bidsIn = g .bidsIn;
           asksIn = g .asksIn;
@@ -165,8 +165,8 @@ module _ (m bs ks : List ℕ) (n nb na i j rb ra v b s : ℕ) (sd : Sides m bs k
               (omega (arith, bid-is, ask-is)) t et (omega arith));
         }
 
-    pub meeting-apart : x .price < y .price → AreMargins bl al v b s
-    meeting-apart lt =
+    pub walk-at-apart : x .price < y .price → AreMargins bl al v b s
+    walk-at-apart lt =
         margins-found bl al i j rb ra v b s (g .walking)
         (walking-apart bl al i j rb ra v b s (g .walking) (so .falls) (so .rises) (omega (arith, so .manyBids)) (omega (arith, so .manyAsks))
         (omega (arith, bid-is, ask-is)))

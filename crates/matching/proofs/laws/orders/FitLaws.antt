@@ -14,7 +14,7 @@ use Rattle.measures.specs.Ranges.{mostEnergy}
 use Rattle.measures.proofs.ListLaws.{and-true, and-left, and-right, every-at, every-by, sumOf-drop}
 use Rattle.matching.specs.Orders.{Order, rising, numbers, quantities}
 use Rattle.matching.specs.Memory.{ordersIn, noOrder}
-use Rattle.matching.specs.Answers.{fit}
+use Rattle.matching.specs.Answers.{fit, fitBelow}
 use Rattle.matching.proofs.laws.orders.OrderLaws.{orders-length, orders-at}
 
 -- each number is above the one before it
@@ -172,3 +172,25 @@ fit-gives m rows n e =
       rises = and-right (a && b && c) d e4;
       small = leb-true (quantities (ordersIn m n)) mostEnergy (and-right (a && b && c && d) (leb (quantities (ordersIn m n)) mostEnergy) e);
     }
+
+-- and for periods one after the other
+module _ (m rows : List ℕ) (n end : ℕ) where
+  pub below-unfit : fit m n rows ≡ false → fitBelow m n end rows ≡ false
+  unfolding fitBelow
+  below-unfit e = rw e
+
+  pub below-lent : fit m n rows ≡ true → length rows < 12 * n → fitBelow m n end rows ≡ false
+  unfolding fitBelow
+  below-lent e h = rw (e, lt-leb (12 * n) (length rows) h)
+
+  pub below-is : fit m n rows ≡ true → 12 * n ≤ length rows → fitBelow m n end rows ≡ leb end 744
+  unfolding fitBelow
+  below-is e h = rw (e, le-leb (12 * n) (length rows) h)
+
+  pub below-gives : fitBelow m n end rows ≡ true → Fit m rows n × (12 * n ≤ length rows) × (end ≤ 744)
+  unfolding fitBelow
+  below-gives e =
+      let a = fit m n rows in
+      let b = leb (12 * n) (length rows) in
+      let t = and-left (a && b) (leb end 744) e in
+      (fit-gives m rows n (and-left a b t), leb-true (12 * n) (length rows) (and-right a b t), leb-true end 744 (and-right (a && b) (leb end 744) e))

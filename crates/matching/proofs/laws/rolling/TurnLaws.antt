@@ -16,11 +16,11 @@ use Rattle.measures.specs.Sharing.{total}
 use Rattle.measures.proofs.ListLaws.{both-ways, cond-case, sumOf-append}
 use Rattle.matching.specs.declared.orders.Matched.{Matched}
 use Rattle.matching.specs.Orders.{Order, Row, bidAhead, askAhead, laid, quantities}
-use Rattle.matching.specs.Memory.{orderAt, ordersIn, written}
+use Rattle.matching.specs.Memory.{mostWord, orderAt, ordersIn, written}
 use Rattle.matching.specs.Rolling.{Match, candidate, aheadFor, counterparts, matches, matchRow, afterMatches, meet}
 use Rattle.matching.specs.Clearing.{Fill, filled, afterFills}
 use Rattle.matching.specs.inner.Places.{ordersAt, aheadOn, fillsAt, Filling}
-use Rattle.matching.specs.inner.Runs.{mostWord, keyOf, wanted, merged, runAt, Runs, FirstOf, InTurn}
+use Rattle.matching.specs.inner.Runs.{keyOf, wanted, merged, runAt, Runs, FirstOf, RunsMet, InTurn}
 use Rattle.matching.specs.Answers.{fit, Answer, answerOf, Meets}
 use Rattle.matching.proofs.laws.orders.OrderLaws.{orders-length}
 use Rattle.matching.proofs.laws.orders.RowLaws.{written-none}
@@ -100,7 +100,7 @@ counterparts-few i m n = omega (
 )
 
 -- where matching stands, with q left of the incoming order
-pub record Meeting (m ks ps es : List ℕ) (d n r : ℕ) (i : Order) (rows₀ hs met taken rows : List ℕ) (q c : ℕ) : Type 0 where
+pub record MetSoFar (m ks ps es : List ℕ) (d n r : ℕ) (i : Order) (rows₀ hs met taken rows : List ℕ) (q c : ℕ) : Type 0 where
   pub runs : Runs m ks ps hs es d n r
   pub few : c + length (merged (aheadOn d) (runAt m ps hs es) r) ≤ n
   pub below : every (λ p. ltb p n) (take c met) ≡ true
@@ -112,12 +112,12 @@ pub record Meeting (m ks ps es : List ℕ) (d n r : ℕ) (i : Order) (rows₀ hs
   pub given : q + sumOf (λ d. d .quantity) done ≡ i .quantity
   pub rest : done ++ matches q (merged (aheadOn d) (runAt m ps hs es) r) ≡ matches (i .quantity) (counterparts i (ordersIn m n))
 
-pub meeting-start : (m ks ps hs es : List ℕ) (d n r : ℕ) (i : Order) (met taken rows : List ℕ) → Runs m ks ps hs es d n r
-    → merged (aheadOn d) (runAt m ps hs es) r ≡ counterparts i (ordersIn m n) → Meeting m ks ps es d n r i rows hs met taken rows (i .quantity) 0
-meeting-start m ks ps hs es d n r i met taken rows g e =
+pub meeting-start : (m ks ps hs es : List ℕ) (n r : ℕ) (i : Order) (met taken rows : List ℕ) → RunsMet m ks ps hs es n r i
+    → MetSoFar m ks ps es (1 - i .direction) n r i rows hs met taken rows (i .quantity) 0
+meeting-start m ks ps hs es n r i met taken rows g =
     record {
-      runs = g;
-      few = rw e (omega (arith, counterparts-few i m n));
+      runs = g .runs;
+      few = rw (g .held) (omega (arith, counterparts-few i m n));
       below = refl;
       done = [];
       counted = refl;
@@ -125,17 +125,16 @@ meeting-start m ks ps hs es d n r i met taken rows g e =
       amounts = refl;
       handed = written-none rows;
       given = add-zero (i .quantity);
-      rest = ap (matches (i .quantity)) e;
+      rest = ap (matches (i .quantity)) (g .held);
     }
 
--- the same from the side that is met
-pub meeting-begins : (m ks ps hs es : List ℕ) (d n r : ℕ) (i : Order) (met taken rows : List ℕ) (period limit : ℕ) → ((k : ℕ) → getD m k 0 ≤ mostWord)
-    → i .price ≤ mostWord → i .direction < 2
-    → d ≡ 1 - i .direction → period ≡ i .period → limit ≡ keyOf (1 - i .direction) (i .price) → Runs m ks ps hs es d n r
+-- the runs of the side that is met hold the counterparts
+pub runs-met : (m ks ps hs es : List ℕ) (d n r : ℕ) (i : Order) (period limit : ℕ) → ((k : ℕ) → getD m k 0 ≤ mostWord) → i .price ≤ mostWord
+    → i .direction < 2 → d ≡ 1 - i .direction → period ≡ i .period → limit ≡ keyOf (1 - i .direction) (i .price) → Runs m ks ps hs es d n r
     → merged (aheadOn d) (runAt m ps hs es) r ≡ laid (aheadOn d) (keep (wanted d period limit) (ordersIn m n))
-    → Meeting m ks ps es (1 - i .direction) n r i rows hs met taken rows (i .quantity) 0
-meeting-begins m ks ps hs es d n r i met taken rows period limit words hi small ed ep el g e =
-    rw (← ed) (meeting-start m ks ps hs es d n r i met taken rows g (e ∙ side-is i m n d period limit words hi small ed ep el))
+    → RunsMet m ks ps hs es n r i
+runs-met m ks ps hs es d n r i period limit words hi small ed ep el g e =
+    record { runs = rw (← ed) g; held = rw (← ed) (e ∙ side-is i m n d period limit words hi small ed ep el) }
 
 -- a match with the order that was read
 pub least-of : (x q : ℕ) (o p : Order) → x ≡ min q (o .quantity) → o ≡ p → x ≡ min q (p .quantity)
@@ -145,7 +144,7 @@ pub row-of : (i : Order) (row : Row) (o p : Order) (x : ℕ) → row ≡ matchRo
 row-of i row o p x e h = e ∙ ap (λ (z : Order). matchRow i (match z x)) h
 
 module _ (m ks ps es : List ℕ) (d n r : ℕ) (i : Order) (rows₀ hs met taken rows : List ℕ) (q c : ℕ)
-    (g : Meeting m ks ps es d n r i rows₀ hs met taken rows q c) where
+    (g : MetSoFar m ks ps es d n r i rows₀ hs met taken rows q c) where
   abbrev left : List Order
   left = merged (aheadOn d) (runAt m ps hs es) r
 
@@ -163,7 +162,7 @@ module _ (m ks ps es : List ℕ) (d n r : ℕ) (i : Order) (rows₀ hs met taken
     pub meeting-more : (hs′ rows′ : List ℕ) → (q ≡ 0 → ⊥) → p ≡ getD ps (getD hs b 0) 0 → hs′ ≡ set hs b (getD hs b 0 + 1) → x
         ≡ min q (orderAt m p .quantity)
         → rows′ ≡ written rows₀ (map (matchRow i) (g .done) ++ (matchRow i (match (orderAt m p) x) ∷ []))
-        → Meeting m ks ps es d n r i rows₀ hs′ (set met c p) (set taken c x) rows′ (q - x) (c + 1)
+        → MetSoFar m ks ps es d n r i rows₀ hs′ (set met c p) (set taken c x) rows′ (q - x) (c + 1)
     meeting-more hs′ rows′ some ep eh ex er =
         let room : (b < r) × (getD hs b 0 < getD es b 0) × (getD hs b 0 < n) × (getD ps (getD hs b 0) 0 < n) × (c < n) = meeting-room in
         let o = orderAt m p in
@@ -298,12 +297,11 @@ counterparts-none i os h =
     let k : keep (candidate i) os ≡ [] = keep-nothing (candidate i) os (each-all (λ o. candidate i o ≡ false) os (λ o. no-side i o h)) in
     rw k
 
-pub meets-none : (m rows : List ℕ) (n : ℕ) (i : Order) (a : Matched) → fit m n rows ≡ true → 1 < i .direction
+-- where nothing matches, all stays
+meets-alone : (m rows : List ℕ) (n : ℕ) (i : Order) (a : Matched) → fit m n rows ≡ true → matches (i .quantity) (counterparts i (ordersIn m n)) ≡ []
     → answerOf a ≡ record { fits = true; left = i .quantity; count = 0; standing = n } → Meets m rows n i a m rows
 unfolding meet
-meets-none m rows n i a e h ea =
-    let z : matches (i .quantity) (counterparts i (ordersIn m n)) ≡ [] = ap (matches (i .quantity)) (counterparts-none i (ordersIn m n) h)
-    ∙ matches-none (i .quantity) in
+meets-alone m rows n i a e z ea =
     let s : sumOf (λ d. d .quantity) (matches (i .quantity) (counterparts i (ordersIn m n))) ≡ 0 = ap (λ (l : List Match). sumOf (λ d. d .quantity) l) z in
     record {
       fits = ap (λ (y : Answer). y .fits) ea ∙ sym e;
@@ -315,3 +313,13 @@ meets-none m rows n i a e h ea =
       handed = λ f. written-none rows ∙ sym (ap (λ (l : List Match). written rows (map (matchRow i) l)) z);
       past = refl;
     }
+
+pub meets-none : (m rows : List ℕ) (n : ℕ) (i : Order) (a : Matched) → fit m n rows ≡ true → 1 < i .direction
+    → answerOf a ≡ record { fits = true; left = i .quantity; count = 0; standing = n } → Meets m rows n i a m rows
+meets-none m rows n i a e h ea =
+    meets-alone m rows n i a e (ap (matches (i .quantity)) (counterparts-none i (ordersIn m n) h) ∙ matches-none (i .quantity)) ea
+
+-- and an order of which nothing is open
+pub meets-spent : (m rows : List ℕ) (n : ℕ) (i : Order) (a : Matched) → fit m n rows ≡ true → i .quantity ≡ 0
+    → answerOf a ≡ record { fits = true; left = i .quantity; count = 0; standing = n } → Meets m rows n i a m rows
+meets-spent m rows n i a e z ea = meets-alone m rows n i a e (matches-spent (i .quantity) (counterparts i (ordersIn m n)) z) ea

@@ -3,15 +3,15 @@ use native.Mathlib.Omega.{arith}
 use Rattle.matching.proofs.laws.laying.LayingLaws.{stand-below}
 use Rattle.matching.proofs.laws.clearing.PlaceLaws.{
   stand-here,
-  Meeting,
-  meeting-start,
-  meeting-bid,
-  meeting-ask,
-  meeting-takes,
-  meeting-small,
-  meeting-bids-end,
-  meeting-asks-end,
-  meeting-apart,
+  WalkAt,
+  walk-at-start,
+  walk-at-bid,
+  walk-at-ask,
+  walk-at-takes,
+  walk-at-small,
+  walk-at-bids-end,
+  walk-at-asks-end,
+  walk-at-apart,
   turns,
   turns-bid,
   turns-ask,
@@ -23,7 +23,7 @@ use Rattle.matching.proofs.margins.find_margins.Tie as tie
 
 abbrev Inv-loop : tie.InvT-loop
 Inv-loop orders n bids nb asks na volume₀ bid₀ ask₀ i₀ j₀ demand₀ supply₀ volume bid ask i j demand supply =
-    Meeting orders bids asks nb na i j demand supply volume bid ask
+    WalkAt orders bids asks nb na i j demand supply volume bid ask
 
 abbrev μ-loop : tie.MeasureT-loop
 μ-loop orders n bids nb asks na volume₀ bid₀ ask₀ i₀ j₀ demand₀ supply₀ volume bid ask i j demand supply = turns nb na i j demand supply
@@ -39,12 +39,12 @@ open-at-requires-2 c κs =
     (s .pre .0, s .pre .1, stand-here _ _ _ _ _ (s .pre .2 .asksStand))
 
 loop-holds : tie.Need-loop-holds Inv-loop μ-loop
-loop-holds c = meeting-start _ _ _ _ _ _ _ (c .before .open-at .ensures) (c .open-at2 .ensures)
+loop-holds c = walk-at-start _ _ _ _ _ _ _ (c .before .open-at .ensures) (c .open-at2 .ensures)
 
 returns : tie.Need-returns Inv-loop μ-loop
 returns c =
     let c8 = c .before .before .before .before .before .before .before .before in
-    meeting-asks-end _ _ _ _ _ _ _ _ _ _ _ _ _ (c8 .pre .2) (c .before .before .loop .inv) (omega arith)
+    walk-at-asks-end _ _ _ _ _ _ _ _ _ _ _ _ _ (c8 .pre .2) (c .before .before .loop .inv) (omega arith)
 
 mul-read : tie.Need-mul-read Inv-loop μ-loop
 mul-read c = search needs
@@ -79,7 +79,7 @@ returns-2 c =
     let c8 = c5 .before .before .before in
     let c9 = c8 .before in
     let c15 = c9 .before .before .before .before .before .before in
-    meeting-apart _ _ _ _ _ _ _ _ _ _ _ _ _ (c15 .pre .2) (c9 .loop .inv) _ _ (c8 .loop-test .taken) (omega arith) (c5 .read .ensures) (c3 .read2 .ensures)
+    walk-at-apart _ _ _ _ _ _ _ _ _ _ _ _ _ (c15 .pre .2) (c9 .loop .inv) _ _ (c8 .loop-test .taken) (omega arith) (c5 .read .ensures) (c3 .read2 .ensures)
     (c .if2 .taken)
 
 add-i : tie.Need-add-i Inv-loop μ-loop
@@ -111,7 +111,7 @@ loop-again c =
     let c10 = c .before .before .before .before .before .before .before .before .before .before in
     let c11 = c10 .before in
     let c17 = c11 .before .before .before .before .before .before in
-    meeting-bid _ _ _ _ _ _ _ _ _ _ _ _ _ (c17 .pre .2) (c11 .loop .inv) _ (c10 .loop-test .taken) (c .before .if3 .taken) (c .open-at3 .ensures)
+    walk-at-bid _ _ _ _ _ _ _ _ _ _ _ _ _ (c17 .pre .2) (c11 .loop .inv) _ (c10 .loop-test .taken) (c .before .if3 .taken) (c .open-at3 .ensures)
 
 add-j : tie.Need-add-j Inv-loop μ-loop
 add-j c =
@@ -137,7 +137,7 @@ loop-less-2 c =
 
 loop-again-2 : tie.Need-loop-again-2 Inv-loop μ-loop
 loop-again-2 c =
-    meeting-ask _ _ _ _ _ _ _ _ _ _ _ _ _ (c .before .before .before .before .before .before .before .before .before .before .before .before .before .before
+    walk-at-ask _ _ _ _ _ _ _ _ _ _ _ _ _ (c .before .before .before .before .before .before .before .before .before .before .before .before .before .before
     .before .before .before .before .pre .2) (c .before .before .before .before .before .before .before .before .before .before .before .before .loop
     .inv) _ (omega arith) (c .before .if4 .taken) (c .open-at4 .ensures)
 
@@ -148,7 +148,7 @@ add-volume : tie.Need-add-volume Inv-loop μ-loop
 add-volume c =
     let c12 = c .before .before .before .before .before .before .before .before .before .before .before .before in
     let c18 = c12 .before .before .before .before .before .before in
-    let b = meeting-small _ _ _ _ _ _ _ _ _ _ _ _ _ (c18 .pre .2) (c12 .loop .inv) in
+    let b = walk-at-small _ _ _ _ _ _ _ _ _ _ _ _ _ (c18 .pre .2) (c12 .loop .inv) in
     omega arith
 
 sub-demand : tie.Need-sub-demand Inv-loop μ-loop
@@ -173,13 +173,13 @@ loop-again-3 c =
     let c11 = c8 .before .before .before in
     let c12 = c11 .before in
     let c18 = c12 .before .before .before .before .before .before in
-    meeting-takes _ _ _ _ _ _ _ _ _ _ _ _ _ (c18 .pre .2) (c12 .loop .inv) _ _ (c11 .loop-test .taken) (omega arith) (c8 .read .ensures)
+    walk-at-takes _ _ _ _ _ _ _ _ _ _ _ _ _ (c18 .pre .2) (c12 .loop .inv) _ _ (c11 .loop-test .taken) (omega arith) (c8 .read .ensures)
     (c6 .read2 .ensures) _ (c3 .if2 .left) (c .sooner .ensures) (c .before .before .if3 .left) (c .before .if4 .left)
 
 returns-3 : tie.Need-returns-3 Inv-loop μ-loop
 returns-3 c =
     let c7 = c .before .before .before .before .before .before .before in
-    meeting-bids-end _ _ _ _ _ _ _ _ _ _ _ _ _ (c7 .pre .2) (c .before .loop .inv) (omega arith)
+    walk-at-bids-end _ _ _ _ _ _ _ _ _ _ _ _ _ (c7 .pre .2) (c .before .loop .inv) (omega arith)
 
 pub find-margins-spec : {M : Type 1} → statement M
 find-margins-spec =

@@ -1,98 +1,33 @@
--- `remove`: the numbers behind place k move up by six, one by one.
-use Prim.Native.Nat.{ℕ, _+_, _*_, _-_, _<_, _≤_}
-use native.Mathlib.Omega.{arith}
-use native.Mathlib.Numerals.{add-one}
-use Rattle.matching.proofs.laws.orders.OrderLaws.{moved, Moving, moving-start, moving-more}
+-- `remove`: where the place is not there the memory stays.
+use mathlib.Core.Path.{sym, _∙_}
+use borrow.Author.Tests.{not-true, not-false}
+use Rattle.matching.proofs.laws.orders.PlacedLaws.{place-gives, not-placed, placed}
 use borrow.Author.Needs.{needs}
 use Rattle.matching.proofs.orders.remove.Statement.{statement}
 use Rattle.matching.proofs.orders.remove.Tie as tie
-use Rattle.matching.proofs.orders.remove.Reads as reads
-use Rattle.matching.proofs.orders.remove.Lts as lts
 
-abbrev Inv-loop : tie.InvT-loop
-Inv-loop ord₀ n k end j₀ ord j = Moving ord₀ n k ord j
+is-place-requires : tie.Need-is-place-requires
+is-place-requires c κs = search needs
 
-abbrev μ-loop : tie.MeasureT-loop
-μ-loop ord₀ n k end j₀ ord j = end - j
-
--- src/orders.rt:68:15
-mul-end : tie.Need-mul-end Inv-loop μ-loop
-mul-end c = search needs
-
--- src/orders.rt:68:15
-sub-end : tie.Need-sub-end Inv-loop μ-loop
-sub-end c = search needs
-
--- src/orders.rt:69:17
-mul-j : tie.Need-mul-j Inv-loop μ-loop
-mul-j c = search needs
-
--- src/orders.rt:70:5
-loop-holds : tie.Need-loop-holds Inv-loop μ-loop
-loop-holds c = moving-start _ _ _ (c .pre .1)
-
--- src/orders.rt:71:28
-add-orders : tie.Need-add-orders Inv-loop μ-loop
-add-orders c = search needs
-
--- src/orders.rt:71:21
-mul-orders : tie.Need-mul-orders Inv-loop μ-loop
-mul-orders c = search needs
-
--- src/orders.rt:71:21
-slice-read-orders : tie.Need-slice-read-orders Inv-loop μ-loop
-slice-read-orders c = search needs
-
--- src/orders.rt:71:9
-mul-orders-2 : tie.Need-mul-orders-2 Inv-loop μ-loop
-mul-orders-2 c = search needs
-
--- src/orders.rt:71:9
-slice-write-orders : tie.Need-slice-write-orders Inv-loop μ-loop
-slice-write-orders c = search needs
-
--- src/orders.rt:72:9
-add-j : tie.Need-add-j Inv-loop μ-loop
-add-j c = search needs
-
--- src/orders.rt:70:5
-loop-less : tie.Need-loop-less Inv-loop μ-loop
-loop-less c = search needs
-
--- src/orders.rt:70:5
-loop-again : tie.Need-loop-again Inv-loop μ-loop
-loop-again c =
-    let l = c .before .before in
-    moving-more _ _ _ _ _ (l .before .pre .0) (c .before .loop-test .taken) (l .loop .inv)
-
--- src/orders.rt:64:1
-same-length : tie.Need-same-length Inv-loop μ-loop
+same-length : tie.Need-same-length
 same-length c = search needs
 
--- src/orders.rt:64:1
-returns : tie.Need-returns Inv-loop μ-loop
-returns c =
-    let g = c .before .loop .inv in
-    let s = c .before .before in
-    (rw (add-one (s .args .k)) (moved _ _ _ _ (s .pre .1) (g .before) (λ i l u. g .here i l (omega arith))), g .past)
+returns : tie.Need-returns
+returns c = not-placed _ _ _ _ _ (sym (c .before .is-place .ensures) ∙ not-true _ (c .if1 .taken))
+
+remove-at-requires : tie.Need-remove-at-requires
+remove-at-requires c κs = place-gives _ _ _ (sym (c .before .before .is-place .ensures) ∙ not-false _ (c .before .if1 .left))
+
+same-length-2 : tie.Need-same-length-2
+same-length-2 c = search needs
+
+returns-2 : tie.Need-returns-2
+returns-2 c =
+    let c4 = c .before .before .before .before in
+    let u = c .before .before .remove-at .ensures in
+    placed _ _ _ _ _ _ (sym (c4 .before .is-place .ensures) ∙ not-false _ (c4 .if1 .left)) (u .0) (u .1)
 
 pub remove-spec : {M : Type 1} → statement M
 remove-spec =
     tie.close
-    (tie.spec
-    Inv-loop
-    μ-loop
-    mul-end
-    sub-end
-    mul-j
-    loop-holds
-    add-orders
-    mul-orders
-    slice-read-orders
-    mul-orders-2
-    slice-write-orders
-    add-j
-    loop-less
-    loop-again
-    same-length
-    returns)
+    (tie.spec is-place-requires same-length returns remove-at-requires same-length-2 returns-2)

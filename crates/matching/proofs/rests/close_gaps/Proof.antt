@@ -56,8 +56,8 @@ loop-again-2 c =
 read-requires : tie.Need-read-requires Inv-loop μ-loop
 read-requires c κs = search needs
 
-write-requires : tie.Need-write-requires Inv-loop μ-loop
-write-requires c κs = search needs
+write-at-requires : tie.Need-write-at-requires Inv-loop μ-loop
+write-at-requires c κs = search needs
 
 add-to-2 : tie.Need-add-to-2 Inv-loop μ-loop
 add-to-2 c = search needs
@@ -76,9 +76,9 @@ loop-again-3 c =
     let c10 = c9 .before in
     let c13 = c10 .before .before .before in
     let l = c10 .loop in
-    closing-move _ _ _ _ _ _ (c13 .pre .2) (c9 .loop-test .taken) (l .inv) _ (c7 .if1 .left) (c .before .before .write .kept .0)
-    (c .before .before .write .ensures .0 ∙ ap (λ (o : Order). set (ordersIn (l .orders) (c13 .args .n)) (l .to) o) (c4 .read .ensures))
-    (c .before .before .write .ensures .1)
+    closing-move _ _ _ _ _ _ (c13 .pre .2) (c9 .loop-test .taken) (l .inv) _ (c7 .if1 .left) (c .before .before .write-at .kept .0)
+    (c .before .before .write-at .ensures .0 ∙ ap (λ (o : Order). set (ordersIn (l .orders) (c13 .args .n)) (l .to) o) (c4 .read .ensures))
+    (c .before .before .write-at .ensures .1)
 
 same-length : tie.Need-same-length Inv-loop μ-loop
 same-length c = search needs
@@ -103,7 +103,7 @@ close-gaps-spec =
     loop-less-2
     loop-again-2
     read-requires
-    write-requires
+    write-at-requires
     add-to-2
     add-k-3
     loop-less-3

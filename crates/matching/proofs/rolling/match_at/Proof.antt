@@ -17,8 +17,8 @@ least-requires c κs = search needs
 match-row-requires : tie.Need-match-row-requires
 match-row-requires c κs = search needs
 
-put-row-requires : tie.Need-put-row-requires
-put-row-requires c κs = search needs
+put-row-at-requires : tie.Need-put-row-at-requires
+put-row-at-requires c κs = search needs
 
 same-length : tie.Need-same-length
 same-length c = search needs
@@ -29,11 +29,11 @@ returns c =
     let c5 = c3 .before .before in
     let c6 = c5 .before in (
       least-of _ _ _ _ (c5 .least .ensures) (c6 .read .ensures),
-      λ m rs e h. c .before .before .put-row .ensures m rs e h ∙ ap (λ (r : Row). written m (rs ++ (r ∷ [])))
+      λ m rs e h. c .before .before .put-row-at .ensures m rs e h ∙ ap (λ (r : Row). written m (rs ++ (r ∷ [])))
           (row-of _ _ _ _ _ (c3 .match-row .ensures) (c6 .read .ensures)),
     )
 
 pub match-at-spec : {M : Type 1} → statement M
 match-at-spec =
     tie.close
-    (tie.spec read-requires least-requires match-row-requires put-row-requires same-length returns)
+    (tie.spec read-requires least-requires match-row-requires put-row-at-requires same-length returns)

@@ -1,16 +1,16 @@
--- `clear_orders`: the prices noted first; what is cleared and what is still to be cleared is the whole.
+-- `clear_each`: the prices noted first; what is cleared and what is still to be cleared is the whole.
 use Prim.Native.Nat.{_≤_, _+_, _-_}
 use mathlib.Core.Path.{_≡_, refl}
 use native.Mathlib.Omega.{arith}
 use lib.ListN.{length}
 use Rattle.measures.specs.Lists.{Each}
 use Rattle.matching.specs.Memory.{ordersIn}
-use Rattle.book.specs.inner.Periods.{PricedBy}
-use Rattle.book.proofs.laws.clear.PassingLaws.{Passing, passing-start, passing-ready, passing-more, passing-end}
-use Rattle.book.proofs.laws.clear.SkipLaws.{priced-after}
+use Rattle.matching.specs.inner.Periods.{PricedBy}
+use Rattle.matching.proofs.laws.periods.PassingLaws.{Passing, passing-start, passing-ready, passing-more, passing-end}
+use Rattle.matching.proofs.laws.periods.SkipLaws.{priced-after}
 use borrow.Author.Needs.{needs}
-use Rattle.book.proofs.periods.clear_orders.Statement.{statement}
-use Rattle.book.proofs.periods.clear_orders.Tie as tie
+use Rattle.matching.proofs.periods.clear_each.Statement.{statement}
+use Rattle.matching.proofs.periods.clear_each.Tie as tie
 
 abbrev Inv-loop : tie.InvT-loop
 Inv-loop orders₀ n end rows₀ high low count₀ standing₀ p₀ orders rows count standing p =
@@ -30,7 +30,7 @@ note-prices-requires : tie.Need-note-prices-requires Inv-loop μ-loop
 note-prices-requires c κs =
     let c5 = c .before .before .before .before .before in
     let g = c5 .pre in
-    (g .0 .inside, g .0 .few, refl, refl, g .2)
+    (g .0 .inside, g .0 .few, refl, refl)
 
 loop-holds : tie.Need-loop-holds Inv-loop μ-loop
 loop-holds c =
@@ -84,8 +84,8 @@ returns c =
     let l = c .before .loop in
     passing-end _ _ _ _ (c10 .pre .0) _ _ _ _ _ (l .inv .0) (omega arith)
 
-pub clear-orders-spec : {M : Type 1} → statement M
-clear-orders-spec =
+pub clear-each-spec : {M : Type 1} → statement M
+clear-each-spec =
     tie.close
     (tie.spec
     Inv-loop

@@ -2,12 +2,12 @@
 use Prim.Native.Nat.{_≤_}
 use mathlib.Core.Path.{ap}
 use native.Mathlib.Omega.{arith}
 use Rattle.matching.specs.declared.orders.Matched.{Matched}
 use Rattle.matching.specs.Answers.{answerOf}
-use Rattle.book.proofs.laws.clear.PassingLaws.{fit-part, never-unfit, step-few, stepped}
+use Rattle.matching.proofs.laws.periods.PassingLaws.{fit-part, never-unfit, step-few, stepped}
 use borrow.Author.Needs.{needs}
-use Rattle.book.proofs.periods.clear_one.Statement.{statement}
-use Rattle.book.proofs.periods.clear_one.Tie as tie
+use Rattle.matching.proofs.periods.clear_one.Statement.{statement}
+use Rattle.matching.proofs.periods.clear_one.Tie as tie
 
 mul-clear-fit : tie.Need-mul-clear-fit
 mul-clear-fit c = search needs

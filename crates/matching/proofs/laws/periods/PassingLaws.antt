@@ -13,55 +13,29 @@ use lib.Dec.{eqb, ltb}
 use Rattle.measures.specs.Ranges.{mostEnergy}
 use Rattle.measures.specs.Lists.{Each, keep}
 use Rattle.measures.proofs.ListLaws.{and-right-false, both-ways}
+use Rattle.measures.specs.declared.Energy.{Energy}
 use Rattle.matching.specs.declared.orders.Matched.{Matched}
-use Rattle.matching.specs.Orders.{Order as OpenOrder, Row, buys, sells, laid, rising, numbers, quantities}
+use Rattle.matching.specs.declared.orders.Matched.the-variants.{Unfit, Done}
+use Rattle.matching.specs.Orders.{Order, Row, buys, sells, laid, rising, numbers, quantities}
 use Rattle.matching.specs.Memory.{ordersIn, noOrder, flat, written}
-use Rattle.matching.specs.Clearing.{Cleared, largest, clearedVolume, clearPeriod}
-use Rattle.matching.specs.Answers.{fit, answerOf, Clears}
+use Rattle.matching.specs.Clearing.{Cleared, clearPeriod, clearFrom}
+use Rattle.matching.specs.Answers.{fit, answerOf, Clears, fitBelow, ClearsAll}
 use Rattle.matching.proofs.laws.lists.EachLaws.{each-map, keep-nothing}
 use Rattle.matching.proofs.laws.orders.OrderLaws.{orders-at, orders-length}
 use Rattle.matching.proofs.laws.orders.RowLaws.{flat-length, flat-append, written-none}
-use Rattle.matching.proofs.laws.orders.FitLaws.{is-fit}
+use Rattle.matching.proofs.laws.orders.FitLaws.{is-fit, below-is, below-gives}
 use Rattle.matching.proofs.laws.clearing.PeriodLaws.{isBid, isAsk}
 use Rattle.matching.proofs.laws.clearing.RestLaws.{numbers-rise-after}
-use Rattle.book.specs.Book.{Book}
-use Rattle.book.specs.Refusals.{firstOf}
-use Rattle.book.specs.Layout.{word, decode}
-use Rattle.book.specs.Clear.{clearChecks, clearFrom}
-use Rattle.book.specs.inner.Periods.{Clearable, Stepped, ClearsAll}
-use Rattle.book.proofs.laws.sound.RemainLaws.{each-by, remains-length, remains-sum}
-use Rattle.book.proofs.laws.sound.FormedLaws.{LessOrder}
-use Rattle.book.proofs.laws.order.LeftLaws.{cleared-remain}
-use Rattle.book.proofs.laws.clear.RowCountLaws.{waiting, waiting-falls, waiting-all, rows-and-waiting}
-
--- the checks
-module _ (m : List ℕ) (lent : ℕ) where
-  pub clear-few-rows : lent < 4464 → 7 ≡ firstOf (clearChecks (decode m) lent)
-  unfolding firstOf
-  clear-few-rows h = rw (lt-ltb lent 4464 h) refl
-
-  pub clear-rolling : 4464 ≤ lent → word m 3 ≡ 1 → 14 ≡ firstOf (clearChecks (decode m) lent)
-  unfolding firstOf decode
-  clear-rolling h e = rw (le-ltb lent 4464 h, eq-eqb (word m 3) 1 e) refl
-
-  pub clear-passes : 4464 ≤ lent → (word m 3 ≡ 1 → ⊥) → 0 ≡ firstOf (clearChecks (decode m) lent)
-  unfolding firstOf decode
-  clear-passes h e = rw (le-ltb lent 4464 h, ne-eqb (word m 3) 1 e) refl
-
--- where the checks of a clear give 0, 744 rows are lent
-pub clear-room : (b : Book) (lent : ℕ) → 0 ≡ firstOf (clearChecks b lent) → 4464 ≤ lent
-unfolding firstOf
-clear-room b lent e = go (ltb lent 4464) (eqb (b .phase) 1) refl e
-  where
-    go : (p q : Bool) → ltb lent 4464 ≡ p → _≡_ {A = ℕ} 0 (cond p 7 (cond q 14 0)) → 4464 ≤ lent
-    go true q ep h = absurd (omega arith)
-    go false q ep h = ltb-false lent 4464 ep
+use Rattle.matching.specs.inner.Periods.{Clearable, Stepped, PassedAll}
+use Rattle.matching.proofs.laws.lists.RemainLaws.{remains-length, remains-sum}
+use Rattle.matching.proofs.laws.orders.LeftLaws.{LessOrder, cleared-remain}
+use Rattle.matching.proofs.laws.periods.RowCountLaws.{dueFrom, due-all, rows-and-due}
 
 -- rows that stand, and then what is cleared
 abbrev following : List Row → Cleared → Cleared
 following done c = record { rows = done ++ c .rows; orders = c .orders }
 
-follow-step : (done : List Row) (p n : ℕ) (os : List OpenOrder)
+follow-step : (done : List Row) (p n : ℕ) (os : List Order)
     → following done (clearFrom p (suc n) os) ≡ following (done ++ clearPeriod p os .rows) (clearFrom (suc p) n (clearPeriod p os .orders))
 unfolding clearFrom
 follow-step done p n os =
@@ -69,20 +43,20 @@ follow-step done p n os =
     let make : List Row → Cleared = λ rs. record { rows = rs; orders = rest .orders } in
     ap make (sym (append-assoc done (clearPeriod p os .rows) (rest .rows)))
 
-follow-end : (done : List Row) (p : ℕ) (os : List OpenOrder) → following done (clearFrom p 0 os) ≡ record { rows = done; orders = os }
+follow-end : (done : List Row) (p : ℕ) (os : List Order) → following done (clearFrom p 0 os) ≡ record { rows = done; orders = os }
 unfolding clearFrom
 follow-end done p os =
     let make : List Row → Cleared = λ rs. record { rows = rs; orders = os } in
     ap make (append-nil done)
 
 -- what clearing a period leaves is no more
-after-fewer : (p : ℕ) (os : List OpenOrder) → length (clearPeriod p os .orders) ≤ length os
+after-fewer : (p : ℕ) (os : List Order) → length (clearPeriod p os .orders) ≤ length os
 after-fewer p os = remains-length LessOrder (cleared-remain p os)
 
-after-less : (p : ℕ) (os : List OpenOrder) → quantities (clearPeriod p os .orders) ≤ quantities os
+after-less : (p : ℕ) (os : List Order) → quantities (clearPeriod p os .orders) ≤ quantities os
 after-less p os =
-    remains-sum LessOrder (λ (o : OpenOrder). o .quantity) (λ (o : OpenOrder). o .quantity)
-    (λ x y l. let e : x .quantity ≡ l .left = ap (λ (o : OpenOrder). o .quantity) (l .is) in let f = l .fewer in omega arith)
+    remains-sum LessOrder (λ (o : Order). o .quantity) (λ (o : Order). o .quantity)
+    (λ x y l. let e : x .quantity ≡ l .left = ap (λ (o : Order). o .quantity) (l .is) in let f = l .fewer in omega arith)
     (cleared-remain p os)
 
 -- rows written behind others
@@ -138,8 +112,8 @@ module _ (m rows : List ℕ) (n p count : ℕ) (h : Clearable m rows n count) wh
     pub step-few : (more : ℕ) → answerOf a .count ≡ more → more ≤ 256
     step-few more e =
         let c : more ≡ length (clearPeriod p (ordersIn m n) .rows) = sym e ∙ x .count fit-part in
-        let t = rows-and-waiting p (ordersIn m n) (h .rises) in
-        let u = waiting-all p (ordersIn m n) in
+        let t = rows-and-due p (ordersIn m n) (h .rises) in
+        let u = due-all p (ordersIn m n) in
         let v = orders-length m n in
         let w = h .few in
         omega arith
@@ -165,7 +139,7 @@ pub record Passing (m rows : List ℕ) (n end : ℕ) (m′ rows′ : List ℕ) (
   pub fewer : n′ ≤ n
   pub rises : rising (numbers (ordersIn m′ n′)) ≡ true
   pub small : quantities (ordersIn m′ n′) ≤ mostEnergy
-  pub room : count + waiting p (ordersIn m′ n′) ≤ n
+  pub room : count + dueFrom p (ordersIn m′ n′) ≤ n
   pub long : length m′ ≡ length m
   pub lent : length rows′ ≡ length rows
   pub past : drop (6 * n) m′ ≡ drop (6 * n) m
@@ -173,7 +147,7 @@ pub record Passing (m rows : List ℕ) (n end : ℕ) (m′ rows′ : List ℕ) (
 module _ (m rows : List ℕ) (n end : ℕ) (h : Clearable m rows n n) where
   pub passing-start : Passing m rows n end m rows 0 n 0
   passing-start =
-      let t = waiting-all 0 (ordersIn m n) in
+      let t = due-all 0 (ordersIn m n) in
       let u = orders-length m n in
       let z : end - 0 ≡ end = omega arith in
       record {
@@ -216,13 +190,13 @@ module _ (m rows : List ℕ) (n end : ℕ) (h : Clearable m rows n n) where
           let e3 = g .room in
           let e4 = g .fewer in
           let e5 = g .small in
-          let t = rows-and-waiting p (ordersIn m′ n′) (g .rises) in
+          let t = rows-and-due p (ordersIn m′ n′) (g .rises) in
           let u = after-fewer p (ordersIn m′ n′) in
           let v = after-less p (ordersIn m′ n′) in
           let x : length (ordersIn m″ n″) ≡ length (clearPeriod p (ordersIn m′ n′) .orders) = ap length (s .orders) in
           let y = orders-length m″ n″ in
           let z = orders-length m′ n′ in
-          let w : waiting (p + 1) (ordersIn m″ n″) ≡ waiting (suc p) (clearPeriod p (ordersIn m′ n′) .orders) = rw (← b, s .orders) refl in
+          let w : dueFrom (p + 1) (ordersIn m″ n″) ≡ dueFrom (suc p) (clearPeriod p (ordersIn m′ n′) .orders) = rw (← b, s .orders) refl in
           let q : quantities (ordersIn m″ n″) ≡ quantities (clearPeriod p (ordersIn m′ n′) .orders) = ap quantities (s .orders) in
           record {
             done = g .done ++ cs;
@@ -250,7 +224,7 @@ module _ (m rows : List ℕ) (n end : ℕ) (h : Clearable m rows n n) where
               rw (← d, ← drop-drop (6 * n - 6 * n′) (6 * n′) m″, ← drop-drop (6 * n - 6 * n′) (6 * n′) m′, e) refl
 
       -- all periods are cleared
-      pub passing-end : end ≤ p → ClearsAll m rows n end count n′ m′ rows′
+      pub passing-end : end ≤ p → PassedAll m rows n end count n′ m′ rows′
       passing-end l =
           let i = g .upto in
           let a : end - p ≡ 0 = omega arith in
@@ -263,6 +237,87 @@ module _ (m rows : List ℕ) (n end : ℕ) (h : Clearable m rows n n) where
             counted = sym (g .counted) ∙ ap length d;
             handed = g .kept ∙ ap (λ (rs : List Row). written rows rs) d;
             past = g .past;
-            fewer = g .fewer;
-            few = omega arith;
           }
+
+-- what the whole leaves: no more rows or orders than there were orders
+from-rows-few : (p k : ℕ) (os : List Order) → rising (numbers os) ≡ true → length (clearFrom p k os .rows) ≤ dueFrom p os
+unfolding clearFrom
+from-rows-few p zero os e = omega arith
+from-rows-few p (suc k) os e =
+    let c = clearPeriod p os in
+    let t = from-rows-few (suc p) k (c .orders) (numbers-rise-after p os e) in
+    let l = length-append (c .rows) (clearFrom (suc p) k (c .orders) .rows) in
+    let r = rows-and-due p os e in
+    omega arith
+
+pub all-rows-few : (end : ℕ) (os : List Order) → rising (numbers os) ≡ true → length (clearFrom 0 end os .rows) ≤ length os
+all-rows-few end os e = let t = from-rows-few 0 end os e in let u = due-all 0 os in omega arith
+
+pub from-fewer : (p k : ℕ) (os : List Order) → length (clearFrom p k os .orders) ≤ length os
+unfolding clearFrom
+from-fewer p zero os = omega arith
+from-fewer p (suc k) os = let t = from-fewer (suc p) k (clearPeriod p os .orders) in let u = after-fewer p os in omega arith
+
+-- orders that fit can be cleared; others stay
+module _ (m rows : List ℕ) (n end : ℕ) where
+  pub clearable : fitBelow m n end rows ≡ true → Clearable m rows n n
+  clearable e =
+      let w = below-gives m rows n end e in
+      let f = w .0 in
+      let l = w .1 in
+      record { few = f .few; inside = f .inside; lent = omega arith; rises = f .rises; small = f .small }
+
+  pub all-unfit : fitBelow m n end rows ≡ false → ClearsAll m rows n end Unfit m rows
+  all-unfit e =
+      record {
+        fits = sym e;
+        stay = λ f. (refl, refl);
+        left = λ f. both-ways (sym f ∙ e);
+        count = λ f. both-ways (sym f ∙ e);
+        orders = λ f. both-ways (sym f ∙ e);
+        handed = λ f. both-ways (sym f ∙ e);
+        past = refl;
+      }
+
+  pub all-done : (z : Energy) (count n′ : ℕ) (m′ rows′ : List ℕ) → z .0 ≡ 0 → fitBelow m n end rows ≡ true → PassedAll m rows n end count n′ m′ rows′
+      → ClearsAll m rows n end (Done z count n′) m′ rows′
+  all-done z count n′ m′ rows′ ez e g =
+      record {
+        fits = sym e;
+        stay = λ f. both-ways (sym e ∙ f);
+        left = λ f. ez;
+        count = λ f. g .counted;
+        orders = λ f. g .orders;
+        handed = λ f. g .handed;
+        past = g .past;
+      }
+
+  pub clearable-fits : Clearable m rows n n → end ≤ 744 → fitBelow m n end rows ≡ true
+  clearable-fits c l =
+      let r = c .lent in
+      let f : fit m n rows ≡ true = is-fit m rows n (c .few) (c .inside) (omega arith) (c .rises) ∙ le-leb (quantities (ordersIn m n)) mostEnergy (c .small) in
+      below-is m rows n end f (omega arith) ∙ le-leb end 744 l
+
+  -- what the contract leaves where they fit
+  pub all-gives : (a : Matched) (count n′ : ℕ) (m′ rows′ : List ℕ) → fitBelow m n end rows ≡ true → ClearsAll m rows n end a m′ rows′
+      → answerOf a .count ≡ count → answerOf a .standing ≡ n′ → PassedAll m rows n end count n′ m′ rows′
+  all-gives a count n′ m′ rows′ e c ec en =
+      record {
+        orders = rw en at (c .orders e);
+        counted = sym ec ∙ c .count e;
+        handed = c .handed e;
+        past = c .past;
+      }
+
+  pub all-fit : {X : Type 0} (a : Matched) (m′ rows′ : List ℕ) → fitBelow m n end rows ≡ true → ClearsAll m rows n end a m′ rows′
+      → answerOf a .fits ≡ false → X
+  all-fit a m′ rows′ e c f = both-ways (sym e ∙ sym (c .fits) ∙ f)
+
+  module _ (count n′ : ℕ) (m′ rows′ : List ℕ) (g : PassedAll m rows n end count n′ m′ rows′) where
+    pub passed-fewer : n′ ≤ n
+    passed-fewer =
+        let a : length (ordersIn m′ n′) ≡ length (clearFrom 0 end (ordersIn m n) .orders) = ap length (g .orders) in
+        omega (arith, from-fewer 0 end (ordersIn m n), orders-length m′ n′, orders-length m n)
+
+    pub passed-few : rising (numbers (ordersIn m n)) ≡ true → count ≤ n
+    passed-few e = omega (arith, all-rows-few end (ordersIn m n) e, g .counted, orders-length m n)

@@ -11,17 +11,17 @@ use lib.Dec.{eqb, leb, ltb}
 use Rattle.measures.specs.Lists.{keep}
 use Rattle.measures.specs.Sharing.{parts}
 use Rattle.measures.proofs.ListLaws.{and-right, both-ways, false-by}
-use Rattle.matching.specs.Orders.{Order as OpenOrder, Row, buys, sells, bids, asks, bidAhead, askAhead, rising, numbers, quantities}
+use Rattle.matching.specs.Orders.{Order, Row, buys, sells, bids, asks, bidAhead, askAhead, rising, numbers, quantities}
 use Rattle.matching.specs.Clearing.{Fill, filled, fillsOf, bidFills, askFills, endToEnd, overlapRows, clearPeriod}
 use Rattle.matching.specs.inner.Places.{overlapRow}
 use Rattle.matching.proofs.laws.orders.LaidLaws.{laid-length}
 use Rattle.matching.proofs.laws.rows.OverlapLaws.{overlap-none, overlap-end, bid-step, ask-step}
 use Rattle.matching.proofs.laws.clearing.PeriodLaws.{isBid, isAsk, volume, bidMargin, askMargin, priceOf, bidFillsOf, askFillsOf, cleared-rows, not-both}
 use Rattle.matching.proofs.laws.clearing.RestLaws.{others-stay}
 
 -- the orders of the periods from p on
-unfoldable pub waiting : ℕ → List OpenOrder → ℕ
-waiting p os = length (keep (λ (o : OpenOrder). leb p (o .period)) os)
+unfoldable pub dueFrom : ℕ → List Order → ℕ
+dueFrom p os = length (keep (λ (o : Order). leb p (o .period)) os)
 
 module _ {A : Type 0} where
   keep-count : (f : A → Bool) (x : A) (xs : List A) → length (keep f (x ∷ xs)) ≡ cond (f x) 1 0 + length (keep f xs)
@@ -97,27 +97,27 @@ module _ (period price : ℕ) where
           omega (arith, few)
 
 -- fills of a side
-filled-few : (os : List OpenOrder) (ps : List ℕ) → length (filled os ps) ≤ length os
+filled-few : (os : List Order) (ps : List ℕ) → length (filled os ps) ≤ length os
 unfolding filled
 filled-few [] ps = omega arith
 filled-few (o ∷ os) [] = omega arith
 filled-few (o ∷ os) (p ∷ ps) = let t = filled-few os ps in omega arith
 
-fills-few : (v : ℕ) (better margin : List OpenOrder) → length (fillsOf v better margin) ≤ length better + length margin
+fills-few : (v : ℕ) (better margin : List Order) → length (fillsOf v better margin) ≤ length better + length margin
 unfolding fillsOf
 fills-few v better margin =
-    let a = filled better (map (λ (o : OpenOrder). o .quantity) better) in
-    let b = filled margin (parts (v - quantities better) (map (λ (o : OpenOrder). o .quantity) margin)) in
+    let a = filled better (map (λ (o : Order). o .quantity) better) in
+    let b = filled margin (parts (v - quantities better) (map (λ (o : Order). o .quantity) margin)) in
     let l : length (a ++ b) ≡ length a + length b = length-append a b in
     omega (
       arith,
       l,
-      filled-few better (map (λ (o : OpenOrder). o .quantity) better),
+      filled-few better (map (λ (o : Order). o .quantity) better),
       filled-few margin
-          (parts (v - quantities better) (map (λ (o : OpenOrder). o .quantity) margin)),
+          (parts (v - quantities better) (map (λ (o : Order). o .quantity) margin)),
     )
 
-module _ (period : ℕ) (os : List OpenOrder) where
+module _ (period : ℕ) (os : List Order) where
   bids-few : length (bidFillsOf period os) ≤ length (keep (isBid period) os)
   unfolding bidFillsOf
   bids-few = go (eqb (volume period os) 0)
@@ -130,8 +130,8 @@ module _ (period : ℕ) (os : List OpenOrder) where
 
       some : length (bidFills v b (bids period os)) ≤ length (keep (isBid period) os)
       some =
-          let s = fills-few v (keep (λ (o : OpenOrder). ltb b (o .price)) (bids period os)) (keep (λ (o : OpenOrder). eqb (o .price) b) (bids period os)) in
-          let t = keep-two (λ (o : OpenOrder). ltb b (o .price)) (λ (o : OpenOrder). eqb (o .price) b)
+          let s = fills-few v (keep (λ (o : Order). ltb b (o .price)) (bids period os)) (keep (λ (o : Order). eqb (o .price) b) (bids period os)) in
+          let t = keep-two (λ (o : Order). ltb b (o .price)) (λ (o : Order). eqb (o .price) b)
           (λ o l. false-by _ (λ q. absurd (omega (arith, ltb-true b (o .price) l, eqb-true (o .price) b q)))) (bids period os) in
           omega (arith, laid-length bidAhead (keep (isBid period) os))
 
@@ -151,8 +151,8 @@ module _ (period : ℕ) (os : List OpenOrder) where
 
       some : length (askFills v s (asks period os)) ≤ length (keep (isAsk period) os)
       some =
-          let a = fills-few v (keep (λ (o : OpenOrder). ltb (o .price) s) (asks period os)) (keep (λ (o : OpenOrder). eqb (o .price) s) (asks period os)) in
-          let t = keep-two (λ (o : OpenOrder). ltb (o .price) s) (λ (o : OpenOrder). eqb (o .price) s)
+          let a = fills-few v (keep (λ (o : Order). ltb (o .price) s) (asks period os)) (keep (λ (o : Order). eqb (o .price) s) (asks period os)) in
+          let t = keep-two (λ (o : Order). ltb (o .price) s) (λ (o : Order). eqb (o .price) s)
           (λ o l. false-by _ (λ q. absurd (omega (arith, ltb-true (o .price) s l, eqb-true (o .price) s q)))) (asks period os) in
           omega (arith, laid-length askAhead (keep (isAsk period) os))
 
@@ -166,7 +166,7 @@ module _ (period : ℕ) (os : List OpenOrder) where
       let t = overlaps-few period (priceOf period os) n 0 (bidFillsOf period os) 0 (askFillsOf period os) (omega arith) in
       rw (cleared-rows period os) (omega (arith, bids-few, asks-few))
 
-  one-each : (o : OpenOrder) → cond (isBid period o) 1 0 + cond (isAsk period o) 1 0 + cond (leb (suc period) (o .period)) 1 0
+  one-each : (o : Order) → cond (isBid period o) 1 0 + cond (isAsk period o) 1 0 + cond (leb (suc period) (o .period)) 1 0
       ≤ cond (leb period (o .period)) 1 0
   one-each o =
       go (isBid period o) (isAsk period o) (leb (suc period) (o .period)) (leb period (o .period))
@@ -198,23 +198,23 @@ module _ (period : ℕ) (os : List OpenOrder) where
       go false false false k xy xh xk yh yk hk = omega arith
 
   -- the rows of a period, and the orders of later periods that then wait
-  pub rows-and-waiting : rising (numbers os) ≡ true → length (clearPeriod period os .rows) + waiting (suc period) (clearPeriod period os .orders)
-      ≤ waiting period os
-  unfolding waiting
-  rows-and-waiting e =
-      let s : length (keep (λ (o : OpenOrder). leb (suc period) (o .period)) (clearPeriod period os .orders))
-      ≡ length (keep (λ (o : OpenOrder). leb (suc period) (o .period)) os) = ap length stay in
+  pub rows-and-due : rising (numbers os) ≡ true → length (clearPeriod period os .rows) + dueFrom (suc period) (clearPeriod period os .orders)
+      ≤ dueFrom period os
+  unfolding dueFrom
+  rows-and-due e =
+      let s : length (keep (λ (o : Order). leb (suc period) (o .period)) (clearPeriod period os .orders))
+      ≡ length (keep (λ (o : Order). leb (suc period) (o .period)) os) = ap length stay in
       omega (
         arith,
         rows-few,
-        keep-parts (isBid period) (isAsk period) (λ (o : OpenOrder). leb (suc period) (o .period))
-            (λ (o : OpenOrder). leb period (o .period)) one-each os,
+        keep-parts (isBid period) (isAsk period) (λ (o : Order). leb (suc period) (o .period))
+            (λ (o : Order). leb period (o .period)) one-each os,
       )
     where
-      stay : keep (λ (o : OpenOrder). leb (suc period) (o .period)) (clearPeriod period os .orders)
-          ≡ keep (λ (o : OpenOrder). leb (suc period) (o .period)) os
+      stay : keep (λ (o : Order). leb (suc period) (o .period)) (clearPeriod period os .orders)
+          ≡ keep (λ (o : Order). leb (suc period) (o .period)) os
       stay =
-          others-stay period os (λ (o : OpenOrder). leb (suc period) (o .period)) (λ o q. refl)
+          others-stay period os (λ (o : Order). leb (suc period) (o .period)) (λ o q. refl)
           (λ o x. lt-leb (suc period) (o .period) (omega (arith, eqb-true (o .period) period (and-right (buys (o .direction)) (eqb (o .period) period) x))))
           (λ o x. lt-leb (suc period) (o .period) (omega (
             arith,
@@ -223,24 +223,11 @@ module _ (period : ℕ) (os : List OpenOrder) where
           )))
           e
 
--- fewer wait for a later period
-pub waiting-falls : (p q : ℕ) (os : List OpenOrder) → p ≤ q → waiting q os ≤ waiting p os
-unfolding waiting
-waiting-falls p q [] h = omega arith
-waiting-falls p q (o ∷ os) h =
-    rw (keep-count (λ (x : OpenOrder). leb q (x .period)) o os, keep-count (λ (x : OpenOrder). leb p (x .period)) o os)
-    (go (leb q (o .period)) (leb p (o .period)) (λ x. le-leb p (o .period) (omega (arith, leb-true q (o .period) x))) (waiting-falls p q os h))
+pub due-all : (p : ℕ) (os : List Order) → dueFrom p os ≤ length os
+unfolding dueFrom
+due-all p [] = omega arith
+due-all p (o ∷ os) = rw (keep-count (λ (x : Order). leb p (x .period)) o os) (go (leb p (o .period)) (due-all p os))
   where
-    go : (a b : Bool) → (a ≡ true → b ≡ true) → waiting q os ≤ waiting p os → cond a 1 0 + waiting q os ≤ cond b 1 0 + waiting p os
-    go true true i t = omega arith
-    go true false i t = both-ways (sym (i refl))
-    go false b i t = omega arith
-
-pub waiting-all : (p : ℕ) (os : List OpenOrder) → waiting p os ≤ length os
-unfolding waiting
-waiting-all p [] = omega arith
-waiting-all p (o ∷ os) = rw (keep-count (λ (x : OpenOrder). leb p (x .period)) o os) (go (leb p (o .period)) (waiting-all p os))
-  where
-    go : (a : Bool) → waiting p os ≤ length os → cond a 1 0 + waiting p os ≤ suc (length os)
+    go : (a : Bool) → dueFrom p os ≤ length os → cond a 1 0 + dueFrom p os ≤ suc (length os)
     go true t = omega arith
     go false t = omega arith

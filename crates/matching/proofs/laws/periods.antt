@@ -1,0 +1,4 @@
+pub mod NoteLaws
+pub mod RowCountLaws
+pub mod PassingLaws
+pub mod SkipLaws
