@@ -184,6 +184,12 @@ pub sum-none : (f : ℕ → ℕ) → sum 0 f ≡ 0
 unfolding sum
 sum-none f = refl
 
+-- a sum of nothings
+pub sum-zero : (n : ℕ) (f : ℕ → ℕ) → ((i : ℕ) → i < n → f i ≡ 0) → sum n f ≡ 0
+unfolding sum
+sum-zero zero f h = refl
+sum-zero (suc n) f h = let t = sum-zero n f (λ i l. h i (omega arith)) in let e = h n (omega arith) in omega arith
+
 pub sum-more : (n : ℕ) (f : ℕ → ℕ) → sum (n + 1) f ≡ sum n f + f n
 unfolding sum
 sum-more n f = rw add-one

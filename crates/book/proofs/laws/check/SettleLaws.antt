@@ -10,7 +10,7 @@ use lib.ListN.{length, getD, set, replicate, length-set}
 use lib.Seq.{getD-set-same, getD-set-other}
 use lib.Dec.{leb}
 use Rattle.measures.specs.Lists.{holds, sum, all}
-use Rattle.measures.proofs.ListLaws.{both-ways, false-by, not-both, and-true, all-true, holds-all, all-fails, all-at, all-by, all-ext}
+use Rattle.measures.proofs.ListLaws.{sum-zero, both-ways, false-by, not-both, and-true, all-true, holds-all, all-fails, all-at, all-by, all-ext}
 use Rattle.limits.specs.Limits.{hourOf, hourLimit}
 use Rattle.book.specs.Layout.{word}
 use Rattle.book.specs.inner.Readable.{Ranged}
@@ -39,7 +39,7 @@ use Rattle.book.specs.inner.Whole.{
 use Rattle.book.proofs.laws.check.ShareLaws.{getD-past, share-other, offer-other}
 use Rattle.book.proofs.laws.check.PeriodLaws.{hour-facts, period-passed, period-failed}
 use Rattle.book.proofs.laws.check.LinkedLaws.{share-apart}
-use Rattle.book.proofs.laws.check.UnitsFitLaws.{cell-mark, cell-hour, cell-volume, cell-term, cell-most, sum-zero, zeros-below}
+use Rattle.book.proofs.laws.check.UnitsFitLaws.{cell-mark, cell-hour, cell-volume, cell-term, cell-most, zeros-below}
 
 -- a cell that passes with something open passes with nothing open
 module _ (m : List ℕ) (p k x y : ℕ) where

@@ -10,6 +10,7 @@ use lib.ListN.{length, getD, set, replicate}
 use lib.Dec.{eqb, leb}
 use Rattle.measures.specs.Lists.{holds, sum, all, table}
 use Rattle.measures.proofs.ListLaws.{
+  sum-zero,
   both-ways,
   false-by,
   true-by,
@@ -189,9 +190,6 @@ cells-same m p x y a b w v w′ v′ r e f d =
       whole = λ z. let t = d .whole z in record { long = t .long; each = λ k h. t .each k h ∙ rw (e k h); grown = t .grown };
       volume = λ z. let t = d .volume z in record { long = t .long; each = λ k h. t .each k h ∙ rw (e k h, f k h); grown = t .grown };
     }
-
-pub sum-zero : (n : ℕ) (f : ℕ → ℕ) → ((i : ℕ) → i < n → f i ≡ 0) → sum n f ≡ 0
-sum-zero n f h = sum-rest n 0 f (omega arith) (λ i a b. h i b) ∙ sum-none f
 
 pub zeros-below : (n b : ℕ) → Below b (replicate n 0)
 zeros-below n b i = omega (arith, zeros-at n i)

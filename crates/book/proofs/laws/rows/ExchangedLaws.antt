@@ -15,7 +15,8 @@ use Rattle.book.specs.Book.{noUnit, Book, rollingPhase, unitOf, figuresO
 use Rattle.book.specs.Trades.{raises, lowers, rowsBooked}
 use Rattle.book.specs.Fit.{openOrders, openRaising, openLowering, nothing}
 use Rattle.book.specs.Sound.{apart, eachTwo, sound}
-use Rattle.matching.proofs.laws.lists.RemainLaws.{each-at, Remains, remains-all}
+use Rattle.matching.proofs.laws.lists.EachLaws.{each-at}
+use Rattle.matching.proofs.laws.lists.RemainLaws.{Remains, remains-all}
 use Rattle.book.proofs.laws.sound.FitLaws.{Moved, fits-after}
 use Rattle.book.proofs.laws.sound.SoundLaws.{UnitRanges, Sound, sound-holds}
 use Rattle.book.proofs.laws.sound.FormedLaws.{LessOffer, same-offer, Remaining, formed-remaining}

@@ -15,7 +15,7 @@ use Rattle.limits.specs.Units.{generator}
 use Rattle.matching.specs.Orders.{Row}
 use Rattle.book.specs.Book.{Figures, noFigures, EnrolledUnit, noUnit, Book, unitOf, figuresOf, withUnits}
 use Rattle.book.specs.Trades.{raises, markAfter, traded, unitTraded, booked, rowBooked, rowsBooked}
-use Rattle.matching.proofs.laws.lists.RemainLaws.{each-at}
+use Rattle.matching.proofs.laws.lists.EachLaws.{each-at}
 use Rattle.book.proofs.laws.sound.SoundLaws.{UnitRanges}
 
 -- an element that is set keeps what f reads of it

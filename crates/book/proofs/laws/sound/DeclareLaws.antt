@@ -16,7 +16,8 @@ use Rattle.book.specs.Book.{OpenOffer, Book, rollingPhase, mostOffers, m
 use Rattle.book.specs.Trades.{raises, lowers}
 use Rattle.book.specs.Fit.{openRaising, openLowering, Declaration}
 use Rattle.book.specs.Sound.{oneDirection, apart, eachTwo}
-use Rattle.matching.proofs.laws.lists.RemainLaws.{each-holds, each-imp, each-append, every-append, every-both, rising-append}
+use Rattle.matching.proofs.laws.lists.EachLaws.{each-append}
+use Rattle.matching.proofs.laws.lists.RemainLaws.{each-holds, each-imp, every-append, every-both, rising-append}
 use Rattle.book.proofs.laws.sound.SoundLaws.{HeadRanges, OfferRanges, OrderRanges, otherNumber, Formed}
 use Rattle.book.proofs.laws.sound.FitLaws.{Moved}
 use Rattle.book.proofs.laws.sound.OpenLaws.{offerOpens, orderOpens, offers-more, orders-more}

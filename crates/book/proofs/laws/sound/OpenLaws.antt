@@ -8,7 +8,7 @@ use lib.ListN.{getD}
 use lib.Dec.{eqb}
 use borrow.Author.Tests.{ne-eqb}
 use Rattle.measures.specs.Lists.{Each, sum}
-use Rattle.measures.proofs.ListLaws.{sumOf-append}
+use Rattle.measures.proofs.ListLaws.{sum-zero, sumOf-append}
 use Rattle.limits.specs.Units.{periods}
 use Rattle.matching.specs.Orders.{Order as OpenOrder}
 use Rattle.matching.proofs.laws.orders.LeftLaws.{LessOrder}
@@ -90,14 +90,6 @@ moved-remaining b b′ u days e s t =
 
     same : (p : ℕ) → figuresOf b′ u p ≡ figuresOf b u p
     same p = ap (λ (x : EnrolledUnit). getD (x .figures) p noFigures) e
-
-sum-zero : (n : ℕ) (f : ℕ → ℕ) → ((i : ℕ) → i < n → f i ≡ 0) → sum n f ≡ 0
-unfolding sum
-sum-zero zero f h = refl
-sum-zero (suc n) f h =
-    let t = sum-zero n f (λ i l. h i (omega arith)) in
-    let k = h n (omega arith) in
-    omega arith
 
 -- a unit with nothing traded and nothing open fits
 pub idle-fits : (b : Book) (u : ℕ) → ((p : ℕ) → p < periods (b .rules .days) → figuresOf b u p ≡ noFigures)

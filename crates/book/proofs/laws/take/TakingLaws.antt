@@ -37,7 +37,8 @@ use Rattle.book.specs.Refusals.{
 }
 use Rattle.book.specs.Offer.{raisingAmounts}
 use Rattle.book.specs.Take.{takenParts, takeRefusal, takeRows, offersLess, taking}
-use Rattle.matching.proofs.laws.lists.RemainLaws.{each-at, remains-all, remains-keep, remains-each}
+use Rattle.matching.proofs.laws.lists.EachLaws.{each-at}
+use Rattle.matching.proofs.laws.lists.RemainLaws.{remains-all, remains-keep, remains-each}
 use Rattle.book.proofs.laws.sound.FitLaws.{Fits, fits-with, Moved, fits-after}
 use Rattle.book.proofs.laws.sound.SoundLaws.{UnitRanges, OfferRanges, Sound, sound-facts, sound-holds}
 use Rattle.book.proofs.laws.answer.RefusalLaws.{NoneApplies, none-applies, decided-sound}

@@ -25,7 +25,8 @@ use Rattle.book.specs.Enrol.{enrolRefusal, enrolled, enrolment}
 use Rattle.book.specs.Withdraw.{withdrawRefusal, withdrawal}
 use Rattle.book.specs.Cancel.{cancelRefusal, cancellation}
 use Rattle.book.specs.Close.{dayOver, unitDayOver, dayClosed, closing}
-use Rattle.matching.proofs.laws.lists.RemainLaws.{each-by, each-append, each-imp, Remains, remains-all, remains-keep}
+use Rattle.matching.proofs.laws.lists.EachLaws.{each-append}
+use Rattle.matching.proofs.laws.lists.RemainLaws.{each-by, each-imp, Remains, remains-all, remains-keep}
 use Rattle.book.proofs.laws.sound.FitLaws.{Fits, Moved, fits-after}
 use Rattle.book.proofs.laws.sound.SoundLaws.{UnitRanges, OfferRanges, OrderRanges, Formed, Sound, sound-facts, sound-holds}
 use Rattle.book.proofs.laws.answer.RefusalLaws.{NoneApplies, none-applies, decided-sound}

@@ -6,9 +6,9 @@ use mathlib.Core.List.{List, [], _∷_, _++_, map}
 use borrow.Author.Tests.{eqb-true, eqb-false, eq-eqb, ne-eqb}
 use lib.ListN.{length}
 use lib.Dec.{eqb}
-use Rattle.measures.specs.Lists.{keep}
+use Rattle.measures.specs.Lists.{Each, keep}
 use Rattle.matching.specs.Orders.{Order as OpenOrder, Row}
-use Rattle.matching.proofs.laws.lists.EachLaws.{Each, each-append}
+use Rattle.matching.proofs.laws.lists.EachLaws.{each-append}
 use Rattle.book.specs.Book.{OpenOffer, Book, withOffers, withOrders}
 use Rattle.book.specs.Trades.{rowsBooked}
 use Rattle.book.specs.Refusals.{Outcome, decided}

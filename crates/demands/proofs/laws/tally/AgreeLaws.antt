@@ -6,12 +6,11 @@ use mathlib.Core.List.{List, [], _∷_, map}
 use native.Mathlib.Omega.{arith}
 use lib.ListN.{length, length-map, List·getD-map}
 use lib.Dec.{eqb}
-use Rattle.measures.specs.Lists.{keep, sumOf}
+use Rattle.measures.specs.Lists.{Each, keep, sumOf}
 use Rattle.measures.specs.Sharing.{total}
 use Rattle.measures.proofs.RangeLaws.{In, within}
 use Rattle.limits.specs.Units.{periods, generator}
 use Rattle.matching.specs.Orders.{Row}
-use Rattle.matching.proofs.laws.lists.EachLaws.{Each}
 use Rattle.book.specs.Book.{Rules, Figures, EnrolledUnit, noUnit, OpenOffer, Book, unitOf, figuresOf}
 use Rattle.book.specs.Opening.{fresh}
 use Rattle.demands.specs.Tally.{Member, Amounts, Tally, opened}

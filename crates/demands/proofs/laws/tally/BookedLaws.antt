@@ -11,7 +11,8 @@ use Rattle.measures.proofs.RangeLaws.{In}
 use Rattle.measures.proofs.ListLaws.{sumOf-append}
 use Rattle.limits.specs.Units.{periods, generator}
 use Rattle.matching.specs.Orders.{Row}
-use Rattle.matching.proofs.laws.lists.EachLaws.{Each, each-map}
+use Rattle.measures.specs.Lists.{Each}
+use Rattle.matching.proofs.laws.lists.EachLaws.{each-map}
 use Rattle.book.specs.Book.{Figures, noUnit, Book, unitOf, figuresOf}
 use Rattle.book.specs.Trades.{rowsBooked}
 use Rattle.demands.proofs.laws.tally.AgreeLaws.{member, soldIn, boughtIn, Figured, AllFigured, Parties}

@@ -7,7 +7,8 @@ use Rattle.measures.proofs.RangeLaws.{In}
 use Rattle.limits.specs.Units.{periods}
 use Rattle.matching.specs.Orders.{Order as OpenOrder}
 use Rattle.matching.specs.Clearing.{clearPeriod, clearFrom}
-use Rattle.matching.proofs.laws.lists.EachLaws.{Each, Has, has-each, each-map, each-append}
+use Rattle.measures.specs.Lists.{Each}
+use Rattle.matching.proofs.laws.lists.EachLaws.{Has, has-each, each-map, each-append}
 use Rattle.matching.proofs.laws.clearing.ClearingLaws.{AskOf, BidOf, row-sides}
 use Rattle.book.specs.Book.{Book, rollingPhase, withOrders, inPhase}
 use Rattle.book.specs.Trades.{rowsBooked}

@@ -3,8 +3,7 @@ use Prim.Native.Nat.{ℕ, _+_}
 use mathlib.Core.Path.{_≡_, refl, ap}
 use mathlib.Core.Bool.{Bool, true, false, cond}
 use mathlib.Core.List.{List, [], _∷_, _++_, map}
-use Rattle.measures.specs.Lists.{keep, sumOf}
-use Rattle.matching.proofs.laws.lists.EachLaws.{Each}
+use Rattle.measures.specs.Lists.{Each, keep, sumOf}
 
 pub map-join : {A B : Type 0} (f : A → B) (xs ys : List A) → map f (xs ++ ys) ≡ map f xs ++ map f ys
 map-join f [] ys = refl

@@ -7,11 +7,11 @@ use mathlib.Core.List.{List, [], _∷_}
 use native.Mathlib.Omega.{arith}
 use borrow.Author.Tests.{eq-eqb, ne-eqb, lt-leb, ltb-false}
 use lib.Dec.{eqb, leb}
-use Rattle.measures.specs.Lists.{keep}
+use Rattle.measures.specs.Lists.{Each, keep}
 use Rattle.measures.proofs.ListLaws.{both-ways, cond-case}
 use Rattle.matching.specs.Orders.{Order as OpenOrder, less, lessen, insert, laid}
 use Rattle.matching.specs.Rolling.{candidate, aheadFor, counterparts}
-use Rattle.matching.proofs.laws.lists.EachLaws.{Each, Has, Pairs, each-keep, each-has, has-each, kept}
+use Rattle.matching.proofs.laws.lists.EachLaws.{Has, Pairs, each-keep, each-has, has-each, kept}
 use Rattle.matching.proofs.laws.orders.LaidLaws.{laid-each}
 use Rattle.matching.proofs.laws.orders.LessenLaws.{Numbered}
 use Rattle.matching.proofs.laws.rolling.CandidateLaws.{ahead-equal}

@@ -8,12 +8,12 @@ use borrow.Author.Tests.{ne-eqb, not-false}
 use lib.ListN.{length}
 use lib.Dec.{eqb}
 use Rattle.measures.specs.Ranges.{mostEnergy}
-use Rattle.measures.specs.Lists.{sumOf}
+use Rattle.measures.specs.Lists.{Each, sumOf}
 use Rattle.measures.proofs.RangeLaws.{In, within}
 use Rattle.measures.proofs.ListLaws.{cond-case}
 use Rattle.matching.specs.Orders.{Order as OpenOrder, Row, buys, leaving}
 use Rattle.matching.specs.Rolling.{counterparts, Match, matches, matchRow, afterMatches, meet}
-use Rattle.matching.proofs.laws.lists.EachLaws.{Each, each-map, each-all}
+use Rattle.matching.proofs.laws.lists.EachLaws.{each-map, each-all}
 use Rattle.matching.proofs.laws.lists.SumLaws.{sumOf-ext}
 use Rattle.book.specs.Book.{Book, callPhase, nextNumber}
 use Rattle.book.specs.Trades.{rowsBooked}

@@ -5,15 +5,15 @@ use mathlib.Core.Bool.{true}
 use mathlib.Core.List.{List, [], _∷_, map}
 use native.Mathlib.Omega.{arith}
 use lib.ListN.{length}
-use Rattle.measures.specs.Lists.{every}
+use Rattle.measures.specs.Lists.{Each, every}
 use Rattle.measures.proofs.RangeLaws.{In}
 use Rattle.limits.specs.Units.{periods}
 use Rattle.matching.specs.Orders.{Order as OpenOrder, rising, numbers}
-use Rattle.matching.proofs.laws.lists.EachLaws.{Each}
 use Rattle.book.specs.Book.{noUnit, OpenOffer, Book, unitOf}
 use Rattle.book.specs.Fit.{nothing}
 use Rattle.book.specs.Sound.{eachTwo, oneDirection, sound}
-use Rattle.matching.proofs.laws.lists.RemainLaws.{each-of, each-at}
+use Rattle.matching.proofs.laws.lists.EachLaws.{each-at}
+use Rattle.matching.proofs.laws.lists.RemainLaws.{each-of}
 use Rattle.book.proofs.laws.sound.FitLaws.{Fits}
 use Rattle.book.proofs.laws.sound.SoundLaws.{UnitRanges, OfferRanges, OrderRanges, sound-facts}
 

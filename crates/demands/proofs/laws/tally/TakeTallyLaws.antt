@@ -8,14 +8,14 @@ use borrow.Author.Tests.{eqb-true, eq-eqb, ne-eqb, ltb-true, not-false}
 use lib.ListN.{length, getD, set, length-append}
 use lib.Seq.{getD-at, set-at}
 use lib.Dec.{eqb, ltb}
-use Rattle.measures.specs.Lists.{keep, every}
+use Rattle.measures.specs.Lists.{Each, keep, every}
 use Rattle.measures.specs.Sharing.{total}
 use Rattle.measures.proofs.SharingLaws.{parts-length}
 use Rattle.measures.proofs.RangeLaws.{In, within}
 use Rattle.measures.proofs.ListLaws.{cond-case, and-left, and-right}
 use Rattle.limits.specs.Units.{periods, generator}
 use Rattle.matching.specs.Orders.{Row, rising}
-use Rattle.matching.proofs.laws.lists.EachLaws.{Each, each-map, each-keep, each-at, kept}
+use Rattle.matching.proofs.laws.lists.EachLaws.{each-map, each-keep, each-at, kept}
 use Rattle.book.specs.Book.{OpenOffer, noOffer, Book, unitOf, offersOf, offerOf, withOffers}
 use Rattle.book.specs.Trades.{rowsBooked}
 use Rattle.book.specs.Refusals.{accepted}

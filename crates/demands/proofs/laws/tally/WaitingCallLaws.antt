@@ -10,13 +10,13 @@ use lib.ListN.{length, length-append, length-map, List·getD-append, List·getD-
 use lib.Seq.{getD-at}
 use lib.Dec.{eqb}
 use Rattle.measures.specs.Ranges.{mostEnergy}
-use Rattle.measures.specs.Lists.{keep}
+use Rattle.measures.specs.Lists.{Each, keep}
 use Rattle.measures.specs.Sharing.{total}
 use Rattle.measures.proofs.RangeLaws.{In, within}
 use Rattle.measures.proofs.ListLaws.{and-right, keep-append}
 use Rattle.limits.specs.Units.{periods, generator}
 use Rattle.matching.specs.Orders.{Order as OpenOrder, Row}
-use Rattle.matching.proofs.laws.lists.EachLaws.{Each, each-map}
+use Rattle.matching.proofs.laws.lists.EachLaws.{each-map}
 use Rattle.matching.proofs.laws.lists.SumLaws.{sumOf-zero}
 use Rattle.book.specs.Book.{
   Figures,

@@ -7,13 +7,12 @@ use native.Mathlib.Omega.{arith}
 use borrow.Author.Tests.{eqb-true, eq-eqb, ne-eqb, not-false}
 use lib.ListN.{getD}
 use lib.Dec.{eqb}
-use Rattle.measures.specs.Lists.{keep, sumOf, sum}
+use Rattle.measures.specs.Lists.{Each, keep, sumOf, sum}
 use Rattle.measures.specs.Sharing.{total}
 use Rattle.measures.proofs.RangeLaws.{In}
-use Rattle.measures.proofs.ListLaws.{cond-case, sum-add, sum-change}
+use Rattle.measures.proofs.ListLaws.{sum-zero, cond-case, sum-add, sum-change}
 use Rattle.matching.specs.Orders.{Order as OpenOrder, Row}
 use Rattle.matching.specs.Memory.{noOrder}
-use Rattle.matching.proofs.laws.lists.EachLaws.{Each}
 use Rattle.demands.specs.Tally.{Amounts, noAmounts}
 use Rattle.demands.specs.Demand3.{offersPart, ordersPart}
 use Rattle.demands.proofs.laws.tally.AgreeLaws.{remains}
@@ -72,11 +71,6 @@ module _ (u p : ℕ) where
         go : (c : Bool) → cond c (g 0) 0 ≤ cond c (o .quantity) 0
         go true = h 0
         go false = omega arith
-
-sum-zero : (n : ℕ) (f : ℕ → ℕ) → ((k : ℕ) → k < n → f k ≡ 0) → sum n f ≡ 0
-unfolding sum
-sum-zero zero f h = refl
-sum-zero (suc n) f h = let t = sum-zero n f (λ k l. h k (omega arith)) in let e = h n (omega arith) in omega arith
 
 -- each row has one enrolled party on a side
 module _ (party : Row → ℕ) (p n : ℕ) where

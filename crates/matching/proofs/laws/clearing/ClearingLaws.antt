@@ -6,10 +6,10 @@ use mathlib.Core.List.{List}
 use native.Mathlib.Omega.{arith}
 use lib.Dec.{eqb}
 use borrow.Author.Tests.{eqb-true, ltb-true}
-use Rattle.measures.specs.Lists.{sumOf, keep}
+use Rattle.measures.specs.Lists.{Each, sumOf, keep}
 use Rattle.matching.specs.Orders.{Order, bids, asks}
 use Rattle.matching.specs.Clearing.{bidFills, askFills, endToEnd, overlapRows, clearPeriod}
-use Rattle.matching.proofs.laws.lists.EachLaws.{Each, Has, each-both, each-all, keep-sum}
+use Rattle.matching.proofs.laws.lists.EachLaws.{Has, each-both, each-all, keep-sum}
 use Rattle.matching.proofs.laws.orders.AheadLaws.{dearer, cheaper}
 use Rattle.matching.proofs.laws.clearing.FillLaws.{amounts, Fits, side-sum, side-fits, side-prices}
 use Rattle.matching.proofs.laws.rows.RowSumLaws.{rows-each, rows-bought, rows-sold, rows-total, spans-each}

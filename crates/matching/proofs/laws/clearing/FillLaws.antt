@@ -6,13 +6,13 @@ use mathlib.Core.List.{List, [], _∷_, _++_, map}
 use native.Mathlib.Omega.{arith}
 use lib.Dec.{eqb}
 use lib.ListN.{length, length-map}
-use Rattle.measures.specs.Lists.{sumOf, keep}
+use Rattle.measures.specs.Lists.{Each, sumOf, keep}
 use Rattle.measures.specs.Sharing.{total, parts}
 use Rattle.measures.proofs.ListLaws.{sumOf-append, keep-append}
 use Rattle.measures.proofs.SharingLaws.{Within, parts-length, parts-sum, no-part-exceeds}
 use Rattle.matching.specs.Orders.{Order, quantities}
 use Rattle.matching.specs.Clearing.{Fill, filled, fillsOf}
-use Rattle.matching.proofs.laws.lists.EachLaws.{Each, Pairs, each-append, each-keep, each-map, each-both, kept, keep-all}
+use Rattle.matching.proofs.laws.lists.EachLaws.{Pairs, each-append, each-keep, each-map, each-both, kept, keep-all}
 use Rattle.matching.proofs.laws.clearing.MarginLaws.{Margin, betterThan, atPrice}
 
 abbrev pub amounts : List Fill → ℕ

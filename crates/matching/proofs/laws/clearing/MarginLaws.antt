@@ -7,11 +7,11 @@ use native.Mathlib.Omega.{arith}
 use native.Mathlib.Decide.{decLt}
 use lib.Dec.{leb, eqb}
 use borrow.Author.Tests.{leb-true, leb-false, lt-ltb, eq-eqb}
-use Rattle.measures.specs.Lists.{keep}
+use Rattle.measures.specs.Lists.{Each, keep}
 use Rattle.measures.proofs.ListLaws.{cond-case, both-ways}
 use Rattle.matching.specs.Orders.{Order, quantities}
 use Rattle.matching.specs.Clearing.{tradedAt, largest, clearedVolume, marginal}
-use Rattle.matching.proofs.laws.lists.EachLaws.{Each, each-all}
+use Rattle.matching.proofs.laws.lists.EachLaws.{each-all}
 use Rattle.matching.proofs.laws.orders.AheadLaws.{Strict, Ordered, dearer, cheaper, dearer-strict, cheaper-strict}
 use Rattle.matching.proofs.laws.clearing.VolumeLaws.{
   demand,

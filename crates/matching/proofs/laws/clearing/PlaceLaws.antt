@@ -10,14 +10,14 @@ use lib.Dec.{eqb, leb}
 use borrow.Author.Tests.{eq-eqb, eqb-true, eqb-false, le-leb, lt-leb}
 use lib.ListN.{length, getD, take, length-take, List·getD-eq-default}
 use lib.Seq.{getD-take}
-use Rattle.measures.specs.Lists.{keep}
+use Rattle.measures.specs.Lists.{Each, keep}
 use Rattle.measures.specs.Ranges.{mostEnergy}
 use Rattle.measures.proofs.ListLaws.{both-ways}
 use Rattle.matching.specs.Orders.{Order, quantities, laid}
 use Rattle.matching.specs.Memory.{orderAt, ordersIn, noOrder}
 use Rattle.matching.specs.Clearing.{tradedAt, clearedVolume, marginal}
 use Rattle.matching.specs.inner.Places.{ordersAt, aheadOn, belongs, Stand, Sides, AreMargins, AtMargin}
-use Rattle.matching.proofs.laws.lists.EachLaws.{Each, each-all}
+use Rattle.matching.proofs.laws.lists.EachLaws.{each-all}
 use Rattle.matching.proofs.laws.orders.LaidLaws.{laid-quantities}
 use Rattle.matching.proofs.laws.orders.AheadLaws.{Strict, Ordered, Falling, Rising, bids-fall, asks-rise}
 use Rattle.matching.proofs.laws.clearing.VolumeLaws.{keep-some, keep-none, largest-below, traded}

@@ -5,11 +5,11 @@ use mathlib.Core.Bool.{Bool, true, false, not, _&&_}
 use mathlib.Core.List.{List, _++_}
 use native.Mathlib.Omega.{arith}
 use lib.Dec.{eqb}
-use Rattle.measures.specs.Lists.{sumOf, keep}
+use Rattle.measures.specs.Lists.{Each, sumOf, keep}
 use Rattle.measures.proofs.ListLaws.{and-right, and-left-false}
 use Rattle.matching.specs.Orders.{Order, quantities, numbers, rising, buys, sells, bids, asks, leaving, less}
 use Rattle.matching.specs.Clearing.{Fill, afterFills, clearPeriod}
-use Rattle.matching.proofs.laws.lists.EachLaws.{Each, Has, each-map, each-append, keep-nothing, keep-ext}
+use Rattle.matching.proofs.laws.lists.EachLaws.{Has, each-map, each-append, keep-nothing, keep-ext}
 use Rattle.matching.proofs.laws.clearing.FillLaws.{amounts}
 use Rattle.matching.proofs.laws.orders.LessenLaws.{rising-numbered, numbered-rising}
 use Rattle.matching.proofs.laws.orders.AfterLaws.{after-numbered, after-each, after-stay, after-open, fills-append}

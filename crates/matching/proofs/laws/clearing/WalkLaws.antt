@@ -10,12 +10,12 @@ use lib.Dec.{leb}
 use lib.ListN.{length, getD, take, drop}
 use lib.Seq.{take-all}
 use borrow.Author.Tests.{le-leb, lt-leb, leb-true}
-use Rattle.measures.specs.Lists.{keep}
+use Rattle.measures.specs.Lists.{Each, keep}
 use Rattle.measures.proofs.ListLaws.{cond-true, cond-false}
 use Rattle.matching.specs.Orders.{Order, quantities}
 use Rattle.matching.specs.Memory.{noOrder}
 use Rattle.matching.specs.Clearing.{tradedAt, clearedVolume, marginal}
-use Rattle.matching.proofs.laws.lists.EachLaws.{Each, each-map, each-all, pairs-upto, pairs-from}
+use Rattle.matching.proofs.laws.lists.EachLaws.{each-map, each-all, pairs-upto, pairs-from}
 use Rattle.matching.proofs.laws.orders.AheadLaws.{Falling, Rising}
 use Rattle.matching.proofs.laws.clearing.VolumeLaws.{demand, supply, traded, keep-more, keep-some, largest-below, no-price-trades-more}
 

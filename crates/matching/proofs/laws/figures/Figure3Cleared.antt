@@ -8,7 +8,8 @@ use Rattle.matching.specs.Orders.{Row, bids, asks}
 use Rattle.matching.specs.Memory.{ordersIn, written}
 use Rattle.matching.specs.Clearing.{clearedVolume, marginal, clearingPrice, clearPeriod}
 use Rattle.matching.specs.Answers.{fit, Clears}
-use Rattle.matching.proofs.laws.lists.EachLaws.{Each, each-map}
+use Rattle.measures.specs.Lists.{Each}
+use Rattle.matching.proofs.laws.lists.EachLaws.{each-map}
 use Rattle.matching.proofs.laws.clearing.PeriodLaws.{priceOf}
 use Rattle.matching.proofs.laws.clearing.ClearingLaws.{rows-at-price}
 use Rattle.matching.proofs.laws.figures.FiguresHold.{figure3-holds}

@@ -6,15 +6,10 @@ use mathlib.Core.Bool.{Bool, true, false, cond, _&&_}
 use mathlib.Core.List.{List, [], _∷_, _++_}
 use native.Mathlib.Omega.{arith}
 use lib.ListN.{length, getD, take, drop}
-use Rattle.measures.specs.Lists.{sumOf, keep}
+use Rattle.measures.specs.Lists.{Each, sumOf, keep}
 use Rattle.measures.proofs.ListLaws.{cond-case}
 
 module _ {A : Type 0} where
-  -- P holds of each element
-  abbrev pub Each : (A → Type 0) → List A → Type 0
-  Each P [] = Unit {0}
-  Each P (x ∷ xs) = P x × Each P xs
-
   -- x is an element
   abbrev pub Has : A → List A → Type 0
   Has x [] = ⊥

@@ -26,18 +26,9 @@ module _ {A : Type 0} where
   each-imp P Q h [] e = tt
   each-imp P Q h (x ∷ l) e = (h x (e .0), each-imp P Q h l (e .1))
 
-  pub each-at : (P : A → Type 0) (l : List A) (i : ℕ) (d : A) → Each P l → i < length l → P (getD l i d)
-  each-at P [] i d e h = absurd (not-suc-le-zero h)
-  each-at P (x ∷ l) zero d e h = e .0
-  each-at P (x ∷ l) (suc i) d e h = each-at P l i d (e .1) (omega arith)
-
   pub each-by : (P : A → Type 0) (l : List A) (d : A) → ((i : ℕ) → i < length l → P (getD l i d)) → Each P l
   each-by P [] d h = tt
   each-by P (x ∷ l) d h = (h 0 (omega arith), each-by P l d (λ i k. h (suc i) (omega arith)))
-
-  pub each-append : (P : A → Type 0) (xs ys : List A) → Each P xs → Each P ys → Each P (xs ++ ys)
-  each-append P [] ys e f = f
-  each-append P (x ∷ xs) ys e f = (e .0, each-append P xs ys (e .1) f)
 
   pub every-append : (f : A → Bool) (xs ys : List A) → every f xs ≡ true → every f ys ≡ true → every f (xs ++ ys) ≡ true
   every-append f [] ys e h = h

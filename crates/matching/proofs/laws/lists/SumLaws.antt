@@ -4,8 +4,8 @@ use mathlib.Core.Path.{_≡_, refl, sym, ap, ap₂, _∙_}
 use mathlib.Core.Bool.{Bool, true, false, cond}
 use mathlib.Core.List.{List, [], _∷_}
 use native.Mathlib.Omega.{arith}
-use Rattle.measures.specs.Lists.{sumOf}
-use Rattle.matching.proofs.laws.lists.EachLaws.{Each, Has}
+use Rattle.measures.specs.Lists.{Each, sumOf}
+use Rattle.matching.proofs.laws.lists.EachLaws.{Has}
 use mathlib.Core.Logic.{inl, inr}
 
 module _ {A : Type 0} where

@@ -4,11 +4,11 @@ use mathlib.Core.Path.{_≡_, refl, sym, ap, _∙_}
 use mathlib.Core.Bool.{Bool, false, cond}
 use mathlib.Core.List.{List, [], _∷_, _++_}
 use native.Mathlib.Omega.{arith}
-use Rattle.measures.specs.Lists.{sumOf, keep}
+use Rattle.measures.specs.Lists.{Each, sumOf, keep}
 use Rattle.measures.proofs.ListLaws.{sumOf-append, keep-append}
 use Rattle.matching.specs.Orders.{Order, quantities, lessen, less, leaving}
 use Rattle.matching.specs.Clearing.{Fill, afterFills}
-use Rattle.matching.proofs.laws.lists.EachLaws.{Each, Has, Pairs, each-map, each-both, each-has, keep-sum}
+use Rattle.matching.proofs.laws.lists.EachLaws.{Has, Pairs, each-map, each-both, each-has, keep-sum}
 use Rattle.matching.proofs.laws.clearing.FillLaws.{Fits, amounts}
 use Rattle.matching.proofs.laws.orders.LessenLaws.{
   Numbered,

@@ -7,11 +7,11 @@ use native.Mathlib.Omega.{arith}
 use native.Mathlib.Decide.{ℕ-discrete}
 use lib.Dec.{eqb}
 use borrow.Author.Tests.{eq-eqb, ne-eqb, eqb-true}
-use Rattle.measures.specs.Lists.{sumOf, keep}
+use Rattle.measures.specs.Lists.{Each, sumOf, keep}
 use Rattle.measures.proofs.ListLaws.{sumOf-append, and-right, and-right-false}
 use Rattle.matching.specs.Orders.{Order, Row, sells, buys, quantities, numbers, rising}
 use Rattle.matching.specs.Clearing.{clearPeriod}
-use Rattle.matching.proofs.laws.lists.EachLaws.{Each, each-map, each-all, keep-sum}
+use Rattle.matching.proofs.laws.lists.EachLaws.{each-map, each-all, keep-sum}
 use Rattle.matching.proofs.laws.lists.SumLaws.{sumOf-ext, sumOf-zero}
 use Rattle.matching.proofs.laws.clearing.ClearingLaws.{rows-at-price}
 use Rattle.matching.proofs.laws.clearing.RestLaws.{others-stay, bids-less-rows, asks-less-rows}

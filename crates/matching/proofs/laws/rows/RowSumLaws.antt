@@ -7,11 +7,11 @@ use native.Mathlib.Omega.{arith}
 use native.Mathlib.Decide.{decLt}
 use lib.Dec.{eqb}
 use borrow.Author.Tests.{eqb-true, eqb-false}
-use Rattle.measures.specs.Lists.{sumOf}
+use Rattle.measures.specs.Lists.{Each, sumOf}
 use Rattle.measures.proofs.ListLaws.{cond-case, sumOf-append}
 use Rattle.matching.specs.Orders.{Row}
 use Rattle.matching.specs.Clearing.{Fill, Span, endToEnd, overlap, rowsOfBid, overlapRows}
-use Rattle.matching.proofs.laws.lists.EachLaws.{Each, each-append, each-all}
+use Rattle.matching.proofs.laws.lists.EachLaws.{each-append, each-all}
 use Rattle.matching.proofs.laws.lists.SumLaws.{sumOf-ext, sumOf-swap, sumOf-when}
 use Rattle.matching.proofs.laws.clearing.FillLaws.{amounts}
 
