@@ -47,8 +47,7 @@ shared-slice-read-x c = search needs
 add-x : tie.Need-add-x Inv-loop μ-loop
 add-x c =
     let c3 = c .before .before .before in
-    let c10 = c3 .before .before .before .before .before .before .before in
-    let s = c10 in
+    let s = c3 .before .before .before .before .before .before .before in
     let l = c3 .loop in
     let b = bid-in-range _ _ _ _ _ _ _ _ _ _ (s .pre .4) (s .pre .5) _ _ _ _ _ _ _ (l .inv .2) (c .before .before .loop-test .taken)
     (omega (arith, c .before .if1 .left, l .inv .1)) in
@@ -64,8 +63,7 @@ add-y : tie.Need-add-y Inv-loop μ-loop
 add-y c =
     let c3 = c .before .before .before in
     let c4 = c3 .before in
-    let c11 = c4 .before .before .before .before .before .before .before in
-    let s = c11 in
+    let s = c4 .before .before .before .before .before .before .before in
     let l = c4 .loop in
     let b = ask-in-range _ _ _ _ _ _ _ _ _ _ (s .pre .4) (s .pre .5) _ _ _ _ _ _ _ (l .inv .2) (c3 .loop-test .taken)
     (omega (arith, c .before .before .if1 .left, l .inv .1)) in
@@ -104,8 +102,7 @@ put-some-requires c κs =
     let c8 = c .before .before .before .before .before .before .before .before in
     let c9 = c8 .before in
     let c10 = c9 .before in
-    let c17 = c10 .before .before .before .before .before .before .before in
-    let s = c17 in
+    let s = c10 .before .before .before .before .before .before .before in
     let l = c10 .loop in
     let g = l .inv .2 in
     omega (arith, g .room, g .few, s .pre .1, s .pre .2, s .pre .3, l .inv .1, c9 .loop-test .taken, c8 .if1 .left)
@@ -125,8 +122,7 @@ loop-again c =
     let c12 = c8 .before .before .before .before in
     let c13 = c12 .before in
     let c14 = c13 .before in
-    let c21 = c14 .before .before .before .before .before .before .before in
-    let s = c21 in
+    let s = c14 .before .before .before .before .before .before .before in
     let l = c14 .loop in (
       omega (arith, c13 .loop-test .taken),
       l .inv .1,
@@ -150,8 +146,7 @@ loop-again-2 c =
     let c12 = c8 .before .before .before .before in
     let c13 = c12 .before in
     let c14 = c13 .before in
-    let c21 = c14 .before .before .before .before .before .before .before in
-    let s = c21 in
+    let s = c14 .before .before .before .before .before .before .before in
     let l = c14 .loop in (
       l .inv .0,
       omega (arith, c12 .if1 .left, l .inv .1),
