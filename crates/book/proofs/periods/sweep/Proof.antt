@@ -56,8 +56,7 @@ same-length-2 c = search needs
 returns : tie.Need-returns
 returns c =
     let c6 = c .before .before .before .before .before .before in
-    let c13 = c6 .before .before .before .before .before .before .before in
-    let s = c13 in
+    let s = c6 .before .before .before .before .before .before .before in
     all-fit _ _ _ _ _ _ _ (clear-fits _ _ (s .pre .0) (s .pre .1)) (c6 .clear-periods .ensures)
     (ap (λ (a : Matched). answerOf a .fits) (c .enum-told .given .1))
 
