@@ -58,7 +58,7 @@ unfoldable pub after : Stands → Said → Stands
 after s (refuses refusal) = s
 after s (accepts number rows b) = standing b
 
--- "It prints `ok` and the returned number, or `no` and the refusal, then `t` and the six fields for each row"
+-- It prints "`ok` and the returned number, or `no` and the refusal, then `t` and the six fields for each row"
 unfoldable pub printed : Said → List ℕ
 printed (refuses refusal) = printedNo refusal
 printed (accepts number rows b) = printedOk number rows

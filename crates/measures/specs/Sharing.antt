@@ -12,7 +12,7 @@ abbrev pub total : List ℕ → ℕ
 total [] = 0
 total (r ∷ rs) = r + total rs
 
--- "floor(d times S / R)": what the amounts up to the running sum S get together
+-- floor(d times S / R): what the amounts up to the running sum S get together
 abbrev pub upTo : ℕ → ℕ → ℕ → ℕ
 upTo d R S = d * S / R
 

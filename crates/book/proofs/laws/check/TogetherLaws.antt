@@ -23,7 +23,16 @@ use Rattle.book.specs.inner.Whole.{Latest, Alike, Prices, crossless, Pri
 use Rattle.book.proofs.laws.memory.RangeFacts.{order-word}
 use Rattle.book.proofs.laws.check.ShareLaws.{order-words}
 use Rattle.book.proofs.laws.check.MisfitLaws.{zeros-at}
-use Rattle.book.proofs.laws.check.PairLaws.{one-direction-holds, one-direction-fact, apart-holds, apart-fact, pair-holds, pair-fact, pairs-by, pairs-fail}
+use Rattle.book.proofs.laws.check.PairLaws.{
+  one-direction-holds,
+  one-direction-fact,
+  apart-holds,
+  apart-fact,
+  pair-holds,
+  pair-fact,
+  pairs-by,
+  pairs-fail,
+}
 
 abbrev orderIn : List ℕ → ℕ → OpenOrder
 orderIn m k = orderAt (ordersPart m) k

@@ -84,7 +84,8 @@ rows-two-units n p os c =
         let t : b .order .direction ≡ 1 = eqb-true _ _ (and-left (buys (b .order .direction)) (eqb (b .order .period) p) (b .buy)) in
         let v : a .order .period ≡ p = eqb-true _ _ (and-right (sells (a .order .direction)) (eqb (a .order .period) p) (a .sale)) in
         let w : b .order .period ≡ p = eqb-true _ _ (and-right (buys (b .order .direction)) (eqb (b .order .period) p) (b .buy)) in
-        let same = has-each (SameDirection (a .order)) os (b .order) (has-each (λ (x : OpenOrder). Each (SameDirection x) os) os (a .order) (c .sameDirection) (a .stands))
+        let same = has-each (SameDirection (a .order)) os (b .order)
+        (has-each (λ (x : OpenOrder). Each (SameDirection x) os) os (a .order) (c .sameDirection) (a .stands))
         (b .stands) in
         let d = same (a .unit ∙ e ∙ sym (b .unit)) (v ∙ sym w) in
         omega arith

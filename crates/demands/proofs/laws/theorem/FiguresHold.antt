@@ -7,7 +7,20 @@ use Rattle.limits.specs.Limits.{hourLimit, termLimit, volumeLimit}
 use Rattle.limits.proofs.FiguresHold.{figure5-holds, figure6-holds}
 use Rattle.matching.specs.Orders.{rising, lessen, bidAhead, askAhead, insert, laid}
 use Rattle.matching.specs.Rolling.{candidate, counterparts, matches, matchRow, afterMatches, meet}
-use Rattle.matching.specs.Clearing.{tradedAt, largest, clearedVolume, marginal, filled, fillsOf, endToEnd, rowsOfBid, overlapRows, afterFills, clearPeriod, clearFrom}
+use Rattle.matching.specs.Clearing.{
+  tradedAt,
+  largest,
+  clearedVolume,
+  marginal,
+  filled,
+  fillsOf,
+  endToEnd,
+  rowsOfBid,
+  overlapRows,
+  afterFills,
+  clearPeriod,
+  clearFrom,
+}
 use Rattle.matching.proofs.laws.figures.FiguresHold.{figure2-holds, figure3-holds, figure4-holds}
 use Rattle.book.specs.Trades.{traded, booked, rowsBooked}
 use Rattle.book.specs.Fit.{openOrders, openOffers, openRaising, openLowering, hourFits, hoursFit, termFits, volumeFits, unitFits}

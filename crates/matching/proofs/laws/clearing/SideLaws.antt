@@ -11,7 +11,20 @@ use Rattle.measures.specs.Sharing.{parts}
 use Rattle.measures.proofs.ListLaws.{both-ways, and-true}
 use Rattle.matching.specs.Orders.{Order, quantities, laid, leaving}
 use Rattle.matching.specs.Clearing.{Fill, filled, fillsOf, afterFills}
-use Rattle.matching.proofs.laws.lists.EachLaws.{Has, Pairs, each-map, each-both, each-append, each-keep, kept, keep-sum, keep-all, keep-keep, pairs-keep, pairs-append}
+use Rattle.matching.proofs.laws.lists.EachLaws.{
+  Has,
+  Pairs,
+  each-map,
+  each-both,
+  each-append,
+  each-keep,
+  kept,
+  keep-sum,
+  keep-all,
+  keep-keep,
+  pairs-keep,
+  pairs-append,
+}
 use Rattle.matching.proofs.laws.lists.SumLaws.{sumOf-has}
 use Rattle.matching.proofs.laws.orders.LaidLaws.{laid-each, laid-keep-quantities}
 use Rattle.matching.proofs.laws.orders.AheadLaws.{Strict}
