@@ -36,16 +36,16 @@ outcome b (callClear lent) = clearing b lent
 outcome b callClose = closing b
 
 -- what a caller is told: the refusal (0: none), the number and the rows
-pub record Answer : Type 0 where
+pub record Heard : Type 0 where
   pub refusal : ℕ
   pub number : ℕ
   pub rows : List Row
 
-abbrev pub answered : Outcome → Answer
+abbrev pub answered : Outcome → Heard
 answered o = record { refusal = o .refusal; number = o .number; rows = o .rows }
 
 -- the answers to a list of calls, each on the book that the last one left
-unfoldable pub answers : Book → List Call → List Answer
+unfoldable pub answers : Book → List Call → List Heard
 answers b [] = []
 answers b (c ∷ cs) = let o = outcome b c in answered o ∷ answers (o .book) cs
 

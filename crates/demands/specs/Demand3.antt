@@ -55,22 +55,22 @@ pub record Part (t : Tally) : Type 0 where
   pub orders : (i : ℕ) → ofOrder i ≤ getD (t .orders) i noOrder .quantity
 
 -- the parts of a unit's offers in a period; f is the part by place and period
-unfoldable pub offersPart : (ℕ → ℕ → ℕ) → ℕ → ℕ → List Amounts → ℕ
-offersPart f u p [] = 0
-offersPart f u p (a ∷ os) = cond (eqb (a .unit) u) (f 0 p) 0 + offersPart (λ j. f (suc j)) u p os
+unfoldable pub partOfOffers : (ℕ → ℕ → ℕ) → ℕ → ℕ → List Amounts → ℕ
+partOfOffers f u p [] = 0
+partOfOffers f u p (a ∷ os) = cond (eqb (a .unit) u) (f 0 p) 0 + partOfOffers (λ j. f (suc j)) u p os
 
 -- the parts of a unit's orders in a period, of those in a direction that side picks; g is the part by place
-unfoldable pub ordersPart : (ℕ → ℕ) → (ℕ → Bool) → ℕ → ℕ → List OpenOrder → ℕ
-ordersPart g side u p [] = 0
-ordersPart g side u p (o ∷ os) =
-    cond (eqb (o .unit) u && eqb (o .period) p && side (o .direction)) (g 0) 0 + ordersPart (λ i. g (suc i)) side u p os
+unfoldable pub partOfOrders : (ℕ → ℕ) → (ℕ → Bool) → ℕ → ℕ → List OpenOrder → ℕ
+partOfOrders g side u p [] = 0
+partOfOrders g side u p (o ∷ os) =
+    cond (eqb (o .unit) u && eqb (o .period) p && side (o .direction)) (g 0) 0 + partOfOrders (λ i. g (suc i)) side u p os
 
 -- "raising to the net, lowering off it": the parts of a unit's open amounts in a period
 unfoldable pub raisingPart : (t : Tally) → Part t → ℕ → ℕ → ℕ
-raisingPart t x u p = offersPart (x .ofOffer) u p (t .offers) + ordersPart (x .ofOrder) (raises (memberOf t u .kind)) u p (t .orders)
+raisingPart t x u p = partOfOffers (x .ofOffer) u p (t .offers) + partOfOrders (x .ofOrder) (raises (memberOf t u .kind)) u p (t .orders)
 
 unfoldable pub loweringPart : (t : Tally) → Part t → ℕ → ℕ → ℕ
-loweringPart t x u p = ordersPart (x .ofOrder) (lowers (memberOf t u .kind)) u p (t .orders)
+loweringPart t x u p = partOfOrders (x .ofOrder) (lowers (memberOf t u .kind)) u p (t .orders)
 
 -- the nets of one side in a period
 unfoldable pub netsOf : (ℕ → Bool) → Tally → ℕ → ℕ

@@ -10,13 +10,13 @@ use Rattle.matching.specs.Orders.{Row}
 use Rattle.matching.specs.Figures.{Figure2, Figure3, Figure4}
 use Rattle.book.specs.Opening.{fresh, openingRefusal, bookWords}
 use Rattle.book.specs.Curve.{Drawn, curve}
-use Rattle.book.specs.Calls.{Call, callEnrol, callOffer, callTake, callWithdraw, callOrder, callCancel, callClear, callClose, Answer, answers, bookAfter}
+use Rattle.book.specs.Calls.{Call, callEnrol, callOffer, callTake, callWithdraw, callOrder, callCancel, callClear, callClose, Heard, answers, bookAfter}
 
 -- answers: accepted with a number and rows, or refused
-abbrev pub ok : ℕ → List Row → Answer
+abbrev pub ok : ℕ → List Row → Heard
 ok n rs = record { refusal = 0; number = n; rows = rs }
 
-abbrev pub no : ℕ → Answer
+abbrev pub no : ℕ → Heard
 no r = record { refusal = r; number = 0; rows = [] }
 
 -- 24 amounts: q in hour h, else 0
@@ -27,7 +27,7 @@ inHour h q = replicate h 0 ++ q ∷ replicate (Prim.Native.Nat._-_ 23 h) 0
 abbrev pub order1 : ℕ → ℕ → ℕ → Call
 order1 direction period quantity = callOrder 1 direction period 5 quantity 4_464
 
-abbrev pub On1Day : List Call → List Answer → Type 0
+abbrev pub On1Day : List Call → List Heard → Type 0
 On1Day cs expected = answers (fresh (rulesOf 1 0 1_000_000)) cs ≡ expected
 
 -- "Kind 2, 100 kW, one day: limits 100, 2,400, 2,880. Sell 100 accepted, 101 gives 19."

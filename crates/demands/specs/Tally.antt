@@ -9,7 +9,7 @@ use Rattle.limits.specs.Units.{periods}
 use Rattle.matching.specs.Orders.{Order as OpenOrder, Row, buys, less, orderWith}
 use Rattle.matching.specs.Clearing.{Cleared, clearFrom}
 use Rattle.book.specs.Book.{Rules}
-use Rattle.book.specs.Calls.{Call, callEnrol, callOffer, callTake, callWithdraw, callOrder, callCancel, callClear, callClose, Answer}
+use Rattle.book.specs.Calls.{Call, callEnrol, callOffer, callTake, callWithdraw, callOrder, callCancel, callClear, callClose, Heard}
 
 -- a unit with the fields given at its enrol
 pub record Member : Type 0 where
@@ -77,7 +77,7 @@ orderLeft n u d p price q rs =
     cond (eqb left 0) [] (orderWith n u d p price left ∷ [])
 
 -- one accepted call
-unfoldable pub accounted : Tally → Call → Answer → Tally
+unfoldable pub accounted : Tally → Call → Heard → Tally
 -- "Enrol: the next unit, with the fields given."
 accounted t (callEnrol kind capacity asset) a =
     record {
@@ -143,5 +143,5 @@ accounted t callClose a =
     record { rules = t .rules; units = t .units; rows = t .rows ++ a .rows; offers = []; orders = [] }
 
 -- "Refused: nothing changes."
-abbrev pub tallied : Tally → Call → Answer → Tally
+abbrev pub tallied : Tally → Call → Heard → Tally
 tallied t c a = cond (eqb (a .refusal) 0) (accounted t c a) t

@@ -6,7 +6,7 @@ use mathlib.Core.List.{List, []}
 use lib.ListN.{length, getD}
 use Rattle.book.specs.declared.Answer.{Answer}
 use Rattle.book.specs.Calls.{Call, callEnrol, callOffer, callTake, callWithdraw, callOrder, callCancel, callClear, callClose}
-use Rattle.book.specs.Calls.{Answer as Heard}
+use Rattle.book.specs.Calls.{Heard}
 use Rattle.book.specs.Book.{Rules}
 use Rattle.book.specs.Contract.{Told, toldBy, soundIn, Made, Opened, Curved}
 use Rattle.book.specs.Layout.{decode}

@@ -28,7 +28,7 @@ use Rattle.demands.specs.Demand3.{
   netOf,
   volumeOf,
   Part,
-  ordersPart,
+  partOfOrders,
   raisingPart,
   loweringPart,
   netsOf,
@@ -103,7 +103,7 @@ module _ (t : Tally) (b : Book) (a : Agree t b) (w : Standing b) where
   -- a part of what is open is at most what is open
   module _ (x : Part t) (u p : ℕ) where
     orders-bound : (side : ℕ → ℕ → Bool)
-        → ordersPart (x .ofOrder) (side (memberOf t u .kind)) u p (t .orders)
+        → partOfOrders (x .ofOrder) (side (memberOf t u .kind)) u p (t .orders)
         ≤ sumOf (λ (o : OpenOrder). cond (eqb (o .unit) u && eqb (o .period) p && side (unitOf b u .kind) (o .direction)) (o .quantity) 0) (b .orders)
     orders-bound side =
         let k : memberOf t u .kind ≡ unitOf b u .kind = ap (λ (m : Member). m .kind) (member-of t b a u) in

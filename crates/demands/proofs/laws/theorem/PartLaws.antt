@@ -14,7 +14,7 @@ use Rattle.measures.proofs.ListLaws.{sum-zero, cond-case, sum-add, sum-change}
 use Rattle.matching.specs.Orders.{Order as OpenOrder, Row}
 use Rattle.matching.specs.Memory.{noOrder}
 use Rattle.demands.specs.Tally.{Amounts, noAmounts}
-use Rattle.demands.specs.Demand3.{offersPart, ordersPart}
+use Rattle.demands.specs.Demand3.{partOfOffers, partOfOrders}
 use Rattle.demands.proofs.laws.tally.AgreeLaws.{remains}
 
 -- no amount is over the total
@@ -45,23 +45,23 @@ module _ (u p : ℕ) where
       go true = omega (arith, at-most-total (a .amounts) p, none)
       go false = refl
 
-  pub offers-part : (f : ℕ → ℕ → ℕ) (os : List Amounts) → ((j q : ℕ) → f j q ≤ getD (getD os j noAmounts .amounts) q 0) → offersPart f u p os
+  pub offers-part : (f : ℕ → ℕ → ℕ) (os : List Amounts) → ((j q : ℕ) → f j q ≤ getD (getD os j noAmounts .amounts) q 0) → partOfOffers f u p os
       ≤ sumOf left (keep remains os)
-  unfolding offersPart
+  unfolding partOfOffers
   offers-part f [] h = omega arith
   offers-part f (a ∷ os) h =
       let ih = offers-part (λ j. f (suc j)) os (λ j. h (suc j)) in
       let l = part-left a (f 0 p) (h 0 p) in
-      cond-case (λ (l : List Amounts). cond (eqb (a .unit) u) (f 0 p) 0 + offersPart (λ j. f (suc j)) u p os ≤ sumOf left l) (remains a) _ _
+      cond-case (λ (l : List Amounts). cond (eqb (a .unit) u) (f 0 p) 0 + partOfOffers (λ j. f (suc j)) u p os ≤ sumOf left l) (remains a) _ _
       (λ e. omega arith)
       (λ e. omega (arith, part-gone a (f 0 p) (h 0 p) e))
 
   -- and of each order's in a period
   module _ (side : ℕ → Bool) where
     pub orders-part : (g : ℕ → ℕ) (os : List OpenOrder) → ((i : ℕ) → g i ≤ getD os i noOrder .quantity)
-        → ordersPart g side u p os
+        → partOfOrders g side u p os
         ≤ sumOf (λ (o : OpenOrder). cond (eqb (o .unit) u && eqb (o .period) p && side (o .direction)) (o .quantity) 0) os
-    unfolding ordersPart
+    unfolding partOfOrders
     orders-part g [] h = omega arith
     orders-part g (o ∷ os) h =
         let ih = orders-part (λ i. g (suc i)) os (λ i. h (suc i)) in

@@ -21,7 +21,7 @@ use Rattle.book.specs.Opening.{bookWords, fresh, openingRefusal}
 use Rattle.book.specs.Curve.{Drawn, curve, curveRefusal, curveChecks, points, pointsFrom}
 use Rattle.book.specs.Layout.{word, decode, enough}
 use Rattle.book.specs.Calls.{Call, callEnrol, callOffer, callTake, callWithdraw, callOrder, callCancel, callClear, callClose, outcome, answered}
-use Rattle.book.specs.Calls.{Answer as Heard}
+use Rattle.book.specs.Calls.{Heard}
 use Rattle.book.specs.Contract.{Told, toldBy, soundIn, outcomeOn, Made, Opened, curveOn, Curved}
 use Rattle.demands.specs.Tally.{Tally, opened, tallied, accounted}
 use Rattle.demands.specs.Demand3.{Demand3, isMember, netOf}
