@@ -4,7 +4,7 @@ use Rattle.measures.specs.Lists.{holds, sum, all}
 use Rattle.limits.specs.Limits.{hourLimit, termLimit, volumeLimit}
 use Rattle.matching.specs.Orders.{rising, lessen, bidAhead, askAhead, insert, laid}
 use Rattle.matching.specs.Rolling.{candidate, counterparts, matches, matchRow, afterMatches, meet}
-use Rattle.matching.specs.Clearing.{tradedAt, largest, clearedVolume, clearPeriod}
+use Rattle.matching.specs.Clearing.{clearFrom, tradedAt, largest, clearedVolume, clearPeriod}
 use Rattle.book.specs.Trades.{traded, booked, rowsBooked}
 use Rattle.book.specs.Fit.{openOrders, openOffers, openRaising, openLowering, hourFits, hoursFit, termFits, volumeFits, unitFits}
 use Rattle.book.specs.Sound.{headIn, unitIn, offerIn, orderIn, numbersDiffer, eachTwo, sound}
@@ -12,7 +12,7 @@ use Rattle.book.specs.Refusals.{firstOf}
 use Rattle.book.specs.Opening.{openingRefusal}
 use Rattle.book.specs.Enrol.{enrolRefusal, enrolment}
 use Rattle.book.specs.Order.{orderRefusal, waiting, ordering}
-use Rattle.book.specs.Clear.{clearRefusal, clearFrom, clearing}
+use Rattle.book.specs.Clear.{clearRefusal, clearing}
 use Rattle.book.specs.Close.{closing}
 use Rattle.lines.specs.Lines.{firstField, otherFields, valueFrom, goesOn, isNumber, values, countOf, isCall, callOf, lineOf, called, numbered}
 use Rattle.lines.specs.Lines.{lettered, parse}
