@@ -9,13 +9,13 @@ use Rattle.measures.specs.Ranges.{mostEnergy}
 use Rattle.matching.specs.declared.orders.Matched.{Matched}
 use Rattle.matching.specs.declared.orders.Matched.the-variants.{Unfit, Done}
 use Rattle.matching.specs.Orders.{Order, Row, rising, numbers, quantities}
-use Rattle.matching.specs.Memory.{ordersIn, placeIn, roomFor, written}
+use Rattle.matching.specs.Memory.{orderWords, rowWords, ordersIn, placeIn, roomFor, written}
 use Rattle.matching.specs.Rolling.{Met, meet}
 use Rattle.matching.specs.Clearing.{Cleared, clearPeriod, clearFrom}
 
 -- n orders, at most 256, all in the memory, whose numbers rise
 unfoldable pub numbersRise : List ℕ → ℕ → Bool
-numbersRise m n = leb n 256 && leb (6 * n) (length m) && rising (numbers (ordersIn m n))
+numbersRise m n = leb n 256 && leb (orderWords * n) (length m) && rising (numbers (ordersIn m n))
 
 -- at place k of n orders something was done, b says whether it is a place of theirs, and n′ orders os are left; m is the
 -- memory at entry, m′ at exit
@@ -23,7 +23,7 @@ pub record Placed (m : List ℕ) (n k n′ : ℕ) (os : List Order) (b : Bool) (
   pub there : b ≡ placeIn m n k
   pub orders : placeIn m n k ≡ true → ordersIn m′ n′ ≡ os
   pub stay : placeIn m n k ≡ false → m′ ≡ m
-  pub past : drop (6 * n) m′ ≡ drop (6 * n) m
+  pub past : drop (orderWords * n) m′ ≡ drop (orderWords * n) m
 
 -- an order takes place k
 abbrev pub Written : List ℕ → ℕ → ℕ → Order → Bool → List ℕ → Type 0
@@ -43,7 +43,7 @@ pub record RowPut (m : List ℕ) (k : ℕ) (r : Row) (b : Bool) (m′ : List ℕ
 -- together than the largest energy; and a row lent for each
 unfoldable pub fit : List ℕ → ℕ → List ℕ → Bool
 fit m n rows =
-    leb n 256 && leb (6 * n) (length m) && leb (6 * n) (length rows)
+    leb n 256 && leb (orderWords * n) (length m) && leb (rowWords * n) (length rows)
     && rising (numbers (ordersIn m n)) && leb (quantities (ordersIn m n)) mostEnergy
 
 -- an answer: what is left of the incoming order, the count of rows, and how many orders stand
@@ -67,7 +67,7 @@ pub record Matches (m rows : List ℕ) (n : ℕ) (b : Bool) (rs : List Row) (os 
   pub count : b ≡ true → answerOf a .count ≡ length rs
   pub orders : b ≡ true → ordersIn m′ (answerOf a .standing) ≡ os
   pub handed : b ≡ true → rows′ ≡ written rows rs
-  pub past : drop (6 * n) m′ ≡ drop (6 * n) m
+  pub past : drop (orderWords * n) m′ ≡ drop (orderWords * n) m
 
 -- an incoming order met the n orders
 abbrev pub Meets : List ℕ → List ℕ → ℕ → Order → Matched → List ℕ → List ℕ → Type 0
@@ -82,7 +82,7 @@ Clears m rows n period a m′ rows′ =
 -- orders whose periods below `end` can be cleared one after the other: fit, with two rows lent for each, and at most 744
 -- periods
 unfoldable pub fitBelow : List ℕ → ℕ → ℕ → List ℕ → Bool
-fitBelow m n end rows = fit m n rows && leb (12 * n) (length rows) && leb end 744
+fitBelow m n end rows = fit m n rows && leb (2 * rowWords * n) (length rows) && leb end 744
 
 -- the periods below `end` of the n orders were cleared
 abbrev pub ClearsAll : List ℕ → List ℕ → ℕ → ℕ → Matched → List ℕ → List ℕ → Type 0

@@ -2,24 +2,15 @@
 use crate::margins::Margins;
 use crate::orders::Matched;
 use measures::Energy;
-use measures::Price;
 ghost use mathlib.Core.Path.{_≡_};
 ghost use mathlib.Core.Bool.{true};
-ghost use Prim.Native.Nat.{ℕ, _<_};
+ghost use Prim.Native.Nat.{_<_};
 ghost use lib.ListN.{take};
 ghost use Rattle.measures.specs.Lists.{keep};
 ghost use Rattle.matching.specs.Orders.{laid};
 ghost use Rattle.matching.specs.Memory.{ordersIn};
-ghost use Rattle.matching.specs.Clearing.{clearingPrice};
 ghost use Rattle.matching.specs.Answers.{fit, Clears};
 ghost use Rattle.matching.specs.inner.Places.{ordersAt, aheadOn, belongs, Stand, AreMargins};
-
-// The price between a bid and an ask, rounded up.
-fn clearing_price(bid: u64, ask: u64) -> Price
-    ensures { λ r. ⌜ r .0 ≡ clearingPrice bid ask ⌝ }
-{
-    Price(bid / 2 + ask / 2 + (bid % 2 + ask % 2 + 1) / 2)
-}
 
 // Trades the volume: fills both sides, writes the rows and leaves the rests.
 fn trade(
@@ -33,11 +24,11 @@ fn trade(
     na: usize,
     rows: &mut [u64],
 ) -> Matched
-    requires { ⌜ (fit (now orders) n (now rows) ≡ true) × (0 < margins .volume)
+    requires { ⌜ (fit (now orders) n (now rows) ≡ true) × (0 < margins .volume .0)
         × Stand (now orders) (now bids) n nb (laid (aheadOn 1) (keep (belongs 1 period) (ordersIn (now orders) n)))
         × Stand (now orders) (now asks) n na (laid (aheadOn 0) (keep (belongs 0 period) (ordersIn (now orders) n)))
-        × AreMargins (ordersAt (now orders) (take nb (now bids))) (ordersAt (now orders) (take na (now asks))) (margins .volume) (margins .bid)
-        (margins .ask) ⌝ }
+        × AreMargins (ordersAt (now orders) (take nb (now bids))) (ordersAt (now orders) (take na (now asks))) (margins .volume .0)
+        (margins .bid .0) (margins .ask .0) ⌝ }
     ensures { λ r. ⌜ Clears (now (orders .entry)) (now (rows .entry)) n period r (now (orders .exit)) (now (rows .exit)) ⌝ }
 {
     let mut bid_places = [0u64; 256];
@@ -66,7 +57,7 @@ fn trade(
         &mut ask_places,
         &mut sold,
     );
-    let price = clearing_price(margins.bid, margins.ask);
+    let price = margins.bid.middle(margins.ask);
     let count = crate::overlaps::put_overlaps(
         orders,
         n,
@@ -104,7 +95,7 @@ pub(crate) fn clear_fit(orders: &mut [u64], n: usize, period: u64, rows: &mut [u
     let nb = crate::laying::lay(orders, n, 1, period, &mut bids);
     let na = crate::laying::lay(orders, n, 0, period, &mut asks);
     let margins = crate::margins::find_margins(orders, n, &bids, nb, &asks, na);
-    if margins.volume == 0 {
+    if margins.volume.is_zero() {
         return Matched::Done(Energy(0), 0, n);
     }
     trade(orders, n, period, margins, &bids, nb, &asks, na, rows)

@@ -1,5 +1,7 @@
 // Whether lent orders and rows can be matched and cleared.
 use crate::orders::Order;
+use crate::orders::Row;
+use crate::orders::read;
 use measures::Energy;
 ghost use mathlib.Core.Path.{_≡_};
 ghost use Prim.Native.Nat.{_*_, _≤_};
@@ -7,19 +9,19 @@ ghost use lib.ListN.{length};
 ghost use lib.Dec.{leb};
 ghost use Rattle.measures.specs.Ranges.{mostEnergy};
 ghost use Rattle.matching.specs.Orders.{rising, numbers, quantities};
-ghost use Rattle.matching.specs.Memory.{ordersIn};
+ghost use Rattle.matching.specs.Memory.{orderWords, ordersIn};
 ghost use Rattle.matching.specs.Answers.{numbersRise, fit, fitBelow};
 
 // Whether the numbers of the first n orders rise: each is above the one before it.
 fn rise(orders: &[u64], n: usize) -> bool
-    requires { ⌜ (6 * n ≤ length (now orders)) × (n ≤ 256) ⌝ }
+    requires { ⌜ (orderWords * n ≤ length (now orders)) × (n ≤ 256) ⌝ }
     ensures { λ r. ⌜ r ≡ rising (numbers (ordersIn (now (orders .entry)) n)) ⌝ }
 {
     let mut k: usize = 1;
     while k < n {
-        let number = orders[6 * k];
-        let before = orders[6 * k - 6];
-        if number <= before {
+        let o = read(orders, k);
+        let before = read(orders, k - 1);
+        if o.number <= before.number {
             return false;
         }
         k += 1;
@@ -34,7 +36,7 @@ pub fn numbers_rise(orders: &[u64], n: usize) -> bool
     if Order::MOST < n as u64 {
         return false;
     }
-    if orders.len() < 6 * n {
+    if orders.len() < Order::WORDS * n {
         return false;
     }
     rise(orders, n)
@@ -42,17 +44,17 @@ pub fn numbers_rise(orders: &[u64], n: usize) -> bool
 
 // Whether the first n orders have at most Energy::MOST open together.
 fn quantities_fit(orders: &[u64], n: usize) -> bool
-    requires { ⌜ (6 * n ≤ length (now orders)) × (n ≤ 256) ⌝ }
+    requires { ⌜ (orderWords * n ≤ length (now orders)) × (n ≤ 256) ⌝ }
     ensures { λ r. ⌜ r ≡ leb (quantities (ordersIn (now (orders .entry)) n)) mostEnergy ⌝ }
 {
-    let mut sum: u64 = 0;
+    let mut sum = Energy(0);
     let mut k: usize = 0;
     while k < n {
-        let q = orders[6 * k + 5];
-        if q > Energy::MOST - sum {
+        let o = read(orders, k);
+        sum = sum.plus(o.quantity);
+        if !sum.in_range() {
             return false;
         }
-        sum += q;
         k += 1;
     }
     true
@@ -65,10 +67,10 @@ pub fn fits(orders: &[u64], n: usize, rows: &[u64]) -> bool
     if n > Order::MOST as usize {
         return false;
     }
-    if orders.len() < 6 * n {
+    if orders.len() < Order::WORDS * n {
         return false;
     }
-    if rows.len() < 6 * n {
+    if rows.len() < Row::WORDS * n {
         return false;
     }
     if !rise(orders, n) {
@@ -84,7 +86,7 @@ pub(crate) fn fits_below(orders: &[u64], n: usize, end: u64, rows: &[u64]) -> bo
     if !fits(orders, n, rows) {
         return false;
     }
-    if rows.len() < 12 * n {
+    if rows.len() < Row::WORDS * (2 * n) {
         return false;
     }
     end <= 744

@@ -1,4 +1,4 @@
-// Orders and rows in lent memory: six numbers each, one behind the other.
+// Orders and rows in lent memory: six words each, one behind the other.
 use measures::Energy;
 use measures::Price;
 ghost use mathlib.Core.Path.{_≡_};
@@ -6,7 +6,7 @@ ghost use mathlib.Core.List.{List, [], _∷_, _++_};
 ghost use Prim.Native.Nat.{ℕ, _+_, _*_, _-_, _<_, _≤_};
 ghost use lib.ListN.{length, getD, set, drop, take};
 ghost use Rattle.matching.specs.Orders.{Row as RowRecord, orderWith, leaving};
-ghost use Rattle.matching.specs.Memory.{asOrder, asRow, orderAt, ordersIn, placeIn, written};
+ghost use Rattle.matching.specs.Memory.{orderWords, rowWords, asOrder, asRow, orderAt, ordersIn, placeIn, written};
 ghost use Rattle.matching.specs.Answers.{Written, Removed, RowPut};
 
 // An open order.
@@ -22,6 +22,19 @@ pub struct Order {
 impl Order {
     // How many stand open at most.
     pub const MOST: u64 = 256;
+
+    // The words of an order, and where they stand behind its number.
+    pub const WORDS: usize = 6;
+
+    pub const UNIT: usize = 1;
+
+    pub const DIRECTION: usize = 2;
+
+    pub const PERIOD: usize = 3;
+
+    pub const PRICE: usize = 4;
+
+    pub const QUANTITY: usize = 5;
 
     // An order of which all is open.
     pub fn fresh(
@@ -48,12 +61,13 @@ impl Order {
     pub fn leaving(self, q: Energy) -> Order
         ensures { λ r. ⌜ asOrder r ≡ leaving (asOrder self) (q .0) ⌝ }
     {
+        let price = self.price;
         Order {
             number: self.number,
             unit: self.unit,
             direction: self.direction,
             period: self.period,
-            price: Price(self.price.0),
+            price,
             quantity: q,
         }
     }
@@ -69,6 +83,21 @@ pub struct Row {
     pub price: Price,
 }
 
+impl Row {
+    // The words of a row, and where they stand behind its way.
+    pub const WORDS: usize = 6;
+
+    pub const PERIOD: usize = 1;
+
+    pub const SELLER: usize = 2;
+
+    pub const BUYER: usize = 3;
+
+    pub const QUANTITY: usize = 4;
+
+    pub const PRICE: usize = 5;
+}
+
 // What matching or clearing came to: orders that are not fit for it, or what is left of an incoming order, the count of
 // rows, and how many orders stand.
 pub enum Matched {
@@ -78,54 +107,54 @@ pub enum Matched {
 
 // The order at place k.
 pub(crate) fn read(orders: &[u64], k: usize) -> Order
-    requires { ⌜ (6 * k + 6 ≤ length (now orders)) × (k < 256) ⌝ }
+    requires { ⌜ (orderWords * k + orderWords ≤ length (now orders)) × (k < 256) ⌝ }
     ensures { λ r. ⌜ asOrder r ≡ orderAt (now (orders .entry)) k ⌝ }
 {
-    let at = 6 * k;
+    let at = Order::WORDS * k;
     Order {
         number: orders[at],
-        unit: orders[at + 1],
-        direction: orders[at + 2],
-        period: orders[at + 3],
-        price: Price(orders[at + 4]),
-        quantity: Energy(orders[at + 5]),
+        unit: orders[at + Order::UNIT],
+        direction: orders[at + Order::DIRECTION],
+        period: orders[at + Order::PERIOD],
+        price: Price(orders[at + Order::PRICE]),
+        quantity: Energy(orders[at + Order::QUANTITY]),
     }
 }
 
 // The order at place k keeps q open.
 pub(crate) fn leave(orders: &mut [u64], n: usize, k: usize, q: Energy)
-    requires { ⌜ (6 * n ≤ length (now orders)) × (k < n) × (n ≤ 256) ⌝ }
+    requires { ⌜ (orderWords * n ≤ length (now orders)) × (k < n) × (n ≤ 256) ⌝ }
     ensures { λ _. ⌜ (ordersIn (now (orders .exit)) n ≡ set (ordersIn (now (orders .entry)) n) k (leaving (orderAt (now (orders .entry)) k) (q .0)))
-        × (drop (6 * n) (now (orders .exit)) ≡ drop (6 * n) (now (orders .entry))) ⌝ }
+        × (drop (orderWords * n) (now (orders .exit)) ≡ drop (orderWords * n) (now (orders .entry))) ⌝ }
 {
-    orders[6 * k + 5] = q.0;
+    orders[Order::WORDS * k + Order::QUANTITY] = q.0;
 }
 
 // An order takes place k, which is there.
 pub(crate) fn write_at(orders: &mut [u64], n: usize, k: usize, o: Order)
-    requires { ⌜ (6 * n ≤ length (now orders)) × (k < n) × (n ≤ 256) ⌝ }
+    requires { ⌜ (orderWords * n ≤ length (now orders)) × (k < n) × (n ≤ 256) ⌝ }
     ensures { λ _. ⌜ (ordersIn (now (orders .exit)) n ≡ set (ordersIn (now (orders .entry)) n) k (asOrder o))
-        × (drop (6 * n) (now (orders .exit)) ≡ drop (6 * n) (now (orders .entry))) ⌝ }
+        × (drop (orderWords * n) (now (orders .exit)) ≡ drop (orderWords * n) (now (orders .entry))) ⌝ }
 {
-    let at = 6 * k;
+    let at = Order::WORDS * k;
     orders[at] = o.number;
-    orders[at + 1] = o.unit;
-    orders[at + 2] = o.direction;
-    orders[at + 3] = o.period;
-    orders[at + 4] = o.price.0;
-    orders[at + 5] = o.quantity.0;
+    orders[at + Order::UNIT] = o.unit;
+    orders[at + Order::DIRECTION] = o.direction;
+    orders[at + Order::PERIOD] = o.period;
+    orders[at + Order::PRICE] = o.price.0;
+    orders[at + Order::QUANTITY] = o.quantity.0;
 }
 
 // The order at place k, which is there, goes, and those behind it move up by one place.
 fn remove_at(orders: &mut [u64], n: usize, k: usize)
-    requires { ⌜ (6 * n ≤ length (now orders)) × (k < n) × (n ≤ 256) ⌝ }
+    requires { ⌜ (orderWords * n ≤ length (now orders)) × (k < n) × (n ≤ 256) ⌝ }
     ensures { λ _. ⌜ (ordersIn (now (orders .exit)) (n - 1) ≡ take k (ordersIn (now (orders .entry)) n) ++ drop (k + 1) (ordersIn (now (orders .entry)) n))
-        × (drop (6 * n) (now (orders .exit)) ≡ drop (6 * n) (now (orders .entry))) ⌝ }
+        × (drop (orderWords * n) (now (orders .exit)) ≡ drop (orderWords * n) (now (orders .entry))) ⌝ }
 {
-    let end = 6 * n - 6;
-    let mut j = 6 * k;
+    let end = Order::WORDS * n - Order::WORDS;
+    let mut j = Order::WORDS * k;
     while j < end {
-        orders[j] = orders[j + 6];
+        orders[j] = orders[j + Order::WORDS];
         j += 1;
     }
 }
@@ -137,7 +166,7 @@ fn is_place(orders: &[u64], n: usize, k: usize) -> bool
     if n > Order::MOST as usize {
         return false;
     }
-    if orders.len() < 6 * n {
+    if orders.len() < Order::WORDS * n {
         return false;
     }
     k < n
@@ -167,24 +196,24 @@ pub fn remove(orders: &mut [u64], n: usize, k: usize) -> bool
 
 // Row number n, behind the n rows that stand there; there is room for it.
 pub(crate) fn put_row_at(rows: &mut [u64], n: usize, r: Row)
-    requires { ⌜ 6 * n + 6 ≤ length (now rows) ⌝ }
+    requires { ⌜ rowWords * n + rowWords ≤ length (now rows) ⌝ }
     ensures { λ _. ⌜ ((m : List ℕ) (rs : List RowRecord) → length rs ≡ n → now (rows .entry) ≡ written m rs → now (rows .exit)
         ≡ written m (rs ++ (asRow r ∷ []))) ⌝ }
 {
-    let at = 6 * n;
+    let at = Row::WORDS * n;
     rows[at] = r.way;
-    rows[at + 1] = r.period;
-    rows[at + 2] = r.seller;
-    rows[at + 3] = r.buyer;
-    rows[at + 4] = r.quantity.0;
-    rows[at + 5] = r.price.0;
+    rows[at + Row::PERIOD] = r.period;
+    rows[at + Row::SELLER] = r.seller;
+    rows[at + Row::BUYER] = r.buyer;
+    rows[at + Row::QUANTITY] = r.quantity.0;
+    rows[at + Row::PRICE] = r.price.0;
 }
 
 // Row number n, behind the n rows that stand there; whether there is room for it.
 pub fn put_row(rows: &mut [u64], n: usize, r: Row) -> bool
     ensures { λ x. ⌜ RowPut (now (rows .entry)) n (asRow r) x (now (rows .exit)) ⌝ }
 {
-    if n >= rows.len() / 6 {
+    if n >= rows.len() / Row::WORDS {
         return false;
     }
     put_row_at(rows, n, r);

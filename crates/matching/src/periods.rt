@@ -2,12 +2,15 @@
 use crate::clearing::clear_fit;
 use crate::fitness::fits_below;
 use crate::orders::Matched;
+use crate::orders::Row;
+use crate::orders::read;
 use measures::Energy;
+use measures::Price;
 ghost use mathlib.Core.Path.{_≡_};
-ghost use Prim.Native.Nat.{ℕ, _+_, _*_, _<_, _≤_, min};
+ghost use Prim.Native.Nat.{ℕ, _+_, _*_, _<_, _≤_};
 ghost use lib.ListN.{length, getD};
 ghost use Rattle.measures.specs.Lists.{Each};
-ghost use Rattle.matching.specs.Memory.{mostWord, ordersIn};
+ghost use Rattle.matching.specs.Memory.{orderWords, ordersIn};
 ghost use Rattle.matching.specs.Prices.{highWith, lowWith};
 ghost use Rattle.matching.specs.Answers.{ClearsAll};
 ghost use Rattle.matching.specs.inner.Periods.{Clearable, PricedBy, pricesMeet, Stepped, PassedAll};
@@ -18,54 +21,38 @@ pub struct Passed {
     pub standing: usize,
 }
 
-// One more than a price, or the largest number.
-fn above(price: u64) -> u64
-    ensures { λ r. ⌜ r ≡ min (price + 1) mostWord ⌝ }
-{
-    if price == u64::MAX {
-        return price;
-    }
-    price + 1
-}
-
-// Enters the price of an order of period p: `high` has one more than the highest buy price of each period so far, `low` the
-// lowest sell price. A period past the lists is passed over.
-pub fn note_price(direction: u64, p: usize, price: u64, high: &mut [u64], low: &mut [u64])
-    ensures { λ _. ⌜ (now (high .exit) ≡ highWith direction p price (now (high .entry)))
-        × (now (low .exit) ≡ lowWith direction p price (now (low .entry))) ⌝ }
+// Enters the price of an order of period p: `high` has the price next above the highest buy price of each period so far,
+// `low` the lowest sell price. A period past the lists is passed over.
+pub fn note_price(direction: u64, p: usize, price: Price, high: &mut [u64], low: &mut [u64])
+    ensures { λ _. ⌜ (now (high .exit) ≡ highWith direction p (price .0) (now (high .entry)))
+        × (now (low .exit) ≡ lowWith direction p (price .0) (now (low .entry))) ⌝ }
 {
     if direction == 1 {
         if p >= high.len() {
             return;
         }
-        if high[p] <= price {
-            high[p] = above(price);
+        if !price.below(Price(high[p])) {
+            high[p] = price.next().0;
         }
         return;
     }
     if p >= low.len() {
         return;
     }
-    if price < low[p] {
-        low[p] = price;
+    if price.below(Price(low[p])) {
+        low[p] = price.0;
     }
 }
 
 // Enters the prices of the first n orders.
 fn note_prices(orders: &[u64], n: usize, high: &mut [u64], low: &mut [u64])
-    requires { ⌜ (6 * n ≤ length (now orders)) × (n ≤ 256) × (length (now high) ≡ 744) × (length (now low) ≡ 744) ⌝ }
+    requires { ⌜ (orderWords * n ≤ length (now orders)) × (n ≤ 256) × (length (now high) ≡ 744) × (length (now low) ≡ 744) ⌝ }
     ensures { λ _. ⌜ Each (PricedBy (now (high .exit)) (now (low .exit))) (ordersIn (now (orders .entry)) n) ⌝ }
 {
     let mut k: usize = 0;
     while k < n {
-        let at = 6 * k + 2;
-        note_price(
-            orders[at],
-            orders[at + 1] as usize,
-            orders[at + 2],
-            high,
-            low,
-        );
+        let o = read(orders, k);
+        note_price(o.direction, o.period as usize, o.price, high, low);
         k += 1;
     }
 }
@@ -75,10 +62,11 @@ fn prices_meet(high: &[u64], low: &[u64], p: usize) -> bool
     requires { ⌜ (p < length (now high)) × (p < length (now low)) ⌝ }
     ensures { λ r. ⌜ r ≡ pricesMeet (now (high .entry)) (now (low .entry)) p ⌝ }
 {
-    if high[p] == u64::MAX {
+    let top = Price(high[p]);
+    if top.equals(Price(u64::MAX)) {
         return true;
     }
-    low[p] < high[p]
+    Price(low[p]).below(top)
 }
 
 // Clears a period; its rows go behind the `count` rows.
@@ -86,7 +74,7 @@ fn clear_one(orders: &mut [u64], n: usize, period: u64, rows: &mut [u64], count:
     requires { ⌜ Clearable (now orders) (now rows) n count ⌝ }
     ensures { λ r. ⌜ Stepped (now (orders .entry)) (now (rows .entry)) n period count (r .count) (r .standing) (now (orders .exit)) (now (rows .exit)) ⌝ }
 {
-    let l = clear_fit(orders, n, period, &mut rows[6 * count..]);
+    let l = clear_fit(orders, n, period, &mut rows[Row::WORDS * count..]);
     match l {
         Matched::Unfit => Passed { count, standing: n },
         Matched::Done(_, more, standing) => Passed {

@@ -6,24 +6,24 @@ ghost use mathlib.Core.Bool.{true};
 ghost use Prim.Native.Nat.{_+_, _*_, _-_, _<_, _≤_};
 ghost use lib.ListN.{length, take, drop};
 ghost use Rattle.matching.specs.Orders.{rising, numbers, lessen};
-ghost use Rattle.matching.specs.Memory.{orderAt, ordersIn};
+ghost use Rattle.matching.specs.Memory.{orderWords, orderAt, ordersIn};
 ghost use Rattle.matching.specs.Clearing.{afterFills};
 ghost use Rattle.matching.specs.inner.Places.{standing, fillsAt, Filling, Taken};
 
 // Takes x off the order at p; the mark of an emptied order becomes 0.
-fn take_fill(orders: &mut [u64], n: usize, stands: &mut [u64], p: usize, x: u64)
-    requires { ⌜ (6 * n ≤ length (now orders)) × (n ≤ 256) × (n ≤ length (now stands)) × (p < n) × (rising (numbers (ordersIn (now orders) n)) ≡ true) ⌝ }
+fn take_fill(orders: &mut [u64], n: usize, stands: &mut [u64], p: usize, x: Energy)
+    requires { ⌜ (orderWords * n ≤ length (now orders)) × (n ≤ 256) × (n ≤ length (now stands)) × (p < n)
+        × (rising (numbers (ordersIn (now orders) n)) ≡ true) ⌝ }
     ensures { λ _. ⌜ Taken (now (orders .entry)) (now (stands .entry)) n
-        (lessen (orderAt (now (orders .entry)) p .number) x (standing (take n (now (stands .entry))) (ordersIn (now (orders .entry)) n)))
+        (lessen (orderAt (now (orders .entry)) p .number) (x .0) (standing (take n (now (stands .entry))) (ordersIn (now (orders .entry)) n)))
         (now (orders .exit)) (now (stands .exit)) ⌝ }
 {
     let o = crate::orders::read(orders, p);
-    let q = o.quantity.0;
-    if q <= x {
+    if o.quantity.at_most(x) {
         stands[p] = 0;
         return;
     }
-    crate::orders::leave(orders, n, p, Energy(q - x));
+    crate::orders::leave(orders, n, p, o.quantity.minus(x));
 }
 
 // Takes count fills off, one by one.
@@ -35,7 +35,7 @@ fn take_fills(
     amounts: &[u64],
     count: usize,
 )
-    requires { ⌜ (6 * n ≤ length (now orders)) × (n ≤ 256) × (n ≤ length (now stands)) × (rising (numbers (ordersIn (now orders) n)) ≡ true)
+    requires { ⌜ (orderWords * n ≤ length (now orders)) × (n ≤ 256) × (n ≤ length (now stands)) × (rising (numbers (ordersIn (now orders) n)) ≡ true)
         × Filling (now places) (now amounts) n count ⌝ }
     ensures { λ _. ⌜ Taken (now (orders .entry)) (now (stands .entry)) n
         (afterFills (fillsAt (now (orders .entry)) (now (places .entry)) (now (amounts .entry)) count)
@@ -44,7 +44,7 @@ fn take_fills(
     let mut i: usize = 0;
     while i < count {
         let p = places[i] as usize;
-        let x = amounts[i];
+        let x = Energy(amounts[i]);
         take_fill(orders, n, stands, p, x);
         i += 1;
     }
@@ -52,9 +52,9 @@ fn take_fills(
 
 // The orders whose mark is not 0 move up, in their order; how many they are.
 fn close_gaps(orders: &mut [u64], n: usize, stands: &[u64]) -> usize
-    requires { ⌜ (6 * n ≤ length (now orders)) × (n ≤ 256) × (n ≤ length (now stands)) ⌝ }
+    requires { ⌜ (orderWords * n ≤ length (now orders)) × (n ≤ 256) × (n ≤ length (now stands)) ⌝ }
     ensures { λ r. ⌜ (ordersIn (now (orders .exit)) r ≡ standing (take n (now (stands .entry))) (ordersIn (now (orders .entry)) n))
-        × (drop (6 * n) (now (orders .exit)) ≡ drop (6 * n) (now (orders .entry))) ⌝ }
+        × (drop (orderWords * n) (now (orders .exit)) ≡ drop (orderWords * n) (now (orders .entry))) ⌝ }
 {
     let mut to: usize = 0;
     let mut k: usize = 0;
@@ -85,11 +85,11 @@ pub(crate) fn leave_rests(
     sold: &[u64],
     na: usize,
 ) -> usize
-    requires { ⌜ (6 * n ≤ length (now orders)) × (n ≤ 256) × (rising (numbers (ordersIn (now orders) n)) ≡ true) × Filling (now bids) (now bought) n nb
+    requires { ⌜ (orderWords * n ≤ length (now orders)) × (n ≤ 256) × (rising (numbers (ordersIn (now orders) n)) ≡ true) × Filling (now bids) (now bought) n nb
         × Filling (now asks) (now sold) n na ⌝ }
     ensures { λ r. ⌜ (ordersIn (now (orders .exit)) r ≡ afterFills (fillsAt (now (orders .entry)) (now (asks .entry)) (now (sold .entry)) na)
         (afterFills (fillsAt (now (orders .entry)) (now (bids .entry)) (now (bought .entry)) nb) (ordersIn (now (orders .entry)) n)))
-        × (drop (6 * n) (now (orders .exit)) ≡ drop (6 * n) (now (orders .entry))) ⌝ }
+        × (drop (orderWords * n) (now (orders .exit)) ≡ drop (orderWords * n) (now (orders .entry))) ⌝ }
 {
     let mut stands = [1u64; 256];
     take_fills(orders, n, &mut stands, bids, bought, nb);
@@ -105,10 +105,10 @@ pub(crate) fn leave_rest(
     amounts: &[u64],
     count: usize,
 ) -> usize
-    requires { ⌜ (6 * n ≤ length (now orders)) × (n ≤ 256) × (rising (numbers (ordersIn (now orders) n)) ≡ true)
+    requires { ⌜ (orderWords * n ≤ length (now orders)) × (n ≤ 256) × (rising (numbers (ordersIn (now orders) n)) ≡ true)
         × Filling (now places) (now amounts) n count ⌝ }
     ensures { λ r. ⌜ (ordersIn (now (orders .exit)) r ≡ afterFills (fillsAt (now (orders .entry)) (now (places .entry)) (now (amounts .entry)) count)
-        (ordersIn (now (orders .entry)) n)) × (drop (6 * n) (now (orders .exit)) ≡ drop (6 * n) (now (orders .entry))) ⌝ }
+        (ordersIn (now (orders .entry)) n)) × (drop (orderWords * n) (now (orders .exit)) ≡ drop (orderWords * n) (now (orders .entry))) ⌝ }
 {
     let mut stands = [1u64; 256];
     take_fills(orders, n, &mut stands, places, amounts, count);

@@ -14,7 +14,7 @@ ghost use mathlib.Core.List.{List, [], _∷_, _++_};
 ghost use Prim.Native.Nat.{ℕ, _+_, _-_, _*_, _<_, _≤_, min};
 ghost use lib.ListN.{length};
 ghost use Rattle.matching.specs.Orders.{Row as RowRecord, rising, numbers};
-ghost use Rattle.matching.specs.Memory.{asOrder, asRow, orderAt, ordersIn, written};
+ghost use Rattle.matching.specs.Memory.{orderWords, rowWords, asOrder, asRow, orderAt, ordersIn, written};
 ghost use Rattle.matching.specs.Rolling.{matchRow};
 ghost use Rattle.matching.specs.inner.Runs.{keyOf, RunsMet, MetInTurn};
 ghost use Rattle.matching.specs.Answers.{Meets};
@@ -32,7 +32,7 @@ fn side_met(incoming: Order) -> Side
         × (r .limit ≡ keyOf (1 - incoming .direction) (incoming .price .0)) ⌝ }
 {
     let direction = 1 - incoming.direction;
-    let limit = laying::key_of(direction, incoming.price.0);
+    let limit = laying::key_of(direction, incoming.price);
     Side {
         direction: direction,
         period: incoming.period,
@@ -75,7 +75,7 @@ fn match_at(
     rows: &mut [u64],
     count: usize,
 ) -> Energy
-    requires { ⌜ (6 * p + 6 ≤ length (now orders)) × (p < 256) × (6 * count + 6 ≤ length (now rows)) × (count < 1000000) ⌝ }
+    requires { ⌜ (orderWords * p + orderWords ≤ length (now orders)) × (p < 256) × (rowWords * count + rowWords ≤ length (now rows)) × (count < 1000000) ⌝ }
     ensures { λ x. ⌜ (x .0 ≡ min (left .0) (orderAt (now (orders .entry)) p .quantity))
         × ((m : List ℕ) (rs : List RowRecord) → length rs ≡ count → now (rows .entry) ≡ written m rs → now (rows .exit)
         ≡ written m (rs ++ (matchRow (asOrder incoming) (record { order = orderAt (now (orders .entry)) p; quantity = x .0 }) ∷ []))) ⌝ }
@@ -101,9 +101,9 @@ fn meet_runs(
     taken: &mut [u64],
     rows: &mut [u64],
 ) -> Meeting
-    requires { ⌜ (6 * n ≤ length (now orders)) × (n ≤ 256) × (rising (numbers (ordersIn (now orders) n)) ≡ true) × (0 < incoming .quantity .0)
+    requires { ⌜ (orderWords * n ≤ length (now orders)) × (n ≤ 256) × (rising (numbers (ordersIn (now orders) n)) ≡ true) × (0 < incoming .quantity .0)
         × (n ≤ length (now keys)) × (n ≤ length (now places)) × (length (now places) ≤ 256) × (16 ≤ length (now heads)) × (16 ≤ length (now ends))
-        × (n ≤ length (now met)) × (n ≤ length (now taken)) × (6 * n ≤ length (now rows))
+        × (n ≤ length (now met)) × (n ≤ length (now taken)) × (rowWords * n ≤ length (now rows))
         × RunsMet (now orders) (now keys) (now places) (now heads) (now ends) n runs (asOrder incoming) ⌝ }
     ensures { λ r. ⌜ MetInTurn (now (orders .entry)) n (asOrder incoming) (now (rows .entry)) (r .left .0) (r .count) (now (met .exit)) (now (taken .exit))
         (now (rows .exit)) ⌝ }
@@ -148,8 +148,8 @@ fn meet_in_turn(
     taken: &mut [u64],
     rows: &mut [u64],
 ) -> Meeting
-    requires { ⌜ (6 * n ≤ length (now orders)) × (n ≤ 256) × (rising (numbers (ordersIn (now orders) n)) ≡ true) × (incoming .direction < 2)
-        × (0 < incoming .quantity .0) × (n ≤ length (now met)) × (n ≤ length (now taken)) × (6 * n ≤ length (now rows)) ⌝ }
+    requires { ⌜ (orderWords * n ≤ length (now orders)) × (n ≤ 256) × (rising (numbers (ordersIn (now orders) n)) ≡ true) × (incoming .direction < 2)
+        × (0 < incoming .quantity .0) × (n ≤ length (now met)) × (n ≤ length (now taken)) × (rowWords * n ≤ length (now rows)) ⌝ }
     ensures { λ r. ⌜ MetInTurn (now (orders .entry)) n (asOrder incoming) (now (rows .entry)) (r .left .0) (r .count) (now (met .exit)) (now (taken .exit))
         (now (rows .exit)) ⌝ }
 {

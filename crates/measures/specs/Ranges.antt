@@ -14,3 +14,7 @@ mostEnergy = 4_000_000_000
 -- "0 ≤ floor ≤ ceiling ≤ 10,000,000", in thousandths of a yuan per MWh
 abbrev pub mostPrice : ℕ
 mostPrice = 10_000_000
+
+-- the largest number of 64 bits, at which a sum stays
+abbrev pub mostNumber : ℕ
+mostNumber = 18_446_744_073_709_551_615

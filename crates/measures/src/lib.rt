@@ -1,10 +1,10 @@
 // Energy and price, and sharing an amount: paper 01, "Units of measure and the book" and "Sharing an amount".
 ghost use mathlib.Core.Path.{_≡_};
 ghost use mathlib.Core.List.{_++_};
-ghost use Prim.Native.Nat.{ℕ, _+_, _*_, _-_, _/_, _≤_, _<_, min};
-ghost use lib.Dec.{leb, eqb};
+ghost use Prim.Native.Nat.{ℕ, _+_, _*_, _-_, _/_, _≤_, _<_, min, max};
+ghost use lib.Dec.{leb, ltb, eqb};
 ghost use lib.ListN.{length, drop};
-ghost use Rattle.measures.specs.Ranges.{mostEnergy, mostPrice};
+ghost use Rattle.measures.specs.Ranges.{mostEnergy, mostPrice, mostNumber};
 ghost use Rattle.measures.specs.Sharing.{total, parts as partsOf, sharing, Is, Shareable};
 
 // Energy in whole kWh.
@@ -49,6 +49,24 @@ impl Energy {
         if self.0 < other.0 { self } else { other }
     }
 
+    // The larger of two amounts.
+    pub fn greatest(self, other: Energy) -> Energy
+        ensures { λ r. ⌜ r .0 ≡ max (self .0) (other .0) ⌝ }
+    {
+        if other.0 < self.0 { self } else { other }
+    }
+
+    // Both amounts together; at most the largest number.
+    pub fn plus(self, other: Energy) -> Energy
+        ensures { λ r. ⌜ r .0 ≡ min (self .0 + other .0) mostNumber ⌝ }
+    {
+        if u64::MAX - self.0 < other.0 {
+            Energy(u64::MAX)
+        } else {
+            Energy(self.0 + other.0)
+        }
+    }
+
     // What is left of this when `other` is taken off: nothing, where that is more.
     pub fn minus(self, other: Energy) -> Energy
         ensures { λ r. ⌜ r .0 ≡ self .0 - other .0 ⌝ }
@@ -58,6 +76,13 @@ impl Energy {
         } else {
             Energy(self.0 - other.0)
         }
+    }
+
+    // Whether this is no more than `other`.
+    pub fn at_most(self, other: Energy) -> bool
+        ensures { λ r. ⌜ r ≡ leb (self .0) (other .0) ⌝ }
+    {
+        self.0 <= other.0
     }
 
     // Whether this is nothing.
@@ -84,6 +109,37 @@ impl Price {
         ensures { λ r. ⌜ r ≡ leb (sale .0) (self .0) ⌝ }
     {
         sale.0 <= self.0
+    }
+
+    // Whether this price is lower than `other`.
+    pub fn below(self, other: Price) -> bool
+        ensures { λ r. ⌜ r ≡ ltb (self .0) (other .0) ⌝ }
+    {
+        self.0 < other.0
+    }
+
+    // Whether the two prices are the same.
+    pub fn equals(self, other: Price) -> bool
+        ensures { λ r. ⌜ r ≡ eqb (self .0) (other .0) ⌝ }
+    {
+        self.0 == other.0
+    }
+
+    // The price between a bid at this price and an ask, rounded up.
+    pub fn middle(self, ask: Price) -> Price
+        ensures { λ r. ⌜ r .0 ≡ (self .0 + ask .0 + 1) / 2 ⌝ }
+    {
+        Price(self.0 / 2 + ask.0 / 2 + (self.0 % 2 + ask.0 % 2 + 1) / 2)
+    }
+
+    // The next higher price; at most the largest number.
+    pub fn next(self) -> Price
+        ensures { λ r. ⌜ r .0 ≡ min (self .0 + 1) mostNumber ⌝ }
+    {
+        if self.0 == u64::MAX {
+            return self;
+        }
+        Price(self.0 + 1)
     }
 }
 

@@ -7,14 +7,14 @@ use lib.ListN.{length, getD, drop}
 use lib.Dec.{leb, ltb}
 use Rattle.measures.specs.Ranges.{mostEnergy}
 use Rattle.matching.specs.Orders.{Order, Row, rising, numbers, quantities}
-use Rattle.matching.specs.Memory.{mostWord, ordersIn, written}
+use Rattle.matching.specs.Memory.{orderWords, rowWords, mostWord, ordersIn, written}
 use Rattle.matching.specs.Clearing.{Cleared, clearPeriod, clearFrom}
 
 -- n orders that can be cleared, with room behind `count` rows for as many rows as orders
 pub record Clearable (m rows : List ℕ) (n count : ℕ) : Type 0 where
   pub few : n ≤ 256
-  pub inside : 6 * n ≤ length m
-  pub lent : 6 * count + 6 * n ≤ length rows
+  pub inside : orderWords * n ≤ length m
+  pub lent : rowWords * count + rowWords * n ≤ length rows
   pub rises : rising (numbers (ordersIn m n)) ≡ true
   pub small : quantities (ordersIn m n) ≤ mostEnergy
 
@@ -32,11 +32,11 @@ pub record Stepped (m rows : List ℕ) (n period count count′ n′ : ℕ) (m�
   pub orders : ordersIn m′ n′ ≡ clearPeriod period (ordersIn m n) .orders
   pub counted : count′ ≡ count + length (clearPeriod period (ordersIn m n) .rows)
   pub handed : (d : List ℕ) (rs : List Row) → length rs ≡ count → rows ≡ written d rs → rows′ ≡ written d (rs ++ clearPeriod period (ordersIn m n) .rows)
-  pub past : drop (6 * n) m′ ≡ drop (6 * n) m
+  pub past : drop (orderWords * n) m′ ≡ drop (orderWords * n) m
 
 -- all periods below `end` were cleared
 pub record PassedAll (m rows : List ℕ) (n end count n′ : ℕ) (m′ rows′ : List ℕ) : Type 0 where
   pub orders : ordersIn m′ n′ ≡ clearFrom 0 end (ordersIn m n) .orders
   pub counted : count ≡ length (clearFrom 0 end (ordersIn m n) .rows)
   pub handed : rows′ ≡ written rows (clearFrom 0 end (ordersIn m n) .rows)
-  pub past : drop (6 * n) m′ ≡ drop (6 * n) m
+  pub past : drop (orderWords * n) m′ ≡ drop (orderWords * n) m

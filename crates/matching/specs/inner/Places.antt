@@ -9,7 +9,7 @@ use Rattle.measures.specs.Lists.{every, keep}
 use Rattle.measures.specs.Ranges.{mostEnergy}
 use Rattle.measures.specs.Sharing.{total}
 use Rattle.matching.specs.Orders.{Order, Row, buys, bidAhead, askAhead, insert, laid, numbers, quantities}
-use Rattle.matching.specs.Memory.{orderAt, ordersIn}
+use Rattle.matching.specs.Memory.{orderWords, orderAt, ordersIn}
 use Rattle.matching.specs.Clearing.{Fill, filled, clearedVolume, marginal}
 
 -- the orders at places
@@ -107,4 +107,4 @@ pub record Filling (ps xs : List ℕ) (n c : ℕ) : Type 0 where
 pub record Taken (m ss : List ℕ) (n : ℕ) (os : List Order) (m′ ss′ : List ℕ) : Type 0 where
   pub orders : standing (take n ss′) (ordersIn m′ n) ≡ os
   pub numbers : numbers (ordersIn m′ n) ≡ numbers (ordersIn m n)
-  pub past : drop (6 * n) m′ ≡ drop (6 * n) m
+  pub past : drop (orderWords * n) m′ ≡ drop (orderWords * n) m

@@ -28,8 +28,8 @@ fill-requires c κs =
       f .few,
       f .few,
       stand-here _ _ _ _ _ (s .pre .2),
-      bids-at-margin (a .orders .now) (a .rows .now) (a .bids .now) (a .asks .now) (a .n) (a .period) (a .nb) (a .na) (a .margins .volume) (a .margins .bid)
-          (a .margins .ask) (s .pre .0) (s .pre .1) (s .pre .2) (s .pre .3) (s .pre .4),
+      bids-at-margin (a .orders .now) (a .rows .now) (a .bids .now) (a .asks .now) (a .n) (a .period) (a .nb) (a .na) (a .margins .volume .0)
+          (a .margins .bid .0) (a .margins .ask .0) (s .pre .0) (s .pre .1) (s .pre .2) (s .pre .3) (s .pre .4),
     )
 
 slice-aggregate-fill-3 : tie.Need-slice-aggregate-fill-3
@@ -49,12 +49,12 @@ fill-requires-2 c κs =
       f .few,
       f .few,
       stand-here _ _ _ _ _ (s .pre .3),
-      asks-at-margin (a .orders .now) (a .rows .now) (a .bids .now) (a .asks .now) (a .n) (a .period) (a .nb) (a .na) (a .margins .volume) (a .margins .bid)
-          (a .margins .ask) (s .pre .0) (s .pre .1) (s .pre .2) (s .pre .3) (s .pre .4),
+      asks-at-margin (a .orders .now) (a .rows .now) (a .bids .now) (a .asks .now) (a .n) (a .period) (a .nb) (a .na) (a .margins .volume .0)
+          (a .margins .bid .0) (a .margins .ask .0) (s .pre .0) (s .pre .1) (s .pre .2) (s .pre .3) (s .pre .4),
     )
 
-clearing-price-requires : tie.Need-clearing-price-requires
-clearing-price-requires c κs = search needs
+middle-requires : tie.Need-middle-requires
+middle-requires c κs = search needs
 
 slice-aggregate-put-overlaps : tie.Need-slice-aggregate-put-overlaps
 slice-aggregate-put-overlaps c = search needs
@@ -114,9 +114,9 @@ returns c =
     let c26 = c20 .before .before .before .before .before .before in
     let s = c26 .before .before .before .before .before .before .before .before in
     let a = s .args in
-    clears-some (a .orders .now) (a .rows .now) (a .bids .now) (a .asks .now) (a .n) (a .period) (a .nb) (a .na) (a .margins .volume) (a .margins .bid)
-    (a .margins .ask) (s .pre .0) (s .pre .1) (s .pre .2) (s .pre .3) (s .pre .4)
-    _ _ _ _ _ _ _ _ refl (c17 .clearing-price .ensures) (c26 .fill .ensures .2) (c20 .fill2 .ensures .2) (c10 .put-overlaps .ensures .0)
+    clears-some (a .orders .now) (a .rows .now) (a .bids .now) (a .asks .now) (a .n) (a .period) (a .nb) (a .na) (a .margins .volume .0)
+    (a .margins .bid .0) (a .margins .ask .0) (s .pre .0) (s .pre .1) (s .pre .2) (s .pre .3) (s .pre .4)
+    _ _ _ _ _ _ _ _ refl (c17 .middle .ensures) (c26 .fill .ensures .2) (c20 .fill2 .ensures .2) (c10 .put-overlaps .ensures .0)
     (c10 .put-overlaps .ensures .1) (c .before .before .leave-rests .ensures .0) (c .before .before .leave-rests .ensures .1)
 
 pub trade-spec : {M : Type 1} → statement M
@@ -129,7 +129,7 @@ trade-spec =
     slice-aggregate-fill-3
     slice-aggregate-fill-4
     fill-requires-2
-    clearing-price-requires
+    middle-requires
     slice-aggregate-put-overlaps
     slice-aggregate-put-overlaps-2
     slice-aggregate-put-overlaps-3

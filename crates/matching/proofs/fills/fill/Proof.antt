@@ -10,10 +10,10 @@ use Rattle.matching.proofs.fills.fill.Statement.{statement}
 use Rattle.matching.proofs.fills.fill.Tie as tie
 
 few : (s : tie.Start)
-    → length (picked (s .args .orders .now) (s .args .direction) (s .args .margin) (take (s .args .count) (s .args .places .now)))
-    + length (picked (s .args .orders .now) 2 (s .args .margin) (take (s .args .count) (s .args .places .now)))
+    → length (picked (s .args .orders .now) (s .args .direction) (s .args .margin .0) (take (s .args .count) (s .args .places .now)))
+    + length (picked (s .args .orders .now) 2 (s .args .margin .0) (take (s .args .count) (s .args .places .now)))
     ≤ s .args .n
-few s = both-few (s .args .orders .now) (s .args .places .now) (s .args .n) (s .args .count) (s .args .direction) (s .args .margin) (s .args .volume)
+few s = both-few (s .args .orders .now) (s .args .places .now) (s .args .n) (s .args .count) (s .args .direction) (s .args .margin .0) (s .args .volume .0)
     (s .pre .5) (s .pre .2) (s .pre .6)
 
 abbrev Room : ℕ → List ℕ → Type 0
@@ -40,29 +40,20 @@ together-requires : tie.Need-together-requires
 together-requires c κs =
     let c11 = c .before .before .before .before .before .before .before .before .before .before .before in
     let s = c11 .before .before .before .before .before .before .before in
-    let w = few s in
-    let e = c11 .pick .ensures .count in
-    let t = better-sum (s .args .orders .now) (s .args .places .now) (s .args .n) (s .args .count) (s .args .direction) (s .args .margin) (s .args .volume)
-    (s .pre .5) (s .pre .2) (s .pre .6) _ _ _ _ _ (c11 .pick .ensures) in
-    let a = s .pre .6 .small in
-    (omega arith, omega arith)
+    let k = c11 .pick in
+    let t = better-sum (s .args .orders .now) (s .args .places .now) (s .args .n) (s .args .count) (s .args .direction) (s .args .margin .0)
+    (s .args .volume .0) (s .pre .5) (s .pre .2) (s .pre .6) _ _ _ _ _ (k .ensures) in
+    (omega (arith, few s, k .ensures .count, k .kept .1 .1 .1 .1 .1 .1 .1 .0, s .pre .4), omega (arith, t, s .pre .6 .small))
 
-sub-t25 : tie.Need-sub-t25
-sub-t25 c =
-    let c12 = c .before .before .before .before .before .before .before .before .before .before .before .before in
-    let s = c12 .before .before .before .before .before .before .before in
-    let t = better-sum (s .args .orders .now) (s .args .places .now) (s .args .n) (s .args .count) (s .args .direction) (s .args .margin) (s .args .volume)
-    (s .pre .5) (s .pre .2) (s .pre .6) _ _ _ _ _ (c12 .pick .ensures) in
-    let a = s .pre .6 .over in
-    let e = c .together .ensures in
-    omega arith
+minus-requires : tie.Need-minus-requires
+minus-requires c κs = search needs
 
 mul-share : tie.Need-mul-share
 mul-share c =
-    let c12 = c .before .before .before .before .before .before .before .before .before .before .before .before in
-    let c19 = c12 .before .before .before .before .before .before .before in
-    let w = few c19 in
-    let e = c12 .pick .ensures .count in
+    let c13 = c .before .before .before .before .before .before .before .before .before .before .before .before .before in
+    let c20 = c13 .before .before .before .before .before .before .before in
+    let w = few c20 in
+    let e = c13 .pick .ensures .count in
     omega arith
 
 sub-share : tie.Need-sub-share
@@ -73,20 +64,20 @@ part-share-start c = search needs
 
 part-share-end : tie.Need-part-share-end
 part-share-end c =
-    let c6 = c .before .before .before .before .before .before in
-    let c13 = c6 .before .before .before .before .before .before .before in
-    let c20 = c13 .before .before .before .before .before .before .before in
-    let w = few c20 in
-    let e = c13 .pick .ensures .count in
-    let f = c6 .pick2 .ensures .count in
+    let c7 = c .before .before .before .before .before .before .before in
+    let c14 = c7 .before .before .before .before .before .before .before in
+    let c21 = c14 .before .before .before .before .before .before .before in
+    let w = few c21 in
+    let e = c14 .pick .ensures .count in
+    let f = c7 .pick2 .ensures .count in
     omega arith
 
 mul-share-2 : tie.Need-mul-share-2
 mul-share-2 c =
-    let c14 = c .before .before .before .before .before .before .before .before .before .before .before .before .before .before in
-    let c21 = c14 .before .before .before .before .before .before .before in
-    let w = few c21 in
-    let e = c14 .pick .ensures .count in
+    let c15 = c .before .before .before .before .before .before .before .before .before .before .before .before .before .before .before in
+    let c22 = c15 .before .before .before .before .before .before .before in
+    let w = few c22 in
+    let e = c15 .pick .ensures .count in
     omega arith
 
 sub-share-2 : tie.Need-sub-share-2
@@ -97,12 +88,12 @@ part-share-start-2 c = search needs
 
 part-share-end-2 : tie.Need-part-share-end-2
 part-share-end-2 c =
-    let c7 = c .before .before .before .before .before .before .before in
-    let c14 = c7 .before .before .before .before .before .before .before in
-    let s = c14 .before .before .before .before .before .before .before in
+    let c8 = c .before .before .before .before .before .before .before .before in
+    let c15 = c8 .before .before .before .before .before .before .before in
+    let s = c15 .before .before .before .before .before .before .before in
     let w = few s in
-    let e = c14 .pick .ensures .count in
-    let f = c7 .pick2 .ensures .count in
+    let e = c15 .pick .ensures .count in
+    let f = c8 .pick2 .ensures .count in
     omega arith
 
 share-requires : tie.Need-share-requires
@@ -116,18 +107,20 @@ same-length-2 c = search needs
 
 returns : tie.Need-returns
 returns c =
-    let s = c .before .before .before .before .before .before .before .before .before .before .before .before .before .before .before .before .before
-    .before .before .before .before .before .before .before .before in
+    let c6 = c .before .before .before .before .before .before in
+    let c7 = c6 .before in
+    let c12 = c7 .before .before .before .before .before in
+    let c19 = c12 .before .before .before .before .before .before .before in
+    let s = c19 .before .before .before .before .before .before .before in
     let a = s .args in
-    let k = c .before .before .before .before .before .before .before .before .before .before .before .before .before .before .before .before .before
-    .before .pick in
-    let o = c .before .before .before .before .before .before .before .before .before .before .before .pick2 in
-    let to1 : Room (a .n) (o .last .1 .1 .1 .1 .1 .1 .0) = omega arith in
-    let am1 : Room (a .n) (k .last .1 .1 .1 .1 .1 .1 .1 .0) = omega arith in
-    let op1 : Room (a .n) (o .last .1 .1 .1 .1 .1 .1 .1 .0) = omega arith in
-    side-filled (a .orders .now) (a .places .now) (a .n) (a .count) (a .direction) (a .margin) (a .volume) (s .pre .5) (s .pre .2) (s .pre .6) _ _ _ _ _
+    let k = c19 .pick in
+    let o = c12 .pick2 in
+    let to1 : Room (a .n) (o .last .1 .1 .1 .1 .1 .1 .0) = omega (arith, s .pre .3, k .kept .1 .1 .1 .1 .1 .1 .0, o .kept .1 .1 .1 .1 .1 .1 .0) in
+    let am1 : Room (a .n) (k .last .1 .1 .1 .1 .1 .1 .1 .0) = omega (arith, s .pre .4, k .kept .1 .1 .1 .1 .1 .1 .1 .0) in
+    let op1 : Room (a .n) (o .last .1 .1 .1 .1 .1 .1 .1 .0) = omega (arith, s .pre .1, o .kept .1 .1 .1 .1 .1 .1 .1 .0) in
+    side-filled (a .orders .now) (a .places .now) (a .n) (a .count) (a .direction) (a .margin .0) (a .volume .0) (s .pre .5) (s .pre .2) (s .pre .6) _ _ _ _ _
     (k .ensures) _ _ _ _ (o .ensures)
-    to1 am1 (omega arith) op1 _ (c .before .before .before .before .before .before .together .ensures) _ _ (c .before .before .share .ensures)
+    to1 am1 (s .pre .1) op1 _ _ (c7 .together .ensures) (c6 .minus .ensures) _ _ (c .before .before .share .ensures)
 
 pub fill-spec : {M : Type 1} → statement M
 fill-spec =
@@ -137,7 +130,7 @@ fill-spec =
     slice-aggregate-pick
     pick-requires-2
     together-requires
-    sub-t25
+    minus-requires
     mul-share
     sub-share
     part-share-start

@@ -9,8 +9,8 @@ use Rattle.matching.proofs.fills.pick.Statement.{statement}
 use Rattle.matching.proofs.fills.pick.Tie as tie
 
 abbrev Inv-loop : tie.InvT-loop
-Inv-loop orders n which margin places count to₀ amounts₀ first r₀ i₀ to amounts r i = Picking orders which margin places count to₀ amounts₀ first to amounts
-    r i
+Inv-loop orders n which margin places count to₀ amounts₀ first r₀ i₀ to amounts r i =
+    Picking orders which (margin .0) places count to₀ amounts₀ first to amounts r i
 
 abbrev μ-loop : tie.MeasureT-loop
 μ-loop orders n which margin places count to₀ amounts₀ first r₀ i₀ to amounts r i = count - i

@@ -1,15 +1,18 @@
 -- `quantities_fit`: the running sum and what stands from place k on make the whole.
+use Prim.Native.Nat.{_+_, _-_, min}
+use mathlib.Core.Path.{sym, ap, _∙_}
 use native.Mathlib.Nat.{zero-add}
-use Prim.Native.Nat.{_-_}
-use mathlib.Core.Path.{sym}
 use native.Mathlib.Omega.{arith}
+use Rattle.measures.specs.Ranges.{mostNumber}
+use Rattle.matching.specs.Orders.{Order}
 use Rattle.matching.proofs.laws.orders.FitLaws.{Summing, summing-more, summing-over, summing-ends}
+use borrow.Author.Tests.{leb-true, leb-false, not-true, not-false}
 use borrow.Author.Needs.{needs}
 use Rattle.matching.proofs.fitness.quantities_fit.Statement.{statement}
 use Rattle.matching.proofs.fitness.quantities_fit.Tie as tie
 
 abbrev Inv-loop : tie.InvT-loop
-Inv-loop orders n sum₀ k₀ sum k = Summing orders n sum k
+Inv-loop orders n sum₀ k₀ sum k = Summing orders n (sum .0) k
 
 abbrev μ-loop : tie.MeasureT-loop
 μ-loop orders n sum₀ k₀ sum k = n - k
@@ -17,26 +20,24 @@ abbrev μ-loop : tie.MeasureT-loop
 loop-holds : tie.Need-loop-holds Inv-loop μ-loop
 loop-holds c = record { at = search needs; small = search needs; rest = zero-add _ }
 
-mul-q : tie.Need-mul-q Inv-loop μ-loop
-mul-q c = search needs
+read-requires : tie.Need-read-requires Inv-loop μ-loop
+read-requires c κs = search needs
 
-add-q : tie.Need-add-q Inv-loop μ-loop
-add-q c = search needs
+plus-requires : tie.Need-plus-requires Inv-loop μ-loop
+plus-requires c κs = search needs
 
-mul-q-2 : tie.Need-mul-q-2 Inv-loop μ-loop
-mul-q-2 c = search needs
-
-shared-slice-read-q : tie.Need-shared-slice-read-q Inv-loop μ-loop
-shared-slice-read-q c = search needs
-
-sub-if1 : tie.Need-sub-if1 Inv-loop μ-loop
-sub-if1 c = search needs
+in-range-requires : tie.Need-in-range-requires Inv-loop μ-loop
+in-range-requires c κs = search needs
 
 returns : tie.Need-returns Inv-loop μ-loop
-returns c = sym (summing-over _ _ _ _ (omega arith) (omega arith) (c .before .before .before .loop .inv))
-
-add-sum : tie.Need-add-sum Inv-loop μ-loop
-add-sum c = search needs
+returns c =
+    let c3 = c .before .before .before in
+    let c4 = c3 .before in
+    let c5 = c4 .before in
+    let l = c5 .loop in
+    sym (summing-over _ _ _ _ _ (c4 .loop-test .taken)
+    (c .before .before .plus .ensures ∙ ap (λ (o : Order). min (l .sum .0 + o .quantity) mostNumber) (c3 .read .ensures)) (l .inv)
+    (leb-false _ _ (sym (c .before .in-range .ensures) ∙ not-true _ (c .if1 .taken))))
 
 add-k : tie.Need-add-k Inv-loop μ-loop
 add-k c = search needs
@@ -45,7 +46,14 @@ loop-less : tie.Need-loop-less Inv-loop μ-loop
 loop-less c = search needs
 
 loop-again : tie.Need-loop-again Inv-loop μ-loop
-loop-again c = summing-more _ _ _ _ (omega arith) (omega arith) (c .before .before .before .loop .inv)
+loop-again c =
+    let c3 = c .before .before .before in
+    let c4 = c3 .before in
+    let c5 = c4 .before in
+    let l = c5 .loop in
+    summing-more _ _ _ _ _ (c4 .loop-test .taken)
+    (c .before .before .plus .ensures ∙ ap (λ (o : Order). min (l .sum .0 + o .quantity) mostNumber) (c3 .read .ensures)) (l .inv)
+    (leb-true _ _ (sym (c .before .in-range .ensures) ∙ not-false _ (c .if1 .left)))
 
 returns-2 : tie.Need-returns-2 Inv-loop μ-loop
 returns-2 c = sym (summing-ends _ _ _ _ (omega arith) (c .before .loop .inv))
@@ -57,13 +65,10 @@ quantities-fit-spec =
     Inv-loop
     μ-loop
     loop-holds
-    mul-q
-    add-q
-    mul-q-2
-    shared-slice-read-q
-    sub-if1
+    read-requires
+    plus-requires
+    in-range-requires
     returns
-    add-sum
     add-k
     loop-less
     loop-again

@@ -1,7 +1,8 @@
 -- `rise`: numbers that rise by neighbours rise.
 use Prim.Native.Nat.{_≤_, _-_}
-use mathlib.Core.Path.{sym}
+use mathlib.Core.Path.{sym, ap}
 use native.Mathlib.Omega.{arith}
+use Rattle.matching.specs.Orders.{Order}
 use Rattle.matching.proofs.laws.orders.FitLaws.{ClimbsTo, climbs-more, climbs-rise, climbs-not}
 use borrow.Author.Needs.{needs}
 use Rattle.matching.proofs.fitness.rise.Statement.{statement}
@@ -16,31 +17,25 @@ abbrev μ-loop : tie.MeasureT-loop
 loop-holds : tie.Need-loop-holds Inv-loop μ-loop
 loop-holds c = (search needs, λ j l. absurd (omega arith))
 
-mul-number : tie.Need-mul-number Inv-loop μ-loop
-mul-number c = search needs
+read-requires : tie.Need-read-requires Inv-loop μ-loop
+read-requires c κs = search needs
 
-mul-number-2 : tie.Need-mul-number-2 Inv-loop μ-loop
-mul-number-2 c = search needs
+sub-read : tie.Need-sub-read Inv-loop μ-loop
+sub-read c = search needs
 
-shared-slice-read-number : tie.Need-shared-slice-read-number Inv-loop μ-loop
-shared-slice-read-number c = search needs
-
-mul-before : tie.Need-mul-before Inv-loop μ-loop
-mul-before c = search needs
-
-sub-before : tie.Need-sub-before Inv-loop μ-loop
-sub-before c = search needs
-
-mul-before-2 : tie.Need-mul-before-2 Inv-loop μ-loop
-mul-before-2 c = search needs
-
-shared-slice-read-before : tie.Need-shared-slice-read-before Inv-loop μ-loop
-shared-slice-read-before c = search needs
+read-requires-2 : tie.Need-read-requires-2 Inv-loop μ-loop
+read-requires-2 c κs = search needs
 
 returns : tie.Need-returns Inv-loop μ-loop
 returns c =
-    let l = c .before .before .before .before in
-    sym (climbs-not _ _ (l .loop .k) (omega arith) (omega arith) (omega arith))
+    let c3 = c .before .before .before in
+    let c4 = c3 .before in
+    let c5 = c4 .before in
+    let c6 = c5 .before in
+    let l = c6 .loop in
+    let x = ap (λ (o : Order). o .number) (c4 .read .ensures) in
+    let y = ap (λ (o : Order). o .number) (c3 .read2 .ensures) in
+    sym (climbs-not _ _ (l .k) (l .inv .0) (c5 .loop-test .taken) (omega (arith, x, y, c .if1 .taken)))
 
 add-k : tie.Need-add-k Inv-loop μ-loop
 add-k c = search needs
@@ -50,28 +45,17 @@ loop-less c = search needs
 
 loop-again : tie.Need-loop-again Inv-loop μ-loop
 loop-again c =
-    let l = c .before .before .before .before in
-    (search needs, climbs-more (l .before .args .orders .now) (l .loop .k) (omega arith) (omega arith) (l .loop .inv .1))
+    let c3 = c .before .before .before in
+    let c4 = c3 .before in
+    let c6 = c4 .before .before in
+    let c8 = c6 .before .before in
+    let l = c6 .loop in
+    let x = ap (λ (o : Order). o .number) (c4 .read .ensures) in
+    let y = ap (λ (o : Order). o .number) (c3 .read2 .ensures) in
+    (search needs, climbs-more (c8 .args .orders .now) (l .k) (l .inv .0) (omega (arith, x, y, c .if1 .left)) (l .inv .1))
 
 returns-2 : tie.Need-returns-2 Inv-loop μ-loop
 returns-2 c = sym (climbs-rise _ _ (λ j l. c .before .loop .inv .1 j (omega arith)))
 
 pub rise-spec : {M : Type 1} → statement M
-rise-spec =
-    tie.close
-    (tie.spec
-    Inv-loop
-    μ-loop
-    loop-holds
-    mul-number
-    mul-number-2
-    shared-slice-read-number
-    mul-before
-    sub-before
-    mul-before-2
-    shared-slice-read-before
-    returns
-    add-k
-    loop-less
-    loop-again
-    returns-2)
+rise-spec = tie.close (tie.spec Inv-loop μ-loop loop-holds read-requires sub-read read-requires-2 returns add-k loop-less loop-again returns-2)

@@ -256,9 +256,9 @@ module _ (m ps : List ℕ) (n c d margin v : ℕ) (s : Stand m ps n c (ordersAt 
       pub all-few : all ≤ n
       all-few = omega (arith, both-few, better-count, all-count)
 
-      module _ (roomTo : n ≤ length to₂) (roomAm : n ≤ length am₁) (roomOp₀ : n ≤ length op₀) (roomOp : n ≤ length op) (first : ℕ) (ef : first
-          ≡ total (take better am₁)) (x : ℕ) (ys : List ℕ)
-          (i : Is (sharing (v - first) (take (all - better) (drop better op)) (take (all - better) (drop better am₁))) x ys) where
+      module _ (roomTo : n ≤ length to₂) (roomAm : n ≤ length am₁) (roomOp₀ : n ≤ length op₀) (roomOp : n ≤ length op) (first due : ℕ) (ef : first
+          ≡ total (take better am₁)) (ed : due ≡ v - first) (x : ℕ) (ys : List ℕ)
+          (i : Is (sharing due (take (all - better) (drop better op)) (take (all - better) (drop better am₁))) x ys) where
         abbrev R : List ℕ
         R = openAt m M
 
@@ -292,7 +292,7 @@ module _ (m ps : List ℕ) (n c d margin v : ℕ) (s : Stand m ps n c (ordersAt 
 
         shares : ys ≡ parts D R
         shares =
-            let j : Is (sharing D R (take (all - better) (drop better am₁))) x ys = rw (ef, open-margin) at i in
+            let j : Is (sharing D R (take (all - better) (drop better am₁))) x ys = rw (ed, ef, open-margin) at i in
             let k = is-shared D R (take (all - better) (drop better am₁)) (omega (arith, lP, lR, all-count)) least fits most refl in
             let e : drop (length R) (take (all - better) (drop better am₁))
             ≡ [] = drop-of-length-le (take (all - better) (drop better am₁)) {i = length R} (omega (arith, lP, lR, all-count)) in

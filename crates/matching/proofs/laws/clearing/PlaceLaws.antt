@@ -11,7 +11,7 @@ use borrow.Author.Tests.{eq-eqb, eqb-true, eqb-false, le-leb, lt-leb}
 use lib.ListN.{length, getD, take, length-take, List·getD-eq-default}
 use lib.Seq.{getD-take}
 use Rattle.measures.specs.Lists.{Each, keep}
-use Rattle.measures.specs.Ranges.{mostEnergy}
+use Rattle.measures.specs.Ranges.{mostEnergy, mostNumber}
 use Rattle.measures.proofs.ListLaws.{both-ways}
 use Rattle.matching.specs.Orders.{Order, quantities, laid}
 use Rattle.matching.specs.Memory.{orderAt, ordersIn, noOrder}
@@ -153,14 +153,15 @@ module _ (m bs ks : List ℕ) (n nb na i j rb ra v b s : ℕ) (sd : Sides m bs k
     ask-is : priceAt al j ≡ y .price
     ask-is = ap (λ (o : Order). o .price) (here-at m ks n na _ (sd .asksStand) j hj ∙ sym ey)
 
-    pub walk-at-takes : (t : ℕ) → y .price ≤ x .price → t ≡ min rb ra → (rb ≡ 0 → ⊥) → (ra ≡ 0 → ⊥)
-        → WalkAt m bs ks nb na i j (rb - t) (ra - t) (v + t) (x .price) (y .price)
-    walk-at-takes t le et nb0 na0 =
+    pub walk-at-takes : (t d u w : ℕ) → y .price ≤ x .price → (rb ≡ 0 → ⊥) → (ra ≡ 0 → ⊥) → t ≡ min rb ra → d ≡ rb - t → u ≡ ra - t
+        → w ≡ min (v + t) mostNumber → WalkAt m bs ks nb na i j d u w (x .price) (y .price)
+    walk-at-takes t d u w le nb0 na0 et ed eu ew =
+        let ev : w ≡ v + t = omega (arith, walk-at-small) in
         record {
           bidsIn = g .bidsIn;
           asksIn = g .asksIn;
           walking =
-              rw (← bid-is, ← ask-is)
+              rw (ed, eu, ev, ← bid-is, ← ask-is)
               (walking-takes bl al i j rb ra v b s (g .walking) (so .falls) (so .rises) (omega (arith, so .manyBids)) (omega (arith, so .manyAsks))
               (omega (arith, bid-is, ask-is)) t et (omega arith));
         }
@@ -187,8 +188,9 @@ turns-bid nb na i j rb ra q h = fewer (nb - (i + 1) + (na - j)) (nb - i + (na - 
 pub turns-ask : (nb na i j rb ra q : ℕ) → j < na → turns nb na i (j + 1) rb q < turns nb na i j rb ra
 turns-ask nb na i j rb ra q h = fewer (nb - i + (na - (j + 1))) (nb - i + (na - j)) (min rb q) (min rb ra) (omega arith)
 
-pub turns-take : (nb na i j rb ra t : ℕ) → t ≡ min rb ra → (rb ≡ 0 → ⊥) → (ra ≡ 0 → ⊥) → turns nb na i j (rb - t) (ra - t) < turns nb na i j rb ra
-turns-take nb na i j rb ra t e hb ha = last-one (2 * (nb - i + (na - j))) (min (rb - t) (ra - t)) (min rb ra) (omega arith) (omega arith)
+pub turns-take : (nb na i j rb ra t d u : ℕ) → (rb ≡ 0 → ⊥) → (ra ≡ 0 → ⊥) → t ≡ min rb ra → d ≡ rb - t → u ≡ ra - t
+    → turns nb na i j d u < turns nb na i j rb ra
+turns-take nb na i j rb ra t d u hb ha e ed eu = last-one (2 * (nb - i + (na - j))) (min d u) (min rb ra) (omega arith) (omega arith)
 
 -- the margin's price is one of the prices
 priced : (P : ℕ → Type 0) (v : ℕ) (os : List Order) → Each (λ o. P (o .price)) os → 0 < v → v ≤ quantities os → P (marginal v os)

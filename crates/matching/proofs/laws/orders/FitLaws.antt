@@ -1,5 +1,5 @@
 -- Laws of orders that fit: numbers that rise by neighbours, a sum along the orders, and the five tests.
-use Prim.Native.Nat.{ℕ, zero, suc, _+_, _*_, _-_, _<_, _≤_}
+use Prim.Native.Nat.{ℕ, zero, suc, _+_, _*_, _-_, _<_, _≤_, min}
 use mathlib.Core.Path.{_≡_, refl, ap, _∙_}
 use mathlib.Core.Bool.{Bool, true, false, _&&_}
 use mathlib.Core.List.{List, [], _∷_}
@@ -10,10 +10,10 @@ use borrow.Author.Tests.{lt-ltb, ltb-true, le-leb, lt-leb, leb-true}
 use lib.ListN.{length, getD, drop, drop-of-length-le, length-map, List·getD-map}
 use lib.Dec.{leb, ltb}
 use Rattle.measures.specs.Lists.{every}
-use Rattle.measures.specs.Ranges.{mostEnergy}
+use Rattle.measures.specs.Ranges.{mostEnergy, mostNumber}
 use Rattle.measures.proofs.ListLaws.{and-true, and-left, and-right, every-at, every-by, sumOf-drop}
 use Rattle.matching.specs.Orders.{Order, rising, numbers, quantities}
-use Rattle.matching.specs.Memory.{ordersIn, noOrder}
+use Rattle.matching.specs.Memory.{orderAt, ordersIn, noOrder}
 use Rattle.matching.specs.Answers.{fit, fitBelow}
 use Rattle.matching.proofs.laws.orders.OrderLaws.{orders-length, orders-at}
 
@@ -78,13 +78,13 @@ quantities-more m n k h =
 abbrev pub ClimbsTo : List ℕ → ℕ → Type 0
 ClimbsTo m k = (j : ℕ) → suc j < k → getD m (6 * j) 0 < getD m (6 * suc j) 0
 
-pub climbs-more : (m : List ℕ) (k : ℕ) → 1 ≤ k → getD m (6 * k - 6) 0 < getD m (6 * k) 0 → ClimbsTo m k → ClimbsTo m (k + 1)
+pub climbs-more : (m : List ℕ) (k : ℕ) → 1 ≤ k → orderAt m (k - 1) .number < orderAt m k .number → ClimbsTo m k → ClimbsTo m (k + 1)
 climbs-more m k one h c j l = go (decLt (suc j) k)
   where
     go : Dec (suc j < k) → getD m (6 * j) 0 < getD m (6 * suc j) 0
     go (yes u) = c j u
     go (no u) =
-        let a : getD m (6 * j) 0 ≡ getD m (6 * k - 6) 0 = ap (λ (i : ℕ). getD m i 0) (omega arith) in
+        let a : getD m (6 * j) 0 ≡ getD m (6 * (k - 1)) 0 = ap (λ (i : ℕ). getD m i 0) (omega arith) in
         let b : getD m (6 * suc j) 0 ≡ getD m (6 * k) 0 = ap (λ (i : ℕ). getD m i 0) (omega arith) in
         omega arith
 
@@ -96,10 +96,9 @@ climbs-rise m n c = rising-by (numbers (ordersIn m n)) at
         let u : suc k < n = omega (arith, numbers-length m n) in
         omega (arith, c k u, numbers-at m n k (omega arith), numbers-at m n (suc k) u)
 
-pub climbs-not : (m : List ℕ) (n k : ℕ) → 1 ≤ k → k < n → getD m (6 * k) 0 ≤ getD m (6 * k - 6) 0 → rising (numbers (ordersIn m n)) ≡ false
+pub climbs-not : (m : List ℕ) (n k : ℕ) → 1 ≤ k → k < n → orderAt m k .number ≤ orderAt m (k - 1) .number → rising (numbers (ordersIn m n)) ≡ false
 climbs-not m n k one l h =
     let e : suc (k - 1) ≡ k = omega arith in
-    let a : getD m (6 * (k - 1)) 0 ≡ getD m (6 * k - 6) 0 = ap (λ (i : ℕ). getD m i 0) (omega arith) in
     let b : getD m (6 * suc (k - 1)) 0 ≡ getD m (6 * k) 0 = ap (λ (i : ℕ). getD m i 0) (omega arith) in
     rising-fails (numbers (ordersIn m n)) (k - 1) (omega (arith, numbers-length m n))
     (omega (arith, numbers-at m n (k - 1) (omega arith), numbers-at m n (suc (k - 1)) (omega arith)))
@@ -110,14 +109,12 @@ pub record Summing (m : List ℕ) (n sum k : ℕ) : Type 0 where
   pub small : sum ≤ mostEnergy
   pub rest : sum + quantities (drop k (ordersIn m n)) ≡ quantities (ordersIn m n)
 
-pub summing-more : (m : List ℕ) (n sum k : ℕ) → k < n → sum + getD m (6 * k + 5) 0 ≤ mostEnergy → Summing m n sum k
-    → Summing m n (sum + getD m (6 * k + 5) 0) (k + 1)
-summing-more m n sum k l h s =
-    record { at = omega arith; small = h; rest = omega (arith, s .rest, quantities-more m n k l) }
+module _ (m : List ℕ) (n sum k t : ℕ) (l : k < n) (e : t ≡ min (sum + getD m (6 * k + 5) 0) mostNumber) (s : Summing m n sum k) where
+  pub summing-more : t ≤ mostEnergy → Summing m n t (k + 1)
+  summing-more h = record { at = omega arith; small = h; rest = omega (arith, s .rest, quantities-more m n k l) }
 
-pub summing-over : (m : List ℕ) (n sum k : ℕ) → k < n → mostEnergy < sum + getD m (6 * k + 5) 0 → Summing m n sum k
-    → leb (quantities (ordersIn m n)) mostEnergy ≡ false
-summing-over m n sum k l h s = lt-leb (quantities (ordersIn m n)) mostEnergy (omega (arith, s .rest, quantities-more m n k l))
+  pub summing-over : mostEnergy < t → leb (quantities (ordersIn m n)) mostEnergy ≡ false
+  summing-over h = lt-leb (quantities (ordersIn m n)) mostEnergy (omega (arith, s .rest, quantities-more m n k l))
 
 pub summing-ends : (m : List ℕ) (n sum k : ℕ) → n ≤ k → Summing m n sum k → leb (quantities (ordersIn m n)) mostEnergy ≡ true
 summing-ends m n sum k l s =

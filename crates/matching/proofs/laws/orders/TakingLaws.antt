@@ -151,11 +151,12 @@ module _ (m ss : List ℕ) (n p x : ℕ) (marks : n ≤ length ss) (hp : p < n) 
         past = refl;
       }
 
-  pub taken-part : (q : ℕ) (m′ : List ℕ) → q ≡ orderAt m p .quantity → x < q → ordersIn m′ n ≡ set (ordersIn m n) p (leaving (orderAt m p) (q - x))
+  pub taken-part : (q r : ℕ) (m′ : List ℕ) → q ≡ orderAt m p .quantity → x < q → r ≡ q - x → ordersIn m′ n ≡ set (ordersIn m n) p (leaving (orderAt m p) r)
       → drop (6 * n) m′ ≡ drop (6 * n) m
       → Taken m ss n (lessen (orderAt m p .number) x (standing (take n ss) (ordersIn m n))) m′ ss
-  taken-part q m′ e h w past =
-      let v : ordersIn m′ n ≡ set (ordersIn m n) p (less (orderAt m p) x) = w ∙ ap (λ (r : ℕ). set (ordersIn m n) p (leaving (orderAt m p) (r - x))) e in
+  taken-part q r m′ e h er w past =
+      let v : ordersIn m′ n ≡ set (ordersIn m n) p (less (orderAt m p) x) = w
+      ∙ ap (λ (y : ℕ). set (ordersIn m n) p (leaving (orderAt m p) y)) (er ∙ ap (λ (y : ℕ). y - x) e) in
       record {
         orders = ap (standing (take n ss)) v ∙ sym (by-place ∙ cond-false _ _ _ (lt-leb (orderAt m p .quantity) x (omega arith)) refl);
         numbers = ap numbers v ∙ ap (λ (o : Order). numbers (set (ordersIn m n) p (less o x))) (sym at-p) ∙ numbers-less (ordersIn m n) p x;

@@ -328,20 +328,19 @@ module _ (period price : ℕ) (m bids bought asks sold : List ℕ) (n nb na : �
     ask-in-range = ask-fits period price (fillsAt m bids bought nb) (fillsAt m asks sold na) r₀ r i j a e count g F H li lj
         (fills-at m bids bought n nb fb i hi) (fills-at m asks sold n na fa j hj)
 
-    module _ (seller buyer q : ℕ) (r′ : List ℕ) (count′ : ℕ) (es : seller ≡ getD m (6 * getD asks j 0 + 1) 0) (eb : buyer
-        ≡ getD m (6 * getD bids i 0 + 1) 0)
-        (eq : q ≡ min (a + getD bought i 0) (e + getD sold j 0) - max a e) (lr : length r′
-        ≡ length r) (w : Wrote period price seller buyer q r count r′ count′) where
-      pub bid-row : a + getD bought i 0 ≤ e + getD sold j 0 → Rowing period price (fillsAt m bids bought nb) (fillsAt m asks sold na) r₀ r′ (i + 1) j
-          (a + getD bought i 0) e count′
+    module _ (seller buyer x y q : ℕ) (r′ : List ℕ) (count′ : ℕ) (es : seller ≡ getD m (6 * getD asks j 0 + 1) 0)
+        (eb : buyer ≡ getD m (6 * getD bids i 0 + 1) 0) (ex : x ≡ a + getD bought i 0) (ey : y ≡ e + getD sold j 0) (eq : q ≡ min x y - max a e)
+        (lr : length r′ ≡ length r) (w : Wrote period price seller buyer q r count r′ count′) where
+      pub bid-row : x ≤ y → Rowing period price (fillsAt m bids bought nb) (fillsAt m asks sold na) r₀ r′ (i + 1) j x e count′
       bid-row h =
-          rowing-bid period price (fillsAt m bids bought nb) (fillsAt m asks sold na) r₀ r i j a e count g F H li lj (fills-at m bids bought n nb fb i hi)
+          rw ex
+          (rowing-bid period price (fillsAt m bids bought nb) (fillsAt m asks sold na) r₀ r i j a e count g F H li lj (fills-at m bids bought n nb fb i hi)
           (fills-at m asks sold n na fa j hj)
-          seller buyer q r′ count′ es eb eq lr w h
+          seller buyer q r′ count′ es eb (omega arith) lr w (omega arith))
 
-      pub ask-row : e + getD sold j 0 ≤ a + getD bought i 0 → Rowing period price (fillsAt m bids bought nb) (fillsAt m asks sold na) r₀ r′ i (j + 1) a
-          (e + getD sold j 0) count′
+      pub ask-row : y ≤ x → Rowing period price (fillsAt m bids bought nb) (fillsAt m asks sold na) r₀ r′ i (j + 1) a y count′
       ask-row h =
-          rowing-ask period price (fillsAt m bids bought nb) (fillsAt m asks sold na) r₀ r i j a e count g F H li lj (fills-at m bids bought n nb fb i hi)
+          rw ey
+          (rowing-ask period price (fillsAt m bids bought nb) (fillsAt m asks sold na) r₀ r i j a e count g F H li lj (fills-at m bids bought n nb fb i hi)
           (fills-at m asks sold n na fa j hj)
-          seller buyer q r′ count′ es eb eq lr w h
+          seller buyer q r′ count′ es eb (omega arith) lr w (omega arith))

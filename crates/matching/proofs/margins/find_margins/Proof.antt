@@ -1,4 +1,5 @@
 -- `find_margins`: a bid and an ask that meet are met for the smaller of what is left of them; the laws say what the walk has found where it ends.
+use mathlib.Core.Path.{sym, _∙_}
 use native.Mathlib.Omega.{arith}
 use Rattle.matching.proofs.laws.laying.LayingLaws.{stand-below}
 use Rattle.matching.proofs.laws.clearing.PlaceLaws.{
@@ -8,7 +9,6 @@ use Rattle.matching.proofs.laws.clearing.PlaceLaws.{
   walk-at-bid,
   walk-at-ask,
   walk-at-takes,
-  walk-at-small,
   walk-at-bids-end,
   walk-at-asks-end,
   walk-at-apart,
@@ -17,16 +17,17 @@ use Rattle.matching.proofs.laws.clearing.PlaceLaws.{
   turns-ask,
   turns-take,
 }
+use borrow.Author.Tests.{eqb-true, eqb-false, leb-true, leb-false, not-true, not-false}
 use borrow.Author.Needs.{needs}
 use Rattle.matching.proofs.margins.find_margins.Statement.{statement}
 use Rattle.matching.proofs.margins.find_margins.Tie as tie
 
 abbrev Inv-loop : tie.InvT-loop
-Inv-loop orders n bids nb asks na volume₀ bid₀ ask₀ i₀ j₀ demand₀ supply₀ volume bid ask i j demand supply =
-    WalkAt orders bids asks nb na i j demand supply volume bid ask
+Inv-loop orders n bids nb asks na margins₀ i₀ j₀ demand₀ supply₀ margins i j demand supply =
+    WalkAt orders bids asks nb na i j (demand .0) (supply .0) (margins .volume .0) (margins .bid .0) (margins .ask .0)
 
 abbrev μ-loop : tie.MeasureT-loop
-μ-loop orders n bids nb asks na volume₀ bid₀ ask₀ i₀ j₀ demand₀ supply₀ volume bid ask i j demand supply = turns nb na i j demand supply
+μ-loop orders n bids nb asks na margins₀ i₀ j₀ demand₀ supply₀ margins i j demand supply = turns nb na i j (demand .0) (supply .0)
 
 open-at-requires : tie.Need-open-at-requires Inv-loop μ-loop
 open-at-requires c κs =
@@ -72,109 +73,132 @@ read-requires-2 c κs =
     let b = stand-below _ _ _ _ _ (c5 .loop .j) (c11 .pre .2 .asksStand) (omega arith) in
     omega arith
 
+meets-requires : tie.Need-meets-requires Inv-loop μ-loop
+meets-requires c κs = search needs
+
 returns-2 : tie.Need-returns-2 Inv-loop μ-loop
 returns-2 c =
-    let c3 = c .before .before .before in
-    let c5 = c3 .before .before in
-    let c8 = c5 .before .before .before in
+    let c4 = c .before .before .before .before in
+    let c6 = c4 .before .before in
+    let c8 = c6 .before .before in
     let c9 = c8 .before in
-    let c15 = c9 .before .before .before .before .before .before in
-    walk-at-apart _ _ _ _ _ _ _ _ _ _ _ _ _ (c15 .pre .2) (c9 .loop .inv) _ _ (c8 .loop-test .taken) (omega arith) (c5 .read .ensures) (c3 .read2 .ensures)
-    (c .if2 .taken)
+    let c10 = c9 .before in
+    let c16 = c10 .before .before .before .before .before .before in
+    let l = c10 .loop in
+    walk-at-apart _ _ _ _ _ _ _ _ _ _ _ _ _ (c16 .pre .2) (l .inv) _ _ (c9 .loop-test .taken) (omega (arith, l .inv .asksIn, c8 .if1 .left))
+    (c6 .read .ensures) (c4 .read2 .ensures) (leb-false _ _ (sym (c .before .meets .ensures) ∙ not-true _ (c .if2 .taken)))
+
+is-zero-requires : tie.Need-is-zero-requires Inv-loop μ-loop
+is-zero-requires c κs = search needs
 
 add-i : tie.Need-add-i Inv-loop μ-loop
 add-i c =
-    let c9 = c .before .before .before .before .before .before .before .before .before in
-    let s = c9 .before .before .before .before .before .before .before in
-    let a = s .pre .1 in
-    let b = s .pre .2 .bidsStand .few in
-    let t = c9 .loop-test .taken in
-    omega arith
+    let c11 = c .before .before .before .before .before .before .before .before .before .before .before in
+    let s = c11 .before .before .before .before .before .before .before in
+    omega (arith, s .pre .1, s .pre .2 .bidsStand .few, c11 .loop-test .taken)
 
 open-at-requires-3 : tie.Need-open-at-requires-3 Inv-loop μ-loop
 open-at-requires-3 c κs =
-    let c6 = c .before .before .before .before .before .before in
-    let s = c6 .before .before .before .before .before .before .before .before .before .before in
+    let c9 = c .before .before .before .before .before .before .before .before .before in
+    let s = c9 .before .before .before .before .before .before .before .before .before in
     (s .pre .0, s .pre .1, stand-here _ _ _ _ _ (s .pre .2 .bidsStand))
 
 loop-less : tie.Need-loop-less Inv-loop μ-loop
 loop-less c =
-    let c10 = c .before .before .before .before .before .before .before .before .before .before in
-    let c11 = c10 .before in
-    let c17 = c11 .before .before .before .before .before .before in
-    let a = c17 .args in
-    let l = c11 .loop in
-    turns-bid (a .nb) (a .na) (l .i) (l .j) (l .demand) (l .supply) _ (c10 .loop-test .taken)
+    let c12 = c .before .before .before .before .before .before .before .before .before .before .before .before in
+    let c13 = c12 .before in
+    let c19 = c13 .before .before .before .before .before .before in
+    let a = c19 .args in
+    let l = c13 .loop in
+    turns-bid (a .nb) (a .na) (l .i) (l .j) (l .demand .0) (l .supply .0) _ (c12 .loop-test .taken)
 
 loop-again : tie.Need-loop-again Inv-loop μ-loop
 loop-again c =
-    let c10 = c .before .before .before .before .before .before .before .before .before .before in
-    let c11 = c10 .before in
-    let c17 = c11 .before .before .before .before .before .before in
-    walk-at-bid _ _ _ _ _ _ _ _ _ _ _ _ _ (c17 .pre .2) (c11 .loop .inv) _ (c10 .loop-test .taken) (c .before .if3 .taken) (c .open-at3 .ensures)
+    let c12 = c .before .before .before .before .before .before .before .before .before .before .before .before in
+    let c13 = c12 .before in
+    let c19 = c13 .before .before .before .before .before .before in
+    walk-at-bid _ _ _ _ _ _ _ _ _ _ _ _ _ (c19 .pre .2) (c13 .loop .inv) _ (c12 .loop-test .taken)
+    (eqb-true _ _ (sym (c .before .before .is-zero .ensures) ∙ c .before .if3 .taken)) (c .open-at3 .ensures)
+
+is-zero-requires-2 : tie.Need-is-zero-requires-2 Inv-loop μ-loop
+is-zero-requires-2 c κs = search needs
 
 add-j : tie.Need-add-j Inv-loop μ-loop
 add-j c =
-    let c11 = c .before .before .before .before .before .before .before .before .before .before .before in
-    let s = c11 .before .before .before .before .before .before in
-    let a = s .pre .1 in
-    let b = s .pre .2 .asksStand .few in
-    let t = c11 .loop .inv .asksIn in
-    omega arith
+    let c14 = c .before .before .before .before .before .before .before .before .before .before .before .before .before .before in
+    let s = c14 .before .before .before .before .before .before in
+    omega (arith, s .pre .1, s .pre .2 .asksStand .few, c14 .loop .inv .asksIn)
 
 open-at-requires-4 : tie.Need-open-at-requires-4 Inv-loop μ-loop
 open-at-requires-4 c κs =
-    let c7 = c .before .before .before .before .before .before .before in
-    let s = c7 .before .before .before .before .before .before .before .before .before .before in
+    let c10 = c .before .before .before .before .before .before .before .before .before .before in
+    let s = c10 .before .before .before .before .before .before .before .before .before .before in
     (s .pre .0, s .pre .1, stand-here _ _ _ _ _ (s .pre .2 .asksStand))
 
 loop-less-2 : tie.Need-loop-less-2 Inv-loop μ-loop
 loop-less-2 c =
-    let a = c .before .before .before .before .before .before .before .before .before .before .before .before .before .before .before .before .before
-    .before .args in
-    let l = c .before .before .before .before .before .before .before .before .before .before .before .before .loop in
-    turns-ask (a .nb) (a .na) (l .i) (l .j) (l .demand) (l .supply) _ (omega arith)
+    let c13 = c .before .before .before .before .before .before .before .before .before .before .before .before .before in
+    let c15 = c13 .before .before in
+    let c21 = c15 .before .before .before .before .before .before in
+    let a = c21 .args in
+    let l = c15 .loop in
+    turns-ask (a .nb) (a .na) (l .i) (l .j) (l .demand .0) (l .supply .0) _ (omega (arith, l .inv .asksIn, c13 .if1 .left))
 
 loop-again-2 : tie.Need-loop-again-2 Inv-loop μ-loop
 loop-again-2 c =
-    walk-at-ask _ _ _ _ _ _ _ _ _ _ _ _ _ (c .before .before .before .before .before .before .before .before .before .before .before .before .before .before
-    .before .before .before .before .pre .2) (c .before .before .before .before .before .before .before .before .before .before .before .before .loop
-    .inv) _ (omega arith) (c .before .if4 .taken) (c .open-at4 .ensures)
+    let c13 = c .before .before .before .before .before .before .before .before .before .before .before .before .before in
+    let c15 = c13 .before .before in
+    let c21 = c15 .before .before .before .before .before .before in
+    let l = c15 .loop in
+    walk-at-ask _ _ _ _ _ _ _ _ _ _ _ _ _ (c21 .pre .2) (l .inv) _ (omega (arith, l .inv .asksIn, c13 .if1 .left))
+    (eqb-true _ _ (sym (c .before .before .is-zero2 .ensures) ∙ c .before .if4 .taken)) (c .open-at4 .ensures)
 
-sooner-requires : tie.Need-sooner-requires Inv-loop μ-loop
-sooner-requires c κs = search needs
+least-requires : tie.Need-least-requires Inv-loop μ-loop
+least-requires c κs = search needs
 
-add-volume : tie.Need-add-volume Inv-loop μ-loop
-add-volume c =
-    let c12 = c .before .before .before .before .before .before .before .before .before .before .before .before in
-    let c18 = c12 .before .before .before .before .before .before in
-    let b = walk-at-small _ _ _ _ _ _ _ _ _ _ _ _ _ (c18 .pre .2) (c12 .loop .inv) in
-    omega arith
+plus-requires : tie.Need-plus-requires Inv-loop μ-loop
+plus-requires c κs = search needs
 
-sub-demand : tie.Need-sub-demand Inv-loop μ-loop
-sub-demand c = search needs
+minus-requires : tie.Need-minus-requires Inv-loop μ-loop
+minus-requires c κs = search needs
 
-sub-supply : tie.Need-sub-supply Inv-loop μ-loop
-sub-supply c = search needs
+minus-requires-2 : tie.Need-minus-requires-2 Inv-loop μ-loop
+minus-requires-2 c κs = search needs
 
 loop-less-3 : tie.Need-loop-less-3 Inv-loop μ-loop
 loop-less-3 c =
-    let c12 = c .before .before .before .before .before .before .before .before .before .before .before .before in
-    let c18 = c12 .before .before .before .before .before .before in
-    let a = c18 .args in
-    let l = c12 .loop in
-    turns-take (a .nb) (a .na) (l .i) (l .j) (l .demand) (l .supply) _ (c .sooner .ensures) (c .before .before .if3 .left) (c .before .if4 .left)
+    let c3 = c .before .before .before in
+    let c4 = c3 .before in
+    let c5 = c4 .before in
+    let c6 = c5 .before in
+    let c7 = c6 .before in
+    let c18 = c7 .before .before .before .before .before .before .before .before .before .before .before in
+    let c24 = c18 .before .before .before .before .before .before in
+    let a = c24 .args in
+    let l = c18 .loop in
+    turns-take (a .nb) (a .na) (l .i) (l .j) (l .demand .0) (l .supply .0) _ _ _ (eqb-false _ _ (sym (c7 .is-zero .ensures) ∙ c6 .if3 .left))
+    (eqb-false _ _ (sym (c5 .is-zero2 .ensures) ∙ c4 .if4 .left)) (c3 .least .ensures) (c .before .minus .ensures) (c .minus2 .ensures)
 
 loop-again-3 : tie.Need-loop-again-3 Inv-loop μ-loop
 loop-again-3 c =
     let c3 = c .before .before .before in
-    let c6 = c3 .before .before .before in
-    let c8 = c6 .before .before in
-    let c11 = c8 .before .before .before in
-    let c12 = c11 .before in
-    let c18 = c12 .before .before .before .before .before .before in
-    walk-at-takes _ _ _ _ _ _ _ _ _ _ _ _ _ (c18 .pre .2) (c12 .loop .inv) _ _ (c11 .loop-test .taken) (omega arith) (c8 .read .ensures)
-    (c6 .read2 .ensures) _ (c3 .if2 .left) (c .sooner .ensures) (c .before .before .if3 .left) (c .before .if4 .left)
+    let c4 = c3 .before in
+    let c5 = c4 .before in
+    let c6 = c5 .before in
+    let c7 = c6 .before in
+    let c8 = c7 .before in
+    let c9 = c8 .before in
+    let c12 = c9 .before .before .before in
+    let c14 = c12 .before .before in
+    let c16 = c14 .before .before in
+    let c17 = c16 .before in
+    let c18 = c17 .before in
+    let c24 = c18 .before .before .before .before .before .before in
+    let l = c18 .loop in
+    walk-at-takes _ _ _ _ _ _ _ _ _ _ _ _ _ (c24 .pre .2) (l .inv) _ _ (c17 .loop-test .taken) (omega (arith, l .inv .asksIn, c16 .if1 .left))
+    (c14 .read .ensures) (c12 .read2 .ensures) _ _ _ _ (leb-true _ _ (sym (c9 .meets .ensures) ∙ not-false _ (c8 .if2 .left)))
+    (eqb-false _ _ (sym (c7 .is-zero .ensures) ∙ c6 .if3 .left)) (eqb-false _ _ (sym (c5 .is-zero2 .ensures) ∙ c4 .if4 .left))
+    (c3 .least .ensures) (c .before .minus .ensures) (c .minus2 .ensures) (c .before .before .plus .ensures)
 
 returns-3 : tie.Need-returns-3 Inv-loop μ-loop
 returns-3 c =
@@ -197,19 +221,22 @@ find-margins-spec =
     mul-read-2
     shared-slice-read-read-2
     read-requires-2
+    meets-requires
     returns-2
+    is-zero-requires
     add-i
     open-at-requires-3
     loop-less
     loop-again
+    is-zero-requires-2
     add-j
     open-at-requires-4
     loop-less-2
     loop-again-2
-    sooner-requires
-    add-volume
-    sub-demand
-    sub-supply
+    least-requires
+    plus-requires
+    minus-requires
+    minus-requires-2
     loop-less-3
     loop-again-3
     returns-3)

@@ -9,27 +9,21 @@ use Rattle.matching.proofs.orders.leave.Tie as tie
 use Rattle.matching.proofs.orders.leave.Reads as reads
 use Rattle.matching.proofs.orders.leave.Lts as lts
 
--- src/orders.rt:60:12
 mul-orders : tie.Need-mul-orders
 mul-orders c = search needs
 
--- src/orders.rt:60:12
 add-orders : tie.Need-add-orders
 add-orders c = search needs
 
--- src/orders.rt:60:5
 mul-orders-2 : tie.Need-mul-orders-2
 mul-orders-2 c = search needs
 
--- src/orders.rt:60:5
 slice-write-orders : tie.Need-slice-write-orders
 slice-write-orders c = search needs
 
--- src/orders.rt:56:1
 same-length : tie.Need-same-length
 same-length c = search needs
 
--- src/orders.rt:56:1
 returns : tie.Need-returns
 returns c = (
   left-at _ _ _ _ (c .pre .1) (c .pre .0),

@@ -23,11 +23,11 @@ mul-p c = search needs
 shared-slice-read-p : tie.Need-shared-slice-read-p Inv-loop μ-loop
 shared-slice-read-p c = search needs
 
-mul-x : tie.Need-mul-x Inv-loop μ-loop
-mul-x c = search needs
+mul-t11 : tie.Need-mul-t11 Inv-loop μ-loop
+mul-t11 c = search needs
 
-shared-slice-read-x : tie.Need-shared-slice-read-x Inv-loop μ-loop
-shared-slice-read-x c = search needs
+shared-slice-read-t13 : tie.Need-shared-slice-read-t13 Inv-loop μ-loop
+shared-slice-read-t13 c = search needs
 
 take-fill-requires : tie.Need-take-fill-requires Inv-loop μ-loop
 take-fill-requires c κs =
@@ -74,8 +74,8 @@ take-fills-spec =
     loop-holds
     mul-p
     shared-slice-read-p
-    mul-x
-    shared-slice-read-x
+    mul-t11
+    shared-slice-read-t13
     take-fill-requires
     add-i
     loop-less
