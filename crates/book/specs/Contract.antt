@@ -10,9 +10,9 @@ use Rattle.book.specs.declared.Answer.{Answer}
 use Rattle.book.specs.declared.Answer.the-variants.{Done, Refused}
 use Rattle.book.specs.Book.{Rules, Book}
 use Rattle.book.specs.Sound.{sound}
-use Rattle.book.specs.Opening.{bookWords, fresh, openingRefusal}
+use Rattle.book.specs.Opening.{fresh, openingRefusal}
 use Rattle.book.specs.Curve.{Drawn, curve}
-use Rattle.book.specs.Layout.{word, decode, enough}
+use Rattle.book.specs.Layout.{LAYOUT, layoutNumber, bookWords, word, decode, laidOut, Aside}
 use Rattle.book.specs.Refusals.{Outcome}
 use Rattle.book.specs.Calls.{Call, outcome}
 
@@ -31,13 +31,13 @@ toldBy (Refused refusal) = record { done = false; refusal = refusal; number = 0;
 abbrev pub telling : ℕ → ℕ → ℕ → Told
 telling refusal number count = record { done = eqb refusal 0; refusal = refusal; number = number; count = count }
 
--- whether memory holds a sound book: long enough, and what it decodes to is sound
+-- whether memory holds a sound book: it is laid out for one, and what it decodes to is sound
 unfoldable pub soundIn : List ℕ → Bool
-soundIn m = enough m && sound (decode m)
+soundIn m = laidOut m && sound (decode m)
 
--- what a call gives on memory: 1 where it is too short
+-- what a call gives on memory: 1 where it is too short or laid out otherwise
 unfoldable pub outcomeOn : List ℕ → Call → Outcome
-outcomeOn m c = cond (enough m) (outcome (decode m) c) (record { refusal = 1; number = 0; rows = []; book = decode m })
+outcomeOn m c = cond (laidOut m) (outcome (decode m) c) (record { refusal = 1; number = 0; rows = []; book = decode m })
 
 -- m and rows are the memory and the lent rows at entry, m′ and rows′ at exit, a the answer
 pub record Made (m rows : List ℕ) (c : Call) (a : Answer) (m′ rows′ : List ℕ) : Type 0 where
@@ -47,8 +47,7 @@ pub record Made (m rows : List ℕ) (c : Call) (a : Answer) (m′ rows′ : List
   pub accepted : outcomeOn m c .refusal ≡ 0 → decode m′ ≡ outcomeOn m c .book
   -- "Memory past the counted rows keeps its contents."
   pub handed : outcomeOn m c .refusal ≡ 0 → rows′ ≡ written rows (outcomeOn m c .rows)
-  -- "Memory past that length is never changed."
-  pub past : drop (bookWords (word m 0)) m′ ≡ drop (bookWords (word m 0)) m
+  pub aside : Aside m m′
   pub long : length m′ ≡ length m
 
 -- what opening promises: m is the memory at entry, m′ at exit
@@ -56,12 +55,13 @@ pub record Opened (m : List ℕ) (r : Rules) (a : Answer) (m′ : List ℕ) : Ty
   pub answer : toldBy a ≡ telling (openingRefusal (length m) r) 0 0
   pub refused : (openingRefusal (length m) r ≡ 0 → ⊥) → m′ ≡ m
   pub accepted : openingRefusal (length m) r ≡ 0 → decode m′ ≡ fresh r
+  pub laid : openingRefusal (length m) r ≡ 0 → word m′ LAYOUT ≡ layoutNumber
   pub past : drop (bookWords (r .days)) m′ ≡ drop (bookWords (r .days)) m
   pub long : length m′ ≡ length m
 
 -- what the curve gives on memory
 unfoldable pub curveOn : List ℕ → ℕ → ℕ → ℕ → Drawn
-curveOn m u day lent = cond (enough m) (curve (decode m) u day lent) (record { refusal = 1; points = [] })
+curveOn m u day lent = cond (laidOut m) (curve (decode m) u day lent) (record { refusal = 1; points = [] })
 
 -- what the curve promises: pts are the lent numbers at entry, pts′ at exit; "memory past the 48 is kept"
 pub record Curved (m pts : List ℕ) (u day : ℕ) (a : Answer) (pts′ : List ℕ) : Type 0 where

@@ -6,12 +6,7 @@ use lib.Dec.{ltb}
 use Rattle.limits.specs.Units.{daysIn}
 use Rattle.book.specs.Book.{Rules, Book, callPhase}
 use Rattle.book.specs.Refusals.{Check, check, firstOf, badOpening}
-
--- "its needed length depends on the days alone, is published by the library": in words of 64 bits. Before the figures
--- stand 8 words of the book's own, 64 units of 3, 8 offers of 5 and 256 orders of 6; each of a day's 24 periods has 64
--- units' figures of 5 words and 8 offers' amounts.
-abbrev pub bookWords : ℕ → ℕ
-bookWords days = 1_776 + 7_872 * days
+use Rattle.book.specs.Layout.{bookWords}
 
 -- "at most 262,144 bytes times one more than the days"; a word has 8 bytes
 abbrev pub WithinBytes : ℕ → ℕ → Type 0

@@ -1,7 +1,9 @@
 pub mod Readable
 pub mod Closing
 pub mod RowsIn
+pub mod Runs
 pub mod Fitting
+pub mod Pass
 pub mod Whole
 pub mod Ordering
 pub mod Periods

@@ -7,18 +7,26 @@ use crate::curve::curve_checks;
 use crate::curve::write_points;
 use crate::enrolling::enrol_checks;
 use crate::enrolling::enrol_effect;
+use crate::offering::Terms;
 use crate::offering::offer_checks;
 use crate::offering::offer_effect;
+use crate::ordering::Wanted;
 use crate::ordering::order_checks;
 use crate::ordering::order_in_call;
 use crate::ordering::order_in_rolling;
 use crate::periods::clear_checks;
 use crate::periods::clear_effect;
+use crate::places::GIVEN;
+use crate::places::PHASE;
+use crate::places::UNITS;
 use crate::sound::sound_book;
 use crate::taking::take_checks;
 use crate::taking::take_effect;
 use crate::withdrawing::withdraw_checks;
 use crate::withdrawing::withdraw_effect;
+use limits::Unit;
+use measures::Energy;
+use measures::Price;
 ghost use mathlib.Core.Path.{_≡_};
 ghost use mathlib.Core.List.{List, []};
 ghost use lib.ListN.{length};
@@ -56,12 +64,13 @@ pub fn enrol(book: &mut [u64], kind: u64, capacity: u64, asset: u64) -> Answer
     if !sound_book(book) {
         return Answer::Refused(1);
     }
-    let no = enrol_checks(book, kind, capacity, asset);
+    let unit = Unit::fresh(kind, capacity, Energy(asset));
+    let no = enrol_checks(book, unit);
     if no != 0 {
         return Answer::Refused(no);
     }
-    let number = book[5] + 1;
-    enrol_effect(book, kind, capacity, asset);
+    let number = book[UNITS] + 1;
+    enrol_effect(book, unit);
     Answer::Done(number, 0)
 }
 
@@ -72,12 +81,17 @@ pub fn offer(book: &mut [u64], unit: u64, partner: u64, price: u64, amounts: &[u
     if !sound_book(book) {
         return Answer::Refused(1);
     }
-    let no = offer_checks(book, unit, partner, price, amounts);
+    let terms = Terms {
+        unit,
+        partner,
+        price: Price(price),
+    };
+    let no = offer_checks(book, terms, amounts);
     if no != 0 {
         return Answer::Refused(no);
     }
-    let number = book[4] + 1;
-    offer_effect(book, unit, partner, price, amounts);
+    let number = book[GIVEN] + 1;
+    offer_effect(book, terms, amounts);
     Answer::Done(number, 0)
 }
 
@@ -90,11 +104,12 @@ pub fn take(book: &mut [u64], unit: u64, number: u64, quantity: u64, rows: &mut 
         return Answer::Refused(1);
     }
     let mut parts = [0u64; 744];
-    let no = take_checks(book, unit, number, quantity, rows.len(), &mut parts);
+    let energy = Energy(quantity);
+    let no = take_checks(book, unit, number, energy, rows.len(), &mut parts);
     if no != 0 {
         return Answer::Refused(no);
     }
-    let count = take_effect(book, unit, number, quantity, &parts, rows);
+    let count = take_effect(book, unit, number, energy, &parts, rows);
     Answer::Done(0, count)
 }
 
@@ -170,15 +185,22 @@ pub fn order(
     if !sound_book(book) {
         return Answer::Refused(1);
     }
-    let no = order_checks(book, unit, direction, period, price, quantity, rows.len());
+    let wanted = Wanted {
+        unit,
+        direction,
+        period,
+        price: Price(price),
+        quantity: Energy(quantity),
+    };
+    let no = order_checks(book, wanted, rows.len());
     if no != 0 {
         return Answer::Refused(no);
     }
-    let number = book[4] + 1;
-    if book[3] == 0 {
-        order_in_call(book, unit, direction, period, price, quantity);
+    let number = book[GIVEN] + 1;
+    if book[PHASE] == 0 {
+        order_in_call(book, wanted);
         return Answer::Done(number, 0);
     }
-    let count = order_in_rolling(book, unit, direction, period, price, quantity, rows);
+    let count = order_in_rolling(book, wanted, rows);
     Answer::Done(number, count)
 }

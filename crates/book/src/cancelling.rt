@@ -1,4 +1,10 @@
 // Cancel (paper 01): "Cancel removes what is left of an own order."
+use crate::places::AMOUNTS;
+use crate::places::ORDER_TABLE;
+use crate::places::ORDER_WORDS;
+use crate::places::ORDERS;
+use crate::places::UNIT;
+use crate::places::UNITS;
 ghost use mathlib.Core.Path.{_≡_};
 ghost use mathlib.Core.Bool.{true, not};
 ghost use Prim.Native.Nat.{ℕ, _+_, _*_, _-_, _<_, _≤_};
@@ -6,8 +12,7 @@ ghost use lib.ListN.{drop};
 ghost use lib.Dec.{eqb};
 ghost use Rattle.measures.specs.Lists.{keep};
 ghost use Rattle.book.specs.Book.{withOrders, orderOpen};
-ghost use Rattle.book.specs.Opening.{bookWords};
-ghost use Rattle.book.specs.Layout.{word, decode};
+ghost use Rattle.book.specs.Layout.{ORDERS, orderPlace, word, decode, Aside};
 ghost use Rattle.book.specs.Refusals.{firstOf};
 ghost use Rattle.book.specs.inner.Readable.{Readable};
 ghost use Rattle.book.specs.Contract.{soundIn};
@@ -16,13 +21,13 @@ ghost use Rattle.book.specs.Cancel.{cancelChecks};
 // The place of the open order of a number, or how many stand open.
 fn order_place(book: &[u64], number: u64) -> usize
     requires { ⌜ Readable (now book) ⌝ }
-    ensures { λ r. ⌜ (r ≤ word (now (book .entry)) 7) × ((k : ℕ) → k < r → word (now (book .entry)) (240 + 6 * k) ≡ number → ⊥)
-        × (r < word (now (book .entry)) 7 → word (now (book .entry)) (240 + 6 * r) ≡ number) ⌝ }
+    ensures { λ r. ⌜ (r ≤ word (now (book .entry)) ORDERS) × ((k : ℕ) → k < r → word (now (book .entry)) (orderPlace k) ≡ number → ⊥)
+        × (r < word (now (book .entry)) ORDERS → word (now (book .entry)) (orderPlace r) ≡ number) ⌝ }
 {
-    let n = book[7] as usize;
+    let n = book[ORDERS] as usize;
     let mut k: usize = 0;
     while k < n {
-        if book[240 + 6 * k] == number {
+        if book[ORDER_TABLE + ORDER_WORDS * k] == number {
             return k;
         }
         k += 1;
@@ -38,15 +43,15 @@ pub(crate) fn cancel_checks(book: &[u64], unit: u64, number: u64) -> u64
     if unit < 1 {
         return 6;
     }
-    if book[5] < unit {
+    if book[UNITS] < unit {
         return 6;
     }
-    let n = book[7] as usize;
+    let n = book[ORDERS] as usize;
     let k = order_place(book, number);
     if n <= k {
         return 11;
     }
-    if book[241 + 6 * k] != unit {
+    if book[ORDER_TABLE + ORDER_WORDS * k + UNIT] != unit {
         return 11;
     }
     0
@@ -57,10 +62,10 @@ pub(crate) fn cancel_effect(book: &mut [u64], number: u64)
     requires { ⌜ (soundIn (now book) ≡ true) × (orderOpen (decode (now book)) number ≡ true) ⌝ }
     ensures { λ _. ⌜ (decode (now (book .exit)) ≡ withOrders (decode (now (book .entry)))
         (keep (λ o. not (eqb (o .number) number)) (decode (now (book .entry)) .orders)))
-        × (drop (bookWords (word (now (book .entry)) 0)) (now (book .exit)) ≡ drop (bookWords (word (now (book .entry)) 0)) (now (book .entry))) ⌝ }
+        × (Aside (now (book .entry)) (now (book .exit))) ⌝ }
 {
-    let n = book[7];
+    let n = book[ORDERS];
     let k = order_place(book, number);
-    matching::orders::remove(&mut book[240..1776], n as usize, k);
-    book[7] = n - 1;
+    matching::orders::remove(&mut book[ORDER_TABLE..AMOUNTS], n as usize, k);
+    book[ORDERS] = n - 1;
 }

@@ -1,4 +1,30 @@
 // Whether a unit fits its limits, with what it has open and a declaration added: paper 01, "Limits".
+use crate::pass::LOW;
+use crate::pass::Sums;
+use crate::pass::hour_limits;
+use crate::pass::open_day;
+use crate::pass::together;
+use crate::places::AMOUNT_WORDS;
+use crate::places::AMOUNTS;
+use crate::places::ASSET;
+use crate::places::BLOCK;
+use crate::places::CAPACITY;
+use crate::places::DAY_WORDS;
+use crate::places::DAYS;
+use crate::places::DIRECTION;
+use crate::places::FIGURES;
+use crate::places::HOURS;
+use crate::places::OFFER_TABLE;
+use crate::places::OFFER_WORDS;
+use crate::places::OFFERS;
+use crate::places::ORDER_TABLE;
+use crate::places::ORDER_WORDS;
+use crate::places::ORDERS;
+use crate::places::PERIOD;
+use crate::places::QUANTITY;
+use crate::places::UNIT;
+use crate::places::UNIT_TABLE;
+use crate::places::UNIT_WORDS;
 use crate::ranges::is_generator;
 use limits::Limits;
 use limits::Term;
@@ -6,44 +32,45 @@ use limits::Unit;
 use limits::unit_limits;
 use measures::Energy;
 ghost use mathlib.Core.Path.{_≡_};
-ghost use mathlib.Core.Bool.{cond};
-ghost use Prim.Native.Nat.{_+_, _*_, _-_, _<_, _≤_, min};
-ghost use lib.ListN.{length};
+ghost use mathlib.Core.Bool.{true, cond};
+ghost use Prim.Native.Nat.{_+_, _*_, _-_, _<_, _≤_};
+ghost use lib.ListN.{length, getD};
 ghost use Rattle.measures.specs.Ranges.{mostEnergy};
 ghost use Rattle.measures.specs.Lists.{sum};
 ghost use Rattle.limits.specs.Units.{periods, generator};
-ghost use Rattle.limits.specs.Limits.{hourOf, hourLimit};
 ghost use Rattle.book.specs.Book.{unitOf};
-ghost use Rattle.book.specs.Layout.{word, decode};
+ghost use Rattle.book.specs.Layout.{DAYS, UNITS, OFFERS, ORDERS, unitPlace, CAPACITY, ASSET, word, decode};
+ghost use Rattle.book.specs.Contract.{soundIn};
 ghost use Rattle.book.specs.inner.Readable.{Ranged, Fitted, declared, small};
-ghost use Rattle.book.specs.inner.Fitting.{Below, Added, orderShare, offerShare, markHolds, hourHolds, termAt, volumeAt, periodMisfit, UnitCame};
+ghost use Rattle.book.specs.inner.Fitting.{Below, Added, orderShare, offerShare, termAt, volumeAt, UnitCame};
+ghost use Rattle.book.specs.inner.Pass.{mostOpen, UnitPass, HourTable};
 
 // What the order at place k has open of a unit in one direction goes to its period.
 fn add_order(book: &[u64], unit: u64, direction: u64, k: usize, totals: &mut [u64])
-    requires { ⌜ (Ranged (now book)) × (k < word (now book) 7) ⌝ }
+    requires { ⌜ (Ranged (now book)) × (k < word (now book) ORDERS) ⌝ }
     requires { ⌜ (length (now totals) ≡ 744) × (Below 2000000000000 (now totals)) ⌝ }
-    ensures { λ _. ⌜ Added (periods (word (now (book .entry)) 0)) (now (totals .entry)) (now (totals .exit)) (orderShare (now (book .entry)) unit direction k)
-        mostEnergy ⌝ }
+    ensures { λ _. ⌜ Added (periods (word (now (book .entry)) DAYS)) (now (totals .entry)) (now (totals .exit))
+        (orderShare (now (book .entry)) unit direction k) mostEnergy ⌝ }
 {
-    let at = 240 + 6 * k;
-    if book[at + 1] != unit {
+    let at = ORDER_TABLE + ORDER_WORDS * k;
+    if book[at + UNIT] != unit {
         return;
     }
-    if book[at + 2] != direction {
+    if book[at + DIRECTION] != direction {
         return;
     }
-    let p = book[at + 3] as usize;
-    totals[p] = totals[p] + book[at + 5];
+    let p = book[at + PERIOD] as usize;
+    totals[p] = totals[p] + book[at + QUANTITY];
 }
 
 // All of a unit's orders in one direction.
 fn add_orders(book: &[u64], unit: u64, direction: u64, totals: &mut [u64])
     requires { ⌜ Ranged (now book) ⌝ }
     requires { ⌜ (length (now totals) ≡ 744) × (Below 40000000000 (now totals)) ⌝ }
-    ensures { λ _. ⌜ Added (periods (word (now (book .entry)) 0)) (now (totals .entry)) (now (totals .exit))
-        (λ p. sum (word (now (book .entry)) 7) (λ k. orderShare (now (book .entry)) unit direction k p)) 1024000000000 ⌝ }
+    ensures { λ _. ⌜ Added (periods (word (now (book .entry)) DAYS)) (now (totals .entry)) (now (totals .exit))
+        (λ p. sum (word (now (book .entry)) ORDERS) (λ k. orderShare (now (book .entry)) unit direction k p)) 1024000000000 ⌝ }
 {
-    let n = book[7] as usize;
+    let n = book[ORDERS] as usize;
     let mut k: usize = 0;
     while k < n {
         add_order(book, unit, direction, k, totals);
@@ -53,18 +80,18 @@ fn add_orders(book: &[u64], unit: u64, direction: u64, totals: &mut [u64])
 
 // The amounts of the offer at place j go to their periods, if it is the unit's.
 fn add_offer(book: &[u64], unit: u64, j: usize, totals: &mut [u64])
-    requires { ⌜ (Ranged (now book)) × (j < word (now book) 6) ⌝ }
+    requires { ⌜ (Ranged (now book)) × (j < word (now book) OFFERS) ⌝ }
     requires { ⌜ (length (now totals) ≡ 744) × (Below 2000000000000 (now totals)) ⌝ }
-    ensures { λ _. ⌜ Added (periods (word (now (book .entry)) 0)) (now (totals .entry)) (now (totals .exit)) (offerShare (now (book .entry)) unit j)
+    ensures { λ _. ⌜ Added (periods (word (now (book .entry)) DAYS)) (now (totals .entry)) (now (totals .exit)) (offerShare (now (book .entry)) unit j)
         mostEnergy ⌝ }
 {
-    if book[201 + 5 * j] != unit {
+    if book[OFFER_TABLE + OFFER_WORDS * j + UNIT] != unit {
         return;
     }
-    let top = 24 * (book[0] as usize);
+    let top = HOURS * (book[DAYS] as usize);
     let mut p: usize = 0;
     while p < top {
-        totals[p] = totals[p] + book[2096 + 328 * p + j];
+        totals[p] = totals[p] + book[AMOUNTS + AMOUNT_WORDS * j + p];
         p += 1;
     }
 }
@@ -73,10 +100,10 @@ fn add_offer(book: &[u64], unit: u64, j: usize, totals: &mut [u64])
 fn add_offers(book: &[u64], unit: u64, totals: &mut [u64])
     requires { ⌜ Ranged (now book) ⌝ }
     requires { ⌜ (length (now totals) ≡ 744) × (small (now totals)) ⌝ }
-    ensures { λ _. ⌜ Added (periods (word (now (book .entry)) 0)) (now (totals .entry)) (now (totals .exit))
-        (λ p. sum (word (now (book .entry)) 6) (λ j. offerShare (now (book .entry)) unit j p)) 32000000000 ⌝ }
+    ensures { λ _. ⌜ Added (periods (word (now (book .entry)) DAYS)) (now (totals .entry)) (now (totals .exit))
+        (λ p. sum (word (now (book .entry)) OFFERS) (λ j. offerShare (now (book .entry)) unit j p)) 32000000000 ⌝ }
 {
-    let n = book[6] as usize;
+    let n = book[OFFERS] as usize;
     let mut j: usize = 0;
     while j < n {
         add_offer(book, unit, j, totals);
@@ -86,130 +113,107 @@ fn add_offers(book: &[u64], unit: u64, totals: &mut [u64])
 
 // The limits of a unit over the term.
 pub(crate) struct Bounds {
-    pub term: u64,
-    pub volume: u64,
+    pub term: Energy,
+    pub volume: Energy,
 }
-
-// The largest volume limit, six fifths of Energy::MOST.
-pub(crate) const MOST_VOLUME: u64 = 4_800_000_000;
 
 // The unit at place k.
 fn unit_at(book: &[u64], k: usize) -> Unit
-    requires { ⌜ (Ranged (now book)) × (k < word (now book) 5) ⌝ }
-    ensures { λ r. ⌜ (r .kind ≡ word (now (book .entry)) (8 + 3 * k)) × (r .capacity ≡ word (now (book .entry)) (9 + 3 * k))
-        × (r .asset .0 ≡ word (now (book .entry)) (10 + 3 * k)) ⌝ }
+    requires { ⌜ (Ranged (now book)) × (k < word (now book) UNITS) ⌝ }
+    ensures { λ r. ⌜ (r .kind ≡ word (now (book .entry)) (unitPlace k)) × (r .capacity ≡ word (now (book .entry)) (unitPlace k + CAPACITY))
+        × (r .asset .0 ≡ word (now (book .entry)) (unitPlace k + ASSET)) ⌝ }
 {
-    Unit::fresh(book[8 + 3 * k], book[9 + 3 * k], Energy(book[10 + 3 * k]))
+    Unit::fresh(
+        book[UNIT_TABLE + UNIT_WORDS * k],
+        book[UNIT_TABLE + UNIT_WORDS * k + CAPACITY],
+        Energy(book[UNIT_TABLE + UNIT_WORDS * k + ASSET]),
+    )
 }
 
 // The term and volume limit of the unit at place k.
 pub(crate) fn bounds_of(book: &[u64], k: usize) -> Bounds
-    requires { ⌜ (Ranged (now book)) × (k < word (now book) 5) ⌝ }
-    ensures { λ r. ⌜ (r .term ≡ termAt (now (book .entry)) k) × (r .volume ≡ volumeAt (now (book .entry)) k) ⌝ }
+    requires { ⌜ (Ranged (now book)) × (k < word (now book) UNITS) ⌝ }
+    ensures { λ r. ⌜ (r .term .0 ≡ termAt (now (book .entry)) k) × (r .volume .0 ≡ volumeAt (now (book .entry)) k) ⌝ }
 {
     let unit = unit_at(book, k);
-    let l = unit_limits(Term(book[0]), unit, 0);
+    let l = unit_limits(Term(book[DAYS]), unit, 0);
     match l {
-        Limits::Days => Bounds { term: 0, volume: 0 },
-        Limits::Kind => Bounds { term: 0, volume: 0 },
-        Limits::Size => Bounds { term: 0, volume: 0 },
-        Limits::Period => Bounds { term: 0, volume: 0 },
-        Limits::Given(_, term, volume) => Bounds {
-            term: term.0,
-            volume: volume.0,
+        Limits::Days => Bounds {
+            term: Energy(0),
+            volume: Energy(0),
         },
+        Limits::Kind => Bounds {
+            term: Energy(0),
+            volume: Energy(0),
+        },
+        Limits::Size => Bounds {
+            term: Energy(0),
+            volume: Energy(0),
+        },
+        Limits::Period => Bounds {
+            term: Energy(0),
+            volume: Energy(0),
+        },
+        Limits::Given(_, term, volume) => Bounds { term, volume },
     }
 }
 
-// A running sum that stays at one more than MOST_VOLUME once it has passed it.
-fn capped(sum: u64, x: u64) -> u64
-    requires { ⌜ sum ≤ 4800000001 ⌝ }
-    ensures { λ r. ⌜ r ≡ min (sum + x) 4800000001 ⌝ }
+// All days of the unit at place k, with what raises and what lowers by period.
+fn open_unit(book: &[u64], k: usize, limits: &[u64; 24], raising: &[u64], lowering: &[u64]) -> Sums
+    requires { ⌜ (Ranged (now book)) × (k < word (now book) UNITS) × (HourTable (now book) k (now limits)) ⌝ }
+    requires { ⌜ (length (now raising) ≡ 744) × (length (now lowering) ≡ 744) × (Below mostOpen (now raising)) × (Below mostOpen (now lowering)) ⌝ }
+    ensures { λ r. ⌜ UnitPass (now (book .entry)) k (λ p. getD (now (raising .entry)) p 0) (λ p. getD (now (lowering .entry)) p 0) (r .bad) (r .marks)
+        (r .whole) (r .volume) ⌝ }
 {
-    if MOST_VOLUME + 1 - sum < x {
-        return MOST_VOLUME + 1;
+    let days = book[DAYS] as usize;
+    let mut s = Sums {
+        bad: 0,
+        marks: 0,
+        whole: 0,
+        volume: 0,
+    };
+    let mut d: usize = 0;
+    while d < days {
+        let t = open_day(
+            book,
+            FIGURES + DAY_WORDS * d + BLOCK * k,
+            limits,
+            raising,
+            lowering,
+            HOURS * d,
+        );
+        s = together(s, t);
+        d += 1;
     }
-    sum + x
+    s
 }
 
-// The hour limit of the unit at place k in period p.
-fn hour_at(book: &[u64], k: usize, p: usize) -> u64
-    requires { ⌜ (Ranged (now book)) × (k < word (now book) 5) ⌝ }
-    ensures { λ r. ⌜ r ≡ hourLimit (word (now (book .entry)) (8 + 3 * k)) (word (now (book .entry)) (9 + 3 * k)) (hourOf p) ⌝ }
-{
-    let unit = unit_at(book, k);
-    unit.hour_limit((p % 24) as u64).0
-}
-
-// 1 where the direction of the unit at place k is out of range in period p, 19 where x raising and y lowering do not fit
-// its hour, or 0.
-pub(crate) fn period_fit(book: &[u64], k: usize, p: usize, x: u64, y: u64) -> u64
-    requires { ⌜ (Ranged (now book)) × (k < word (now book) 5) × (p < periods (word (now book) 0)) ⌝ }
-    ensures { λ r. ⌜ r ≡ periodMisfit (markHolds (now (book .entry)) k p) (hourHolds (now (book .entry)) k p x y) ⌝ }
-{
-    let at = 1776 + 328 * p + 5 * k;
-    if 3 < book[at + 4] {
-        return 1;
-    }
-    let hour = hour_at(book, k, p);
-    let held = book[at];
-    if hour < held {
-        return 19;
-    }
-    let raised = book[at + 1];
-    if hour - held < raised {
-        return 19;
-    }
-    if hour - held - raised < x {
-        return 19;
-    }
-    let lowered = book[at + 2];
-    if held < lowered {
-        return 19;
-    }
-    if held - lowered < y {
-        return 19;
-    }
-    0
-}
-
-// What the unit at place k comes to with these amounts by period: 1, 19, 20, 21 or 0.
+// What the unit at place k comes to with these amounts by period: 19, 20, 21 or 0. The book is sound, so a fault is an hour's.
 fn fit_of(book: &[u64], k: usize, raising: &[u64], lowering: &[u64]) -> u64
-    requires { ⌜ (Ranged (now book)) × (k < word (now book) 5) ⌝ }
-    requires { ⌜ (length (now raising) ≡ 744) × (length (now lowering) ≡ 744) × (Below 2000000000000 (now raising))
-        × (Below 2000000000000 (now lowering)) ⌝ }
-    ensures { λ r. ⌜ UnitCame (now (book .entry)) k (now (raising .entry)) (now (lowering .entry)) r ⌝ }
+    requires { ⌜ (soundIn (now book) ≡ true) × (Ranged (now book)) × (k < word (now book) UNITS) ⌝ }
+    requires { ⌜ (length (now raising) ≡ 744) × (length (now lowering) ≡ 744) × (Below mostOpen (now raising)) × (Below mostOpen (now lowering)) ⌝ }
+    ensures { λ r. ⌜ UnitCame (now (book .entry)) k (λ p. getD (now (raising .entry)) p 0) (λ p. getD (now (lowering .entry)) p 0) r ⌝ }
 {
-    let most = bounds_of(book, k);
-    let top = 24 * (book[0] as usize);
-    let mut whole: u64 = 0;
-    let mut volume: u64 = 0;
-    let mut p: usize = 0;
-    while p < top {
-        let x = raising[p];
-        let y = lowering[p];
-        let r = period_fit(book, k, p, x, y);
-        if 0 < r {
-            return r;
-        }
-        let at = 1776 + 328 * p + 5 * k;
-        whole += book[at] + (book[at + 1] + x);
-        volume = capped(volume, book[at + 3]);
-        volume = capped(volume, x + y);
-        p += 1;
+    let at = UNIT_TABLE + UNIT_WORDS * k;
+    let mut limits = [0u64; 24];
+    hour_limits(book[at], book[at + CAPACITY], &mut limits);
+    let s = open_unit(book, k, &limits, raising, lowering);
+    if LOW < s.bad {
+        return 19;
     }
-    if most.term < whole {
+    let most = bounds_of(book, k);
+    if most.term.0 < s.whole {
         return 20;
     }
-    if most.volume < volume {
+    if most.volume.0 < s.volume {
         return 21;
     }
     0
 }
 
 // The direction that raises a unit: 0 of a generator, 1 of a load.
-fn raising_direction(book: &[u64], unit: u64) -> u64
-    requires { ⌜ (Ranged (now book)) × (1 ≤ unit) × (unit ≤ word (now book) 5) ⌝ }
+pub(crate) fn raising_direction(book: &[u64], unit: u64) -> u64
+    requires { ⌜ (Ranged (now book)) × (1 ≤ unit) × (unit ≤ word (now book) UNITS) ⌝ }
     ensures { λ r. ⌜ (r ≤ 1) × (r ≡ cond (generator (unitOf (decode (now (book .entry))) unit .kind)) 0 1) ⌝ }
 {
     if is_generator(book, unit) {
@@ -218,10 +222,10 @@ fn raising_direction(book: &[u64], unit: u64) -> u64
     1
 }
 
-// What a unit comes to with a declaration lent as amounts by period: 19, 20 or 21 for what does not fit, or 0; 1 is for a
-// direction out of range. The amounts are then those with what the unit has open.
+// What a unit of a sound book comes to with a declaration lent as amounts by period: 19, 20 or 21 for what does not fit, or
+// 0. The amounts are then those with what the unit has open.
 pub(crate) fn misfit(book: &[u64], unit: u64, raising: &mut [u64], lowering: &mut [u64]) -> u64
-    requires { ⌜ (Ranged (now book)) × (1 ≤ unit) × (unit ≤ word (now book) 5) ⌝ }
+    requires { ⌜ (soundIn (now book) ≡ true) × (Ranged (now book)) × (1 ≤ unit) × (unit ≤ word (now book) UNITS) ⌝ }
     requires { ⌜ (length (now raising) ≡ 744) × (length (now lowering) ≡ 744) × (small (now raising)) × (small (now lowering)) ⌝ }
     ensures { λ r. ⌜ Fitted (decode (now (book .entry))) unit (declared (now (raising .entry)) (now (lowering .entry))) r ⌝ }
 {

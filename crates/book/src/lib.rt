@@ -10,7 +10,9 @@ mod offering;
 pub mod opening;
 mod ordering;
 mod pairs;
+mod pass;
 mod periods;
+pub mod places;
 mod ranges;
 mod sound;
 mod standing;
@@ -18,6 +20,7 @@ mod taking;
 mod trades;
 mod whole;
 mod withdrawing;
+mod words;
 
 // What a call answers: its number and count of rows, or the refusal.
 pub enum Answer {

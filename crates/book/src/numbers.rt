@@ -1,4 +1,11 @@
 // Open numbers: whether they differ (paper 01, "A book is sound if"), and the offer of one.
+use crate::places::AMOUNTS;
+use crate::places::OFFER_TABLE;
+use crate::places::OFFER_WORDS;
+use crate::places::OFFERS;
+use crate::places::ORDER_TABLE;
+use crate::places::ORDER_WORDS;
+use crate::places::ORDERS;
 use crate::ranges::Offer;
 ghost use mathlib.Core.Path.{_≡_};
 ghost use mathlib.Core.Bool.{not};
@@ -9,7 +16,7 @@ ghost use lib.Dec.{eqb};
 ghost use Rattle.measures.specs.Lists.{every};
 ghost use Rattle.matching.specs.Orders.{Order as OpenOrder, rising};
 ghost use Rattle.book.specs.Sound.{numbersDiffer};
-ghost use Rattle.book.specs.Layout.{word, decode};
+ghost use Rattle.book.specs.Layout.{decode};
 ghost use Rattle.book.specs.inner.Readable.{Readable, offerNumbers, numberFree, numbersFree};
 ghost use Rattle.book.specs.inner.RowsIn.{Found};
 
@@ -18,11 +25,11 @@ fn offers_rise(book: &[u64]) -> bool
     requires { ⌜ Readable (now book) ⌝ }
     ensures { λ r. ⌜ r ≡ rising (offerNumbers (decode (now (book .entry)))) ⌝ }
 {
-    let n = book[6] as usize;
+    let n = book[OFFERS] as usize;
     let mut j: usize = 1;
     while j < n {
-        let number = book[200 + 5 * j];
-        let before = book[200 + 5 * (j - 1)];
+        let number = book[OFFER_TABLE + OFFER_WORDS * j];
+        let before = book[OFFER_TABLE + OFFER_WORDS * (j - 1)];
         if number <= before {
             return false;
         }
@@ -36,10 +43,10 @@ fn number_free(book: &[u64], number: u64) -> bool
     requires { ⌜ Readable (now book) ⌝ }
     ensures { λ r. ⌜ r ≡ numberFree (decode (now (book .entry))) number ⌝ }
 {
-    let n = book[7] as usize;
+    let n = book[ORDERS] as usize;
     let mut k: usize = 0;
     while k < n {
-        if number == book[240 + 6 * k] {
+        if number == book[ORDER_TABLE + ORDER_WORDS * k] {
             return false;
         }
         k += 1;
@@ -52,10 +59,10 @@ fn numbers_free(book: &[u64]) -> bool
     requires { ⌜ Readable (now book) ⌝ }
     ensures { λ r. ⌜ r ≡ numbersFree (decode (now (book .entry))) ⌝ }
 {
-    let n = book[6] as usize;
+    let n = book[OFFERS] as usize;
     let mut j: usize = 0;
     while j < n {
-        if !number_free(book, book[200 + 5 * j]) {
+        if !number_free(book, book[OFFER_TABLE + OFFER_WORDS * j]) {
             return false;
         }
         j += 1;
@@ -71,8 +78,8 @@ pub(crate) fn numbers_differ(book: &[u64]) -> bool
     if !offers_rise(book) {
         return false;
     }
-    let n = book[7] as usize;
-    if !matching::fitness::numbers_rise(&book[240..1776], n) {
+    let n = book[ORDERS] as usize;
+    if !matching::fitness::numbers_rise(&book[ORDER_TABLE..AMOUNTS], n) {
         return false;
     }
     numbers_free(book)
@@ -83,10 +90,10 @@ pub(crate) fn find_offer(book: &[u64], number: u64) -> usize
     requires { ⌜ Readable (now book) ⌝ }
     ensures { λ r. ⌜ Found (now (book .entry)) number r ⌝ }
 {
-    let n = book[6] as usize;
+    let n = book[OFFERS] as usize;
     let mut j: usize = 0;
     while j < n {
-        if book[200 + 5 * j] == number {
+        if book[OFFER_TABLE + OFFER_WORDS * j] == number {
             return j;
         }
         j += 1;

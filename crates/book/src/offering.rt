@@ -1,5 +1,20 @@
 // Offer (paper 01): "a unit, a partner or 0, a price, an amount for each period".
 use crate::fits::misfit;
+use crate::places::AMOUNT_WORDS;
+use crate::places::AMOUNTS;
+use crate::places::CEILING;
+use crate::places::DAYS;
+use crate::places::FLOOR;
+use crate::places::GIVEN;
+use crate::places::HOURS;
+use crate::places::OFFER_TABLE;
+use crate::places::OFFER_WORDS;
+use crate::places::OFFERS;
+use crate::places::PARTNER;
+use crate::places::PRICE;
+use crate::places::TAKEN;
+use crate::places::UNIT;
+use crate::places::UNITS;
 use crate::ranges::Offer;
 use crate::ranges::sides_fit;
 use measures::Energy;
@@ -11,8 +26,7 @@ ghost use Prim.Native.Nat.{ℕ, _+_, _*_, _-_, _<_, _≤_, min};
 ghost use lib.ListN.{length, drop};
 ghost use Rattle.measures.specs.Ranges.{mostEnergy};
 ghost use Rattle.measures.specs.Sharing.{total};
-ghost use Rattle.book.specs.Opening.{bookWords};
-ghost use Rattle.book.specs.Layout.{word, decode};
+ghost use Rattle.book.specs.Layout.{DAYS, UNITS, OFFERS, amountPlace, word, decode, Aside};
 ghost use Rattle.book.specs.Refusals.{
   firstOf,
   unknownUnit,
@@ -30,70 +44,78 @@ ghost use Rattle.book.specs.inner.Readable.{Readable};
 ghost use Rattle.book.specs.Contract.{soundIn};
 ghost use Rattle.book.specs.Offer.{offered, offerChecks, raisingAmounts};
 
+// What an offer says beside its amounts; a partner of 0 is none.
+pub struct Terms {
+    pub unit: u64,
+    pub partner: u64,
+    pub price: Price,
+}
+
 // The sum of lent amounts, or one more than Energy::MOST where it is more than that.
-fn amounts_total(amounts: &[u64]) -> u64
-    ensures { λ r. ⌜ r ≡ min (total (now (amounts .entry))) (mostEnergy + 1) ⌝ }
+fn amounts_total(amounts: &[u64]) -> Energy
+    ensures { λ r. ⌜ r .0 ≡ min (total (now (amounts .entry))) (mostEnergy + 1) ⌝ }
 {
-    let mut whole: u64 = 0;
+    let mut room = Energy(Energy::MOST);
     let mut i = 0;
     while i < amounts.len() {
-        let a = amounts[i];
-        if a > Energy::MOST - whole {
-            return Energy::MOST + 1;
+        let a = Energy(amounts[i]);
+        if !a.at_most(room) {
+            return Energy(Energy::MOST + 1);
         }
-        whole += a;
+        room = room.minus(a);
         i += 1;
     }
-    whole
+    Energy(Energy::MOST).minus(room)
 }
 
 // The checks of names, price and amounts.
-fn offer_terms(book: &[u64], unit: u64, partner: u64, price: u64, amounts: &[u64]) -> u64
+fn offer_terms(book: &[u64], terms: Terms, amounts: &[u64]) -> u64
     requires { ⌜ Readable (now book) ⌝ }
-    ensures { λ r. ⌜ r ≡ firstOf (unknownUnit (decode (now (book .entry))) unit ∷ unknownPartner (decode (now (book .entry))) partner
-        ∷ badPrice (decode (now (book .entry))) price ∷ badAmounts (decode (now (book .entry))) (now (amounts .entry)) ∷ []) ⌝ }
+    ensures { λ r. ⌜ r ≡ firstOf (unknownUnit (decode (now (book .entry))) (terms .unit) ∷ unknownPartner (decode (now (book .entry))) (terms .partner)
+        ∷ badPrice (decode (now (book .entry))) (terms .price .0) ∷ badAmounts (decode (now (book .entry))) (now (amounts .entry)) ∷ []) ⌝ }
 {
-    if unit < 1 {
+    if terms.unit < 1 {
         return 6;
     }
-    if book[5] < unit {
+    if book[UNITS] < terms.unit {
         return 6;
     }
-    if book[5] < partner {
+    if book[UNITS] < terms.partner {
         return 6;
     }
-    if price < book[1] {
+    let price = terms.price;
+    if price.below(Price(book[FLOOR])) {
         return 8;
     }
-    if book[2] < price {
+    if Price(book[CEILING]).below(price) {
         return 8;
     }
-    if amounts.len() != 24 * (book[0] as usize) {
+    if amounts.len() != HOURS * (book[DAYS] as usize) {
         return 9;
     }
     let whole = amounts_total(amounts);
-    if whole < 1 {
+    if whole.is_zero() {
         return 9;
     }
-    if Energy::MOST < whole {
+    if !whole.in_range() {
         return 9;
     }
     0
 }
 
 // The checks of sides and of room, for names that are known.
-fn offer_room(book: &[u64], unit: u64, partner: u64) -> u64
-    requires { ⌜ (Readable (now book)) × (1 ≤ unit) × (unit ≤ word (now book) 5) × (partner ≤ word (now book) 5) ⌝ }
-    ensures { λ r. ⌜ r ≡ firstOf (wrongPartner (decode (now (book .entry))) unit partner ∷ offersFull (decode (now (book .entry)))
+fn offer_room(book: &[u64], terms: Terms) -> u64
+    requires { ⌜ (Readable (now book)) × (1 ≤ terms .unit) × (terms .unit ≤ word (now book) UNITS) × (terms .partner ≤ word (now book) UNITS) ⌝ }
+    ensures { λ r. ⌜ r ≡ firstOf (wrongPartner (decode (now (book .entry))) (terms .unit) (terms .partner) ∷ offersFull (decode (now (book .entry)))
         ∷ numbersUsed (decode (now (book .entry))) ∷ []) ⌝ }
 {
-    if !sides_fit(book, unit, partner) {
+    if !sides_fit(book, terms.unit, terms.partner) {
         return 12;
     }
-    if Offer::MOST <= book[6] {
+    if Offer::MOST <= book[OFFERS] {
         return 17;
     }
-    if Offer::NUMBERS <= book[4] {
+    if Offer::NUMBERS <= book[GIVEN] {
         return 18;
     }
     0
@@ -114,7 +136,7 @@ fn copy_amounts(amounts: &[u64], copy: &mut [u64])
 
 // Whether the amounts fit the unit's limits.
 fn offer_fit(book: &[u64], unit: u64, amounts: &[u64]) -> u64
-    requires { ⌜ (soundIn (now book) ≡ true) × (1 ≤ unit) × (unit ≤ word (now book) 5) × (length (now amounts) ≡ 24 * word (now book) 0)
+    requires { ⌜ (soundIn (now book) ≡ true) × (1 ≤ unit) × (unit ≤ word (now book) UNITS) × (length (now amounts) ≡ 24 * word (now book) DAYS)
         × (total (now amounts) ≤ mostEnergy) ⌝ }
     ensures { λ r. ⌜ r ≡ firstOf (hourMisfit (decode (now (book .entry))) unit (raisingAmounts (now (amounts .entry)))
         ∷ termMisfit (decode (now (book .entry))) unit (raisingAmounts (now (amounts .entry)))
@@ -127,58 +149,52 @@ fn offer_fit(book: &[u64], unit: u64, amounts: &[u64]) -> u64
 }
 
 // The checks of an offer behind that of soundness.
-pub(crate) fn offer_checks(
-    book: &[u64],
-    unit: u64,
-    partner: u64,
-    price: u64,
-    amounts: &[u64],
-) -> u64
+pub(crate) fn offer_checks(book: &[u64], terms: Terms, amounts: &[u64]) -> u64
     requires { ⌜ soundIn (now book) ≡ true ⌝ }
-    ensures { λ r. ⌜ r ≡ firstOf (offerChecks (decode (now (book .entry))) unit partner price (now (amounts .entry))) ⌝ }
+    ensures { λ r. ⌜ r ≡ firstOf (offerChecks (decode (now (book .entry))) (terms .unit) (terms .partner) (terms .price .0) (now (amounts .entry))) ⌝ }
 {
-    let terms = offer_terms(book, unit, partner, price, amounts);
-    if terms != 0 {
-        return terms;
+    let no = offer_terms(book, terms, amounts);
+    if no != 0 {
+        return no;
     }
-    let room = offer_room(book, unit, partner);
+    let room = offer_room(book, terms);
     if room != 0 {
         return room;
     }
-    offer_fit(book, unit, amounts)
+    offer_fit(book, terms.unit, amounts)
 }
 
 // The amounts of the offer at place j.
 fn put_amounts(book: &mut [u64], j: usize, amounts: &[u64])
-    requires { ⌜ (Readable (now book)) × (j < 8) × (length (now amounts) ≡ 24 * word (now book) 0) ⌝ }
-    ensures { λ _. ⌜ ((p : ℕ) → p < 24 * word (now (book .entry)) 0 → word (now (book .exit)) (2096 + 328 * p + j) ≡ word (now (amounts .entry)) p)
-        × ((i : ℕ) → ((p : ℕ) → p < 24 * word (now (book .entry)) 0 → i ≡ 2096 + 328 * p + j → ⊥) → word (now (book .exit)) i ≡ word (now (book .entry)) i)
-        × (drop (bookWords (word (now (book .entry)) 0)) (now (book .exit)) ≡ drop (bookWords (word (now (book .entry)) 0)) (now (book .entry))) ⌝ }
+    requires { ⌜ (Readable (now book)) × (j < 8) × (length (now amounts) ≡ 24 * word (now book) DAYS) ⌝ }
+    ensures { λ _. ⌜ ((p : ℕ) → p < 24 * word (now (book .entry)) DAYS → word (now (book .exit)) (amountPlace j p) ≡ word (now (amounts .entry)) p)
+        × ((i : ℕ) → ((p : ℕ) → p < 24 * word (now (book .entry)) DAYS → i ≡ amountPlace j p → ⊥) → word (now (book .exit)) i ≡ word (now (book .entry)) i) ⌝ }
 {
-    let top = 24 * (book[0] as usize);
+    let top = HOURS * (book[DAYS] as usize);
     let mut p: usize = 0;
     while p < top {
-        book[2096 + 328 * p + j] = amounts[p];
+        book[AMOUNTS + AMOUNT_WORDS * j + p] = amounts[p];
         p += 1;
     }
 }
 
 // One offer more stands behind the others, under the next number.
-pub(crate) fn offer_effect(book: &mut [u64], unit: u64, partner: u64, price: u64, amounts: &[u64])
-    requires { ⌜ (soundIn (now book) ≡ true) × (word (now book) 6 < 8) × (length (now amounts) ≡ 24 * word (now book) 0) ⌝ }
-    ensures { λ _. ⌜ (decode (now (book .exit)) ≡ offered (decode (now (book .entry))) unit partner price (now (amounts .entry)))
-        × (drop (bookWords (word (now (book .entry)) 0)) (now (book .exit)) ≡ drop (bookWords (word (now (book .entry)) 0)) (now (book .entry))) ⌝ }
+pub(crate) fn offer_effect(book: &mut [u64], terms: Terms, amounts: &[u64])
+    requires { ⌜ (soundIn (now book) ≡ true) × (word (now book) OFFERS < 8) × (length (now amounts) ≡ 24 * word (now book) DAYS) ⌝ }
+    ensures { λ _. ⌜ (decode (now (book .exit))
+        ≡ offered (decode (now (book .entry))) (terms .unit) (terms .partner) (terms .price .0) (now (amounts .entry)))
+        × (Aside (now (book .entry)) (now (book .exit))) ⌝ }
 {
-    let j = book[6] as usize;
-    let number = book[4] + 1;
-    let o = Offer::fresh(number, unit, partner, Price(price));
+    let j = book[OFFERS] as usize;
+    let number = book[GIVEN] + 1;
+    let o = Offer::fresh(number, terms.unit, terms.partner, terms.price);
     put_amounts(book, j, amounts);
-    let at = 200 + 5 * j;
+    let at = OFFER_TABLE + OFFER_WORDS * j;
     book[at] = o.number;
-    book[at + 1] = o.unit;
-    book[at + 2] = o.partner;
-    book[at + 3] = o.price.0;
-    book[at + 4] = o.taken;
-    book[6] = j as u64 + 1;
-    book[4] = number;
+    book[at + UNIT] = o.unit;
+    book[at + PARTNER] = o.partner;
+    book[at + PRICE] = o.price.0;
+    book[at + TAKEN] = o.taken;
+    book[OFFERS] = j as u64 + 1;
+    book[GIVEN] = number;
 }

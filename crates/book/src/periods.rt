@@ -1,4 +1,9 @@
 // Clear (paper 01): its checks, and the periods one after the other.
+use crate::places::AMOUNTS;
+use crate::places::DAYS;
+use crate::places::ORDER_TABLE;
+use crate::places::ORDERS;
+use crate::places::PHASE;
 use matching::orders::Matched;
 use matching::periods::clear_periods;
 ghost use mathlib.Core.Path.{_≡_};
@@ -20,7 +25,7 @@ pub(crate) fn clear_checks(book: &[u64], lent: usize) -> u64
     if lent < 4464 {
         return 7;
     }
-    if book[3] == 1 {
+    if book[PHASE] == 1 {
         return 14;
     }
     0
@@ -31,13 +36,13 @@ fn sweep(book: &mut [u64], rows: &mut [u64]) -> usize
     requires { ⌜ (soundIn (now book) ≡ true) × (4464 ≤ length (now rows)) ⌝ }
     ensures { λ r. ⌜ Swept (now (book .entry)) (now (rows .entry)) r (now (book .exit)) (now (rows .exit)) ⌝ }
 {
-    let n = book[7] as usize;
-    let end = 24 * book[0];
-    let t = clear_periods(&mut book[240..1776], n, end, rows);
+    let n = book[ORDERS] as usize;
+    let end = 24 * book[DAYS];
+    let t = clear_periods(&mut book[ORDER_TABLE..AMOUNTS], n, end, rows);
     match t {
         Matched::Unfit => 0,
         Matched::Done(_, count, standing) => {
-            book[7] = standing as u64;
+            book[ORDERS] = standing as u64;
             count
         }
     }
@@ -50,6 +55,6 @@ pub(crate) fn clear_effect(book: &mut [u64], rows: &mut [u64]) -> usize
 {
     let count = sweep(book, rows);
     crate::trades::book_rows(book, rows, count);
-    book[3] = 1;
+    book[PHASE] = 1;
     count
 }

@@ -1,4 +1,30 @@
 // Whether the figures of a book's memory lie in their ranges, and declarations name enrolled units: paper 01, "A book is sound if".
+use crate::places::AMOUNT_WORDS;
+use crate::places::AMOUNTS;
+use crate::places::ASSET;
+use crate::places::CAPACITY;
+use crate::places::CEILING;
+use crate::places::DAYS;
+use crate::places::DIRECTION;
+use crate::places::FLOOR;
+use crate::places::GIVEN;
+use crate::places::HOURS;
+use crate::places::OFFER_TABLE;
+use crate::places::OFFER_WORDS;
+use crate::places::OFFERS;
+use crate::places::ORDER_TABLE;
+use crate::places::ORDER_WORDS;
+use crate::places::ORDERS;
+use crate::places::PARTNER;
+use crate::places::PERIOD;
+use crate::places::PHASE;
+use crate::places::PRICE;
+use crate::places::QUANTITY;
+use crate::places::TAKEN;
+use crate::places::UNIT;
+use crate::places::UNIT_TABLE;
+use crate::places::UNIT_WORDS;
+use crate::places::UNITS;
 use limits::Term;
 use limits::Unit;
 use matching::orders::Order;
@@ -15,7 +41,7 @@ ghost use Rattle.limits.specs.Units.{periods, generator};
 ghost use Rattle.matching.specs.Memory.{orderAt};
 ghost use Rattle.book.specs.Book.{Book, unitOf};
 ghost use Rattle.book.specs.Sound.{headIn, offerIn, orderIn};
-ghost use Rattle.book.specs.Layout.{word, decode, enough, amountAt, offerAt, ordersPart};
+ghost use Rattle.book.specs.Layout.{DAYS, UNITS, word, amountAt, offerAt, ordersPart, decode};
 ghost use Rattle.book.specs.inner.Readable.{Readable, unitFieldsIn, unitsFieldsIn, sidesIn};
 
 // An open offer; its amounts stand by period.
@@ -53,33 +79,33 @@ pub(crate) fn head_in(book: &[u64]) -> bool
     requires { ⌜ 8 ≤ length (now book) ⌝ }
     ensures { λ r. ⌜ r ≡ headIn (decode (now (book .entry))) ⌝ }
 {
-    let days = book[0];
+    let days = book[DAYS];
     if days < 1 {
         return false;
     }
     if Term::MOST < days {
         return false;
     }
-    let ceiling = book[2];
-    if ceiling < book[1] {
+    let ceiling = Price(book[CEILING]);
+    if ceiling.below(Price(book[FLOOR])) {
         return false;
     }
-    if Price::MOST < ceiling {
+    if !ceiling.in_range() {
         return false;
     }
-    if 1 < book[3] {
+    if 1 < book[PHASE] {
         return false;
     }
-    if Offer::NUMBERS < book[4] {
+    if Offer::NUMBERS < book[GIVEN] {
         return false;
     }
-    if Unit::MOST < book[5] {
+    if Unit::MOST < book[UNITS] {
         return false;
     }
-    if Offer::MOST < book[6] {
+    if Offer::MOST < book[OFFERS] {
         return false;
     }
-    if Order::MOST < book[7] {
+    if Order::MOST < book[ORDERS] {
         return false;
     }
     true
@@ -90,7 +116,7 @@ fn unit_in(book: &[u64], k: usize) -> bool
     requires { ⌜ (Readable (now book)) × (k < 64) ⌝ }
     ensures { λ r. ⌜ r ≡ unitFieldsIn (now (book .entry)) k ⌝ }
 {
-    let at = 8 + 3 * k;
+    let at = UNIT_TABLE + UNIT_WORDS * k;
     let kind = book[at];
     if kind < 1 {
         return false;
@@ -98,17 +124,14 @@ fn unit_in(book: &[u64], k: usize) -> bool
     if Unit::KINDS < kind {
         return false;
     }
-    let capacity = book[at + 1];
+    let capacity = book[at + CAPACITY];
     if capacity < 1 {
         return false;
     }
     if Unit::MOST_CAPACITY < capacity {
         return false;
     }
-    if Energy::MOST < book[at + 2] {
-        return false;
-    }
-    true
+    Energy(book[at + ASSET]).in_range()
 }
 
 // The kinds, capacities and assets of all units.
@@ -116,7 +139,7 @@ pub(crate) fn units_in(book: &[u64]) -> bool
     requires { ⌜ Readable (now book) ⌝ }
     ensures { λ r. ⌜ r ≡ unitsFieldsIn (now (book .entry)) ⌝ }
 {
-    let n = book[5] as usize;
+    let n = book[UNITS] as usize;
     let mut k: usize = 0;
     while k < n {
         if !unit_in(book, k) {
@@ -128,30 +151,30 @@ pub(crate) fn units_in(book: &[u64]) -> bool
 }
 
 // The sum of an offer's amounts, or one more than Energy::MOST where it is more than that.
-pub(crate) fn offer_total(book: &[u64], j: usize) -> u64
+pub(crate) fn offer_total(book: &[u64], j: usize) -> Energy
     requires { ⌜ (Readable (now book)) × (j < 8) ⌝ }
-    ensures { λ r. ⌜ r ≡ min (total (table (periods (word (now (book .entry)) 0)) (amountAt (now (book .entry)) j))) (mostEnergy + 1) ⌝ }
+    ensures { λ r. ⌜ r .0 ≡ min (total (table (periods (word (now (book .entry)) DAYS)) (amountAt (now (book .entry)) j))) (mostEnergy + 1) ⌝ }
 {
-    let top = 24 * (book[0] as usize);
-    let mut whole: u64 = 0;
+    let top = HOURS * (book[DAYS] as usize);
+    let mut room = Energy(Energy::MOST);
     let mut p: usize = 0;
     while p < top {
-        let a = book[2096 + 328 * p + j];
-        if a > Energy::MOST - whole {
-            return Energy::MOST + 1;
+        let a = Energy(book[AMOUNTS + AMOUNT_WORDS * j + p]);
+        if !a.at_most(room) {
+            return Energy(Energy::MOST + 1);
         }
-        whole += a;
+        room = room.minus(a);
         p += 1;
     }
-    whole
+    Energy(Energy::MOST).minus(room)
 }
 
 // Whether a unit that is enrolled is a generator.
 pub(crate) fn is_generator(book: &[u64], unit: u64) -> bool
-    requires { ⌜ (Readable (now book)) × (1 ≤ unit) × (unit ≤ word (now book) 5) ⌝ }
+    requires { ⌜ (Readable (now book)) × (1 ≤ unit) × (unit ≤ word (now book) UNITS) ⌝ }
     ensures { λ r. ⌜ r ≡ generator (unitOf (decode (now (book .entry))) unit .kind) ⌝ }
 {
-    let kind = book[8 + 3 * (unit as usize - 1)];
+    let kind = book[UNIT_TABLE + UNIT_WORDS * (unit as usize - 1)];
     if kind < 1 {
         return false;
     }
@@ -163,13 +186,13 @@ pub(crate) fn is_generator(book: &[u64], unit: u64) -> bool
 
 // Whether a partner is none, or an enrolled load for a generator.
 pub(crate) fn sides_fit(book: &[u64], unit: u64, partner: u64) -> bool
-    requires { ⌜ (Readable (now book)) × (1 ≤ unit) × (unit ≤ word (now book) 5) ⌝ }
+    requires { ⌜ (Readable (now book)) × (1 ≤ unit) × (unit ≤ word (now book) UNITS) ⌝ }
     ensures { λ r. ⌜ r ≡ sidesIn (decode (now (book .entry))) unit partner ⌝ }
 {
     if partner == 0 {
         return true;
     }
-    if book[5] < partner {
+    if book[UNITS] < partner {
         return false;
     }
     if !is_generator(book, unit) {
@@ -184,41 +207,41 @@ pub(crate) fn sides_fit(book: &[u64], unit: u64, partner: u64) -> bool
 // The offer at place j.
 fn offer_in(book: &[u64], j: usize) -> bool
     requires { ⌜ (Readable (now book)) × (j < 8) ⌝ }
-    ensures { λ r. ⌜ r ≡ offerIn (decode (now (book .entry))) (offerAt (now (book .entry)) (word (now (book .entry)) 0) j) ⌝ }
+    ensures { λ r. ⌜ r ≡ offerIn (decode (now (book .entry))) (offerAt (now (book .entry)) (word (now (book .entry)) DAYS) j) ⌝ }
 {
-    let at = 200 + 5 * j;
+    let at = OFFER_TABLE + OFFER_WORDS * j;
     let number = book[at];
     if number < 1 {
         return false;
     }
-    if book[4] < number {
+    if book[GIVEN] < number {
         return false;
     }
-    let unit = book[at + 1];
+    let unit = book[at + UNIT];
     if unit < 1 {
         return false;
     }
-    if book[5] < unit {
+    if book[UNITS] < unit {
         return false;
     }
-    let price = book[at + 3];
-    if price < book[1] {
+    let price = Price(book[at + PRICE]);
+    if price.below(Price(book[FLOOR])) {
         return false;
     }
-    if book[2] < price {
+    if Price(book[CEILING]).below(price) {
         return false;
     }
-    if 1 < book[at + 4] {
+    if 1 < book[at + TAKEN] {
         return false;
     }
     let whole = offer_total(book, j);
-    if whole < 1 {
+    if whole.is_zero() {
         return false;
     }
-    if Energy::MOST < whole {
+    if !whole.in_range() {
         return false;
     }
-    sides_fit(book, unit, book[at + 2])
+    sides_fit(book, unit, book[at + PARTNER])
 }
 
 // All open offers.
@@ -226,7 +249,7 @@ pub(crate) fn offers_in(book: &[u64]) -> bool
     requires { ⌜ Readable (now book) ⌝ }
     ensures { λ r. ⌜ r ≡ every (offerIn (decode (now (book .entry)))) (decode (now (book .entry)) .offers) ⌝ }
 {
-    let n = book[6] as usize;
+    let n = book[OFFERS] as usize;
     let mut j: usize = 0;
     while j < n {
         if !offer_in(book, j) {
@@ -242,42 +265,39 @@ fn order_in(book: &[u64], k: usize) -> bool
     requires { ⌜ (Readable (now book)) × (k < 256) ⌝ }
     ensures { λ r. ⌜ r ≡ orderIn (decode (now (book .entry))) (orderAt (ordersPart (now (book .entry))) k) ⌝ }
 {
-    let at = 240 + 6 * k;
+    let at = ORDER_TABLE + ORDER_WORDS * k;
     let number = book[at];
     if number < 1 {
         return false;
     }
-    if book[4] < number {
+    if book[GIVEN] < number {
         return false;
     }
-    let unit = book[at + 1];
+    let unit = book[at + UNIT];
     if unit < 1 {
         return false;
     }
-    if book[5] < unit {
+    if book[UNITS] < unit {
         return false;
     }
-    if 1 < book[at + 2] {
+    if 1 < book[at + DIRECTION] {
         return false;
     }
-    if 24 * book[0] <= book[at + 3] {
+    if 24 * book[DAYS] <= book[at + PERIOD] {
         return false;
     }
-    let price = book[at + 4];
-    if price < book[1] {
+    let price = Price(book[at + PRICE]);
+    if price.below(Price(book[FLOOR])) {
         return false;
     }
-    if book[2] < price {
+    if Price(book[CEILING]).below(price) {
         return false;
     }
-    let quantity = book[at + 5];
-    if quantity < 1 {
+    let quantity = Energy(book[at + QUANTITY]);
+    if quantity.is_zero() {
         return false;
     }
-    if Energy::MOST < quantity {
-        return false;
-    }
-    true
+    quantity.in_range()
 }
 
 // All open orders.
@@ -285,7 +305,7 @@ pub(crate) fn orders_in(book: &[u64]) -> bool
     requires { ⌜ Readable (now book) ⌝ }
     ensures { λ r. ⌜ r ≡ every (orderIn (decode (now (book .entry)))) (decode (now (book .entry)) .orders) ⌝ }
 {
-    let n = book[7] as usize;
+    let n = book[ORDERS] as usize;
     let mut k: usize = 0;
     while k < n {
         if !order_in(book, k) {

@@ -1,6 +1,17 @@
 // Take: its checks behind that of soundness, and its effect (paper 01, "The eight calls").
 use crate::fits::misfit;
 use crate::numbers::find_offer;
+use crate::places::AMOUNT_WORDS;
+use crate::places::AMOUNTS;
+use crate::places::DAYS;
+use crate::places::HOURS;
+use crate::places::OFFER_TABLE;
+use crate::places::OFFER_WORDS;
+use crate::places::PARTNER;
+use crate::places::PRICE;
+use crate::places::TAKEN;
+use crate::places::UNIT;
+use crate::places::UNITS;
 use crate::ranges::Offer;
 use crate::ranges::is_generator;
 use crate::ranges::offer_total;
@@ -23,7 +34,7 @@ ghost use Rattle.limits.specs.Units.{periods};
 ghost use Rattle.book.specs.Book.{offerOpen};
 ghost use Rattle.book.specs.Take.{takeChecks, takeRowsFrom, takeRows};
 ghost use Rattle.book.specs.Refusals.{firstOf};
-ghost use Rattle.book.specs.Layout.{word, amountAt, offerAt, decode};
+ghost use Rattle.book.specs.Layout.{DAYS, UNITS, OFFERS, offerPlace, UNIT, word, amountAt, offerAt, decode};
 ghost use Rattle.book.specs.inner.Readable.{Readable};
 ghost use Rattle.book.specs.Contract.{soundIn};
 ghost use Rattle.book.specs.inner.RowsIn.{
@@ -41,27 +52,32 @@ ghost use Rattle.book.specs.inner.RowsIn.{
   TakeMade,
 };
 
+// What the rows of a take have in common.
+struct Deal {
+    way: u64,
+    seller: u64,
+    buyer: u64,
+    price: Price,
+}
+
 // Whether a unit can take a quantity of the offer at place j.
-fn can_take(book: &[u64], j: usize, unit: u64, quantity: u64) -> bool
-    requires { ⌜ (Readable (now book)) × (j < 8) × (1 ≤ word (now book) (201 + 5 * j)) × (word (now book) (201 + 5 * j) ≤ word (now book) 5) × (1 ≤ unit)
-        × (unit ≤ word (now book) 5) × (quantity ≤ mostEnergy) ⌝ }
-    ensures { λ r. ⌜ r ≡ takes (now (book .entry)) j unit quantity ⌝ }
+fn can_take(book: &[u64], j: usize, unit: u64, quantity: Energy) -> bool
+    requires { ⌜ (Readable (now book)) × (j < 8) × (1 ≤ word (now book) (offerPlace j + UNIT)) × (word (now book) (offerPlace j + UNIT) ≤ word (now book) UNITS)
+        × (1 ≤ unit) × (unit ≤ word (now book) UNITS) × (quantity .0 ≤ mostEnergy) ⌝ }
+    ensures { λ r. ⌜ r ≡ takes (now (book .entry)) j unit (quantity .0) ⌝ }
 {
     let whole = offer_total(book, j);
-    let partner = book[202 + 5 * j];
+    if !quantity.at_most(whole) {
+        return false;
+    }
+    let partner = book[OFFER_TABLE + OFFER_WORDS * j + PARTNER];
     if partner != 0 {
         if partner != unit {
             return false;
         }
-        if quantity != whole {
-            return false;
-        }
-        return true;
+        return whole.at_most(quantity);
     }
-    if whole < quantity {
-        return false;
-    }
-    let own = is_generator(book, book[201 + 5 * j]);
+    let own = is_generator(book, book[OFFER_TABLE + OFFER_WORDS * j + UNIT]);
     let other = is_generator(book, unit);
     if own {
         return !other;
@@ -70,23 +86,23 @@ fn can_take(book: &[u64], j: usize, unit: u64, quantity: u64) -> bool
 }
 
 // The checks of a take before its fit.
-fn take_party(book: &[u64], unit: u64, number: u64, quantity: u64, lent: usize) -> u64
+fn take_party(book: &[u64], unit: u64, number: u64, quantity: Energy, lent: usize) -> u64
     requires { ⌜ soundIn (now book) ≡ true ⌝ }
-    ensures { λ r. ⌜ r ≡ firstOf (partyChecks (decode (now (book .entry))) unit number quantity lent) ⌝ }
+    ensures { λ r. ⌜ r ≡ firstOf (partyChecks (decode (now (book .entry))) unit number (quantity .0) lent) ⌝ }
 {
     if unit < 1 {
         return 6;
     }
-    if book[5] < unit {
+    if book[UNITS] < unit {
         return 6;
     }
     if lent < 4464 {
         return 7;
     }
-    if quantity < 1 {
+    if quantity.is_zero() {
         return 9;
     }
-    if Energy::MOST < quantity {
+    if !quantity.in_range() {
         return 9;
     }
     let j = find_offer(book, number);
@@ -102,29 +118,29 @@ fn take_party(book: &[u64], unit: u64, number: u64, quantity: u64, lent: usize) 
 // The amounts of the offer at place j, by period.
 fn gather(book: &[u64], j: usize, amounts: &mut [u64])
     requires { ⌜ (Readable (now book)) × (j < 8) × (length (now amounts) ≡ 744) ⌝ }
-    ensures { λ _. ⌜ now (amounts .exit) ≡ table (periods (word (now (book .entry)) 0)) (amountAt (now (book .entry)) j)
-        ++ drop (periods (word (now (book .entry)) 0)) (now (amounts .entry)) ⌝ }
+    ensures { λ _. ⌜ now (amounts .exit) ≡ table (periods (word (now (book .entry)) DAYS)) (amountAt (now (book .entry)) j)
+        ++ drop (periods (word (now (book .entry)) DAYS)) (now (amounts .entry)) ⌝ }
 {
-    let top = 24 * (book[0] as usize);
+    let top = HOURS * (book[DAYS] as usize);
     let mut p: usize = 0;
     while p < top {
-        amounts[p] = book[2096 + 328 * p + j];
+        amounts[p] = book[AMOUNTS + AMOUNT_WORDS * j + p];
         p += 1;
     }
 }
 
 // The fit of a take from the offer at place j; its parts go to the lent memory.
-fn take_fit(book: &[u64], unit: u64, j: usize, quantity: u64, parts: &mut [u64]) -> u64
-    requires { ⌜ (soundIn (now book) ≡ true) × (j < word (now book) 6) × (1 ≤ unit) × (unit ≤ word (now book) 5) × (1 ≤ quantity)
-        × (quantity ≤ total (table (periods (word (now book) 0)) (amountAt (now book) j))) × (length (now parts) ≡ 744) ⌝ }
-    ensures { λ r. ⌜ TakeFit (now (book .entry)) unit j quantity r (now (parts .entry)) (now (parts .exit)) ⌝ }
+fn take_fit(book: &[u64], unit: u64, j: usize, quantity: Energy, parts: &mut [u64]) -> u64
+    requires { ⌜ (soundIn (now book) ≡ true) × (j < word (now book) OFFERS) × (1 ≤ unit) × (unit ≤ word (now book) UNITS) × (1 ≤ quantity .0)
+        × (quantity .0 ≤ total (table (periods (word (now book) DAYS)) (amountAt (now book) j))) × (length (now parts) ≡ 744) ⌝ }
+    ensures { λ r. ⌜ TakeFit (now (book .entry)) unit j (quantity .0) r (now (parts .entry)) (now (parts .exit)) ⌝ }
 {
-    let top = 24 * (book[0] as usize);
+    let top = HOURS * (book[DAYS] as usize);
     let mut amounts = [0u64; 744];
     gather(book, j, &mut amounts);
-    measures::share(Energy(quantity), &amounts[0..top], parts);
+    measures::share(quantity, &amounts[0..top], parts);
     let mut raising = [0u64; 744];
-    measures::share(Energy(quantity), &amounts[0..top], &mut raising);
+    measures::share(quantity, &amounts[0..top], &mut raising);
     let mut lowering = [0u64; 744];
     misfit(book, unit, &mut raising, &mut lowering)
 }
@@ -134,12 +150,12 @@ pub(crate) fn take_checks(
     book: &[u64],
     unit: u64,
     number: u64,
-    quantity: u64,
+    quantity: Energy,
     lent: usize,
     parts: &mut [u64],
 ) -> u64
     requires { ⌜ (soundIn (now book) ≡ true) × (length (now parts) ≡ 744) ⌝ }
-    ensures { λ r. ⌜ TakeChecked (now (book .entry)) unit number quantity lent r (now (parts .entry)) (now (parts .exit)) ⌝ }
+    ensures { λ r. ⌜ TakeChecked (now (book .entry)) unit number (quantity .0) lent r (now (parts .entry)) (now (parts .exit)) ⌝ }
 {
     let refusal = take_party(book, unit, number, quantity, lent);
     if 0 < refusal {
@@ -150,32 +166,26 @@ pub(crate) fn take_checks(
 }
 
 // A row for each of the first parts that is not 0, periods rising.
-fn write_rows(
-    parts: &[u64],
-    top: usize,
-    rows: &mut [u64],
-    way: u64,
-    seller: u64,
-    buyer: u64,
-    price: u64,
-) -> usize
+fn write_rows(parts: &[u64], top: usize, rows: &mut [u64], deal: Deal) -> usize
     requires { ⌜ (top ≤ 744) × (top ≤ length (now parts)) × (4464 ≤ length (now rows)) ⌝ }
-    ensures { λ r. ⌜ RowsPut (now (rows .entry)) (now (rows .exit)) r (takeRowsFrom 0 way seller buyer price (take top (now (parts .entry)))) ⌝ }
+    ensures { λ r. ⌜ RowsPut (now (rows .entry)) (now (rows .exit)) r
+        (takeRowsFrom 0 (deal .way) (deal .seller) (deal .buyer) (deal .price .0) (take top (now (parts .entry)))) ⌝ }
 {
     let mut k: usize = 0;
     let mut p: usize = 0;
     while p < top {
-        let q = parts[p];
-        if q == 0 {
+        let quantity = Energy(parts[p]);
+        if quantity.is_zero() {
             p += 1;
         } else {
+            let price = deal.price;
             let row = Row {
-                way: way,
+                way: deal.way,
                 period: p as u64,
-                seller: seller,
-                buyer: buyer,
-                quantity: Energy(q),
-                price: Price(price),
+                seller: deal.seller,
+                buyer: deal.buyer,
+                quantity,
+                price,
             };
             put_row(rows, k, row);
             k += 1;
@@ -187,27 +197,27 @@ fn write_rows(
 
 // The parts are taken off the amounts of the offer at place j.
 fn take_off(book: &mut [u64], j: usize, parts: &[u64])
-    requires { ⌜ (Readable (now book)) × (j < 8) × (744 ≤ length (now parts)) × (PartsThere (now book) j (now parts)) ⌝ }
-    ensures { λ _. ⌜ AmountsLess (now (book .entry)) (now (book .exit)) j (now (parts .entry)) (24 * word (now (book .entry)) 0) ⌝ }
+    requires { ⌜ (Readable (now book)) × (j < 8) × (744 ≤ length (now parts)) ⌝ }
+    ensures { λ _. ⌜ AmountsLess (now (book .entry)) (now (book .exit)) j (now (parts .entry)) (24 * word (now (book .entry)) DAYS) ⌝ }
 {
-    let top = 24 * (book[0] as usize);
+    let top = HOURS * (book[DAYS] as usize);
     let mut p: usize = 0;
     while p < top {
-        let at = 2096 + 328 * p + j;
-        let left = book[at] - parts[p];
-        book[at] = left;
+        let at = AMOUNTS + AMOUNT_WORDS * j + p;
+        let left = Energy(book[at]).minus(Energy(parts[p]));
+        book[at] = left.0;
         p += 1;
     }
 }
 
 // The parts are taken off the offer at place j, which stays.
 fn lessen_offer(book: &mut [u64], j: usize, parts: &[u64])
-    requires { ⌜ (Readable (now book)) × (j < word (now book) 6) × (744 ≤ length (now parts)) × (PartsThere (now book) j (now parts)) ⌝ }
-    ensures { λ _. ⌜ ((ps : List ℕ) → ((p : ℕ) → p < 24 * word (now (book .entry)) 0 → getD (now (parts .entry)) p 0 ≡ getD ps p 0)
+    requires { ⌜ (Readable (now book)) × (j < word (now book) OFFERS) × (744 ≤ length (now parts)) ⌝ }
+    ensures { λ _. ⌜ ((ps : List ℕ) → ((p : ℕ) → p < 24 * word (now (book .entry)) DAYS → getD (now (parts .entry)) p 0 ≡ getD ps p 0)
         → OfferLessened (now (book .entry)) (now (book .exit)) j ps) ⌝ }
 {
     take_off(book, j, parts);
-    book[204 + 5 * j] = 1;
+    book[OFFER_TABLE + OFFER_WORDS * j + TAKEN] = 1;
 }
 
 // The way of a take: 1 from a bilateral offer, 2 from a listing.
@@ -222,26 +232,38 @@ fn way_of(partner: u64) -> u64
 
 // The rows of a take by a unit from the offer at place j.
 fn take_rows(book: &[u64], unit: u64, j: usize, parts: &[u64], rows: &mut [u64]) -> usize
-    requires { ⌜ (Readable (now book)) × (j < 8) × (1 ≤ word (now book) (201 + 5 * j)) × (word (now book) (201 + 5 * j) ≤ word (now book) 5)
+    requires { ⌜ (Readable (now book)) × (j < 8) × (1 ≤ word (now book) (offerPlace j + UNIT)) × (word (now book) (offerPlace j + UNIT) ≤ word (now book) UNITS)
         × (744 ≤ length (now parts)) × (4464 ≤ length (now rows)) ⌝ }
     ensures { λ r. ⌜ RowsPut (now (rows .entry)) (now (rows .exit)) r
-        (takeRows (decode (now (book .entry))) (offerAt (now (book .entry)) (word (now (book .entry)) 0) j) unit
-        (take (24 * word (now (book .entry)) 0) (now (parts .entry)))) ⌝ }
+        (takeRows (decode (now (book .entry))) (offerAt (now (book .entry)) (word (now (book .entry)) DAYS) j) unit
+        (take (24 * word (now (book .entry)) DAYS) (now (parts .entry)))) ⌝ }
 {
-    let top = 24 * (book[0] as usize);
-    let at = 200 + 5 * j;
-    let owner = book[at + 1];
-    let price = book[at + 3];
-    let way = way_of(book[at + 2]);
+    let top = HOURS * (book[DAYS] as usize);
+    let at = OFFER_TABLE + OFFER_WORDS * j;
+    let owner = book[at + UNIT];
+    let price = Price(book[at + PRICE]);
+    let way = way_of(book[at + PARTNER]);
     if is_generator(book, owner) {
-        return write_rows(parts, top, rows, way, owner, unit, price);
+        let sold = Deal {
+            way,
+            seller: owner,
+            buyer: unit,
+            price,
+        };
+        return write_rows(parts, top, rows, sold);
     }
-    write_rows(parts, top, rows, way, unit, owner, price)
+    let bought = Deal {
+        way,
+        seller: unit,
+        buyer: owner,
+        price,
+    };
+    write_rows(parts, top, rows, bought)
 }
 
 // A take of parts from the offer at place j, of which some is left.
 fn take_part(book: &mut [u64], unit: u64, j: usize, parts: &[u64], rows: &mut [u64]) -> usize
-    requires { ⌜ (soundIn (now book) ≡ true) × (j < word (now book) 6) × (1 ≤ unit) × (unit ≤ word (now book) 5) × (744 ≤ length (now parts))
+    requires { ⌜ (soundIn (now book) ≡ true) × (j < word (now book) OFFERS) × (1 ≤ unit) × (unit ≤ word (now book) UNITS) × (744 ≤ length (now parts))
         × (4464 ≤ length (now rows)) × (PartsThere (now book) j (now parts)) ⌝ }
     ensures { λ r. ⌜ PartTaken (now (book .entry)) (now (book .exit)) unit j (now (parts .entry)) (now (rows .entry)) (now (rows .exit)) r ⌝ }
 {
@@ -260,7 +282,7 @@ fn take_whole(
     parts: &[u64],
     rows: &mut [u64],
 ) -> usize
-    requires { ⌜ (soundIn (now book) ≡ true) × (j < word (now book) 6) × (1 ≤ unit) × (unit ≤ word (now book) 5) × (744 ≤ length (now parts))
+    requires { ⌜ (soundIn (now book) ≡ true) × (j < word (now book) OFFERS) × (1 ≤ unit) × (unit ≤ word (now book) UNITS) × (744 ≤ length (now parts))
         × (4464 ≤ length (now rows)) × (PartsThere (now book) j (now parts)) × (offerOpen (decode (now book)) number ≡ true) ⌝ }
     ensures { λ r. ⌜ WholeTaken (now (book .entry)) (now (book .exit)) unit number j (now (parts .entry)) (now (rows .entry)) (now (rows .exit)) r ⌝ }
 {
@@ -275,17 +297,17 @@ pub(crate) fn take_effect(
     book: &mut [u64],
     unit: u64,
     number: u64,
-    quantity: u64,
+    quantity: Energy,
     parts: &[u64],
     rows: &mut [u64],
 ) -> usize
-    requires { ⌜ (soundIn (now book) ≡ true) × (0 ≡ firstOf (takeChecks (decode (now book)) unit number quantity (length (now rows))))
-        × (PartsLent (now book) number quantity (now parts)) ⌝ }
-    ensures { λ r. ⌜ TakeMade (now (book .entry)) (now (book .exit)) unit number quantity (now (rows .entry)) (now (rows .exit)) r ⌝ }
+    requires { ⌜ (soundIn (now book) ≡ true) × (0 ≡ firstOf (takeChecks (decode (now book)) unit number (quantity .0) (length (now rows))))
+        × (PartsLent (now book) number (quantity .0) (now parts)) ⌝ }
+    ensures { λ r. ⌜ TakeMade (now (book .entry)) (now (book .exit)) unit number (quantity .0) (now (rows .entry)) (now (rows .exit)) r ⌝ }
 {
     let j = find_offer(book, number);
     let whole = offer_total(book, j);
-    if quantity == whole {
+    if whole.at_most(quantity) {
         return take_whole(book, unit, number, j, parts, rows);
     }
     take_part(book, unit, j, parts, rows)

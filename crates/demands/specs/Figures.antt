@@ -8,7 +8,7 @@ use Rattle.measures.specs.Figures.{AllShared, figure1}
 use Rattle.limits.specs.Figures.{AllLimited, figure5, figure6}
 use Rattle.matching.specs.Orders.{Row}
 use Rattle.matching.specs.Figures.{Figure2, Figure3, Figure4}
-use Rattle.book.specs.Opening.{fresh, openingRefusal, bookWords}
+use Rattle.book.specs.Opening.{fresh, openingRefusal}
 use Rattle.book.specs.Curve.{Drawn, curve}
 use Rattle.book.specs.Calls.{Call, callEnrol, callOffer, callTake, callWithdraw, callOrder, callCancel, callClear, callClose, Heard, answers, bookAfter}
 

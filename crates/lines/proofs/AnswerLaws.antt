@@ -16,8 +16,8 @@ use Rattle.matching.proofs.laws.orders.RowLaws.{flat-length, written-none}
 use Rattle.book.specs.Book.{Rules, rulesOf, Book}
 use Rattle.book.specs.Refusals.{Outcome}
 use Rattle.book.specs.declared.Answer.{Answer}
-use Rattle.book.specs.Layout.{word, decode}
-use Rattle.book.specs.Opening.{bookWords, fresh, openingRefusal}
+use Rattle.book.specs.Layout.{DAYS, LAYOUT, layoutNumber, bookWords, word, decode}
+use Rattle.book.specs.Opening.{fresh, openingRefusal}
 use Rattle.book.specs.Calls.{Call, callEnrol, callOffer, callTake, callWithdraw, callOrder, callCancel, callClear, callClose, outcome}
 use Rattle.book.specs.Contract.{Told, Made, Opened, toldBy, outcomeOn}
 use Rattle.book.proofs.laws.opening.OpeningLaws.{no-such-days}
@@ -25,7 +25,7 @@ use Rattle.lines.specs.Lines.{Line, unknown, opening, calling, countOf, 
 use Rattle.lines.specs.Printed.{printedRows, printedOk, printedNo}
 use Rattle.lines.specs.inner.Puts.{rowsText, okText}
 use Rattle.lines.specs.Answers.{Stands, noBook, standing, refuses, accepts, isEnrol, given, openingSaid, callSaid, saidTo, after, printed}
-use Rattle.lines.specs.Stepping.{standsIn, Answered}
+use Rattle.lines.specs.Stepping.{oneDay, standsIn, Answered}
 use Rattle.lines.proofs.PuttingLaws.{rows-printed}
 use Rattle.book.proofs.laws.answer.RulesLaws.{rules-stay}
 
@@ -46,7 +46,7 @@ made-beside m rows c a m′ f =
       refused = λ h. (f .refused h .0, refl);
       accepted = f .accepted;
       handed = λ h. no-rows rows (outcomeOn m c .rows) (f .handed h);
-      past = f .past;
+      aside = f .aside;
       long = f .long;
     }
 
@@ -225,13 +225,16 @@ enrol-letter l ns =
     (other-call (eqb l 67) _ _ refl refl))))))
 
 -- which book stands
-pub has-none : (started : Bool) (m : List ℕ) → started ≡ false → false ≡ (started && eqb (word m 0) 1)
+pub has-none : (started : Bool) (m : List ℕ) → started ≡ false → false ≡ (started && oneDay m)
 has-none started m e = rw e
 
-pub has-one : (started : Bool) (m : List ℕ) → started ≡ true → eqb (word m 0) 1 ≡ (started && eqb (word m 0) 1)
-has-one started m e = rw e
+pub has-other : (started : Bool) (m : List ℕ) → started ≡ true → (word m DAYS ≡ 1 → ⊥) → false ≡ (started && oneDay m)
+has-other started m e n = rw (e, ne-eqb (word m DAYS) 1 n)
 
-pub no-book : (started : Bool) (m : List ℕ) → (started && eqb (word m 0) 1) ≡ false → standsIn started m ≡ noBook
+pub has-one : (started : Bool) (m : List ℕ) → started ≡ true → word m DAYS ≡ 1 → eqb (word m LAYOUT) layoutNumber ≡ (started && oneDay m)
+has-one started m e d = rw (e, eq-eqb (word m DAYS) 1 d)
+
+pub no-book : (started : Bool) (m : List ℕ) → (started && oneDay m) ≡ false → standsIn started m ≡ noBook
 unfolding standsIn
 no-book started m e = rw e
 
@@ -239,23 +242,31 @@ both-true : (a b : Bool) → (a && b) ≡ true → (a ≡ true) × (b ≡ true)
 both-true true b e = (refl, e)
 both-true false b e = let z : _≡_ {A = ℕ} 0 1 = cc in absurd (omega arith)
 
-pub has-started : (started : Bool) (m : List ℕ) → (started && eqb (word m 0) 1) ≡ true → started ≡ true
-has-started started m e = both-true started (eqb (word m 0) 1) e .0
+pub has-started : (started : Bool) (m : List ℕ) → (started && oneDay m) ≡ true → started ≡ true
+has-started started m e = both-true started (oneDay m) e .0
 
-pub has-day : (started : Bool) (m : List ℕ) → (started && eqb (word m 0) 1) ≡ true → word m 0 ≡ 1
-has-day started m e = eqb-true (word m 0) 1 (both-true started (eqb (word m 0) 1) e .1)
+pub has-day : (started : Bool) (m : List ℕ) → (started && oneDay m) ≡ true → oneDay m ≡ true
+has-day started m e = both-true started (oneDay m) e .1
 
-pub a-book : (m : List ℕ) → word m 0 ≡ 1 → standsIn true m ≡ standing (decode m)
+one-days : (m : List ℕ) → oneDay m ≡ true → word m DAYS ≡ 1
+one-days m e = eqb-true (word m DAYS) 1 (both-true (eqb (word m DAYS) 1) (eqb (word m LAYOUT) layoutNumber) e .0)
+
+one-layout : (m : List ℕ) → oneDay m ≡ true → word m LAYOUT ≡ layoutNumber
+one-layout m e = eqb-true (word m LAYOUT) layoutNumber (both-true (eqb (word m DAYS) 1) (eqb (word m LAYOUT) layoutNumber) e .1)
+
+pub a-book : (m : List ℕ) → oneDay m ≡ true → standsIn true m ≡ standing (decode m)
 unfolding standsIn
-a-book m e = rw (eq-eqb (word m 0) 1 e)
+a-book m e = rw e
 
-days-held : (m : List ℕ) → word m 0 ≡ decode m .rules .days
+days-held : (m : List ℕ) → word m DAYS ≡ decode m .rules .days
 unfolding decode
 days-held m = refl
 
 -- the book after an accepted line has one day
-book-held : (m : List ℕ) (b : Book) → decode m ≡ b → b .rules .days ≡ 1 → standsIn true m ≡ standing b
-book-held m b e d = a-book m (days-held m ∙ ap (λ (x : Book). x .rules .days) e ∙ d) ∙ ap standing e
+book-held : (m : List ℕ) (b : Book) → decode m ≡ b → b .rules .days ≡ 1 → word m LAYOUT ≡ layoutNumber → standsIn true m ≡ standing b
+book-held m b e d y =
+    a-book m (rw (eq-eqb (word m DAYS) 1 (days-held m ∙ ap (λ (x : Book). x .rules .days) e ∙ d), eq-eqb (word m LAYOUT) layoutNumber y) refl)
+    ∙ ap standing e
 
 -- what a line is told
 module _ (s : Stands) where
@@ -282,7 +293,7 @@ pub early-down : (s : Stands) (line : Line) (c : Call) → s ≡ noBook → line
 unfolding saidTo callSaid
 early-down s line c n e = rw (n, e)
 
-module _ (m : List ℕ) (day : word m 0 ≡ 1) (l : ℕ) (ns : List ℕ) where
+module _ (m : List ℕ) (day : oneDay m ≡ true) (l : ℕ) (ns : List ℕ) where
   pub beyond-down : (eqb l 69 && leb 8 (length (decode m .units))) ≡ true → saidTo (standsIn true m) (calling (callOf l ns)) ≡ refuses 0
   unfolding saidTo callSaid
   beyond-down h = rw (a-book m day) (rw (enrol-letter l ns, h))
@@ -331,10 +342,11 @@ ok-rows : (n k : ℕ) (rows ws : List ℕ) (rs : List Row) → k ≡ length rs �
 unfolding okText printedOk written
 ok-rows n k rows ws rs e w = rw (e, w, rows-printed rs (drop (6 * length rs) rows))
 
--- memory of one day is long enough
-on-book : (m : List ℕ) (c : Call) → word m 0 ≡ 1 → length m ≡ 9_648 → outcomeOn m c ≡ outcome (decode m) c
+-- memory of one day is laid out for its book
+on-book : (m : List ℕ) (c : Call) → oneDay m ≡ true → length m ≡ bookWords 1 → outcomeOn m c ≡ outcome (decode m) c
 unfolding outcomeOn
-on-book m c d l = rw (le-leb (bookWords (word m 0)) (length m) (omega arith))
+on-book m c d l =
+    rw (le-leb (bookWords (word m DAYS)) (length m) (omega (arith, one-days m d, l)), eq-eqb (word m LAYOUT) layoutNumber (one-layout m d)) refl
 
 module _ (m rows : List ℕ) (c : Call) (a : Answer) (m′ rows′ : List ℕ) (f : Made m rows c a m′ rows′) where
   told-refusal : toldBy a .refusal ≡ outcomeOn m c .refusal
@@ -352,13 +364,13 @@ module _ (m rows : List ℕ) (c : Call) (a : Answer) (m′ rows′ : List ℕ) (
       let w = rows-fit rows (outcomeOn m c .rows) rows′ (f .handed (sym told-refusal ∙ sym e ∙ z)) same in
       omega arith
 
-  module _ (day : word m 0 ≡ 1) (long : length m ≡ 9_648) (s : saidTo (standsIn true m) (calling c) ≡ given (outcome (decode m) c)) where
+  module _ (day : oneDay m ≡ true) (long : length m ≡ bookWords 1) (s : saidTo (standsIn true m) (calling c) ≡ given (outcome (decode m) c)) where
     said-on : saidTo (standsIn true m) (calling c) ≡ given (outcomeOn m c)
     said-on = s ∙ ap given (sym (on-book m c day long))
 
     after-day : outcomeOn m c .book .rules .days ≡ 1
     after-day = ap (λ (o : Outcome). o .book .rules .days) (on-book m c day long) ∙ ap (λ (r : Rules). r .days) (rules-stay (decode m) c)
-        ∙ sym (days-held m) ∙ day
+        ∙ sym (days-held m) ∙ one-days m day
 
     pub call-no : (r : ℕ) (text : List ℕ) → r ≡ toldBy a .refusal → (r ≡ 0 → ⊥) → text ≡ printedNo r → Answered true m (calling c) true m′ text
     call-no r text e ne t =
@@ -372,7 +384,7 @@ module _ (m rows : List ℕ) (c : Call) (a : Answer) (m′ rows′ : List ℕ) (
         let y : outcomeOn m c .refusal ≡ 0 = sym told-refusal ∙ sym e ∙ z in
         let rs = outcomeOn m c .rows in
         answered-ok true m (calling c) true m′ text (outcomeOn m c .number) rs (outcomeOn m c .book) (said-on ∙ given-ok (outcomeOn m c) y)
-        (book-held m′ (outcomeOn m c .book) (f .accepted y) after-day)
+        (book-held m′ (outcomeOn m c .book) (f .accepted y) after-day (f .aside .layout ∙ one-layout m day))
         (t ∙ ok-rows n k rows rows′ rs (ek ∙ told-count) (f .handed y) ∙ ap (λ (x : ℕ). printedOk x rs) (en ∙ told-number))
 
 -- an accepted opening is of one day
@@ -384,7 +396,7 @@ one-day days floor ceiling up e = go (ℕ-discrete days 1)
     go (no d) = let z = no-such-days (bookWords 1) days floor ceiling (λ i. omega arith) in absurd (omega arith)
 
 module _ (started : Bool) (m : List ℕ) (days floor ceiling : ℕ) (a : Answer) (m′ : List ℕ) (f : Opened m (rulesOf days floor ceiling) a m′)
-    (up : days ≤ 1) (long : length m ≡ 9_648) where
+    (up : days ≤ 1) (long : length m ≡ bookWords 1) where
   abbrev refusal : ℕ
   refusal = openingRefusal (bookWords 1) (rulesOf days floor ceiling)
 
@@ -412,7 +424,7 @@ module _ (started : Bool) (m : List ℕ) (days floor ceiling : ℕ) (a : Answer)
       let y : refusal ≡ 0 = sym opened-refusal ∙ sym e ∙ z in
       answered-ok started m (opening days floor ceiling) true m′ text 0 [] (fresh (rulesOf days floor ceiling))
       (opening-accepts (standsIn started m) days floor ceiling up y)
-      (book-held m′ (fresh (rulesOf days floor ceiling)) (f .accepted (same-refusal ∙ y)) (one-day days floor ceiling up y))
+      (book-held m′ (fresh (rulesOf days floor ceiling)) (f .accepted (same-refusal ∙ y)) (one-day days floor ceiling up y) (f .laid (same-refusal ∙ y)))
       (t ∙ ap (λ (x : ℕ). printedOk x []) (en ∙ opened-number))
 
 -- the amounts behind the first three numbers

@@ -7,8 +7,9 @@ use lib.Dec.{eqb, leb, ltb}
 use Rattle.matching.specs.Orders.{Row}
 use Rattle.book.specs.Book.{rulesOf, Book}
 use Rattle.book.specs.Refusals.{Outcome}
-use Rattle.book.specs.Opening.{bookWords, fresh, openingRefusal}
+use Rattle.book.specs.Opening.{fresh, openingRefusal}
 use Rattle.book.specs.Calls.{Call, callEnrol, callOffer, callTake, callWithdraw, callOrder, callCancel, callClear, callClose, outcome}
+use Rattle.book.specs.Layout.{bookWords}
 use Rattle.lines.specs.Lines.{Line, unknown, opening, calling}
 use Rattle.lines.specs.Printed.{printedOk, printedNo}
 

@@ -5,7 +5,7 @@ use mathlib.Core.Bool.{Bool, true, false, cond, _&&_, _||_}
 use mathlib.Core.List.{List, [], _∷_}
 use lib.ListN.{length}
 use lib.Dec.{eqb}
-use Rattle.book.specs.Layout.{word, decode}
+use Rattle.book.specs.Layout.{DAYS, LAYOUT, layoutNumber, word, decode}
 use Rattle.lines.specs.declared.reading.Reading.the-variants.{Start}
 use Rattle.lines.specs.declared.steps.Desk.{Desk}
 use Rattle.lines.specs.Lines.{Line}
@@ -24,9 +24,13 @@ state d ns m = record { desk = d; numbers = ns; memory = m }
 abbrev pub freshDesk : Desk
 freshDesk = record { reading = Start; started = false }
 
+-- whether memory is laid out for a book of one day
+abbrev pub oneDay : List ℕ → Bool
+oneDay m = eqb (word m DAYS) 1 && eqb (word m LAYOUT) layoutNumber
+
 -- the book that stands in memory: one of one day, once an O was accepted
 unfoldable pub standsIn : Bool → List ℕ → Stands
-standsIn started m = cond (started && eqb (word m 0) 1) (standing (decode m)) noBook
+standsIn started m = cond (started && oneDay m) (standing (decode m)) noBook
 
 -- a line is answered: `started` and m stand before it, started′ and m′ after it, and `text` is printed
 pub record Answered (started : Bool) (m : List ℕ) (line : Line) (started′ : Bool) (m′ text : List ℕ) : Type 0 where

@@ -13,18 +13,22 @@ use book::calls::order;
 use book::calls::take;
 use book::calls::withdraw;
 use book::opening::open;
+use book::places::DAYS;
+use book::places::LAYOUT;
+use book::places::LAYOUT_NUMBER;
+use book::places::UNITS;
 ghost use mathlib.Core.Path.{_≡_};
 ghost use mathlib.Core.Bool.{true, _&&_};
-ghost use Prim.Native.Nat.{_≤_};
+ghost use Prim.Native.Nat.{_<_, _≤_};
 ghost use mathlib.Core.List.{[]};
 ghost use lib.ListN.{length, getD, take};
 ghost use lib.Dec.{eqb, leb};
-ghost use Rattle.book.specs.Layout.{word, decode};
+ghost use Rattle.book.specs.Layout.{UNITS, LAYOUT, bookWords, decode};
 ghost use Rattle.book.specs.Contract.{Made, toldBy};
 ghost use Rattle.lines.specs.Lines.{countOf, isCall, callOf, called, opening, calling};
 ghost use Rattle.lines.specs.Printed.{printedNo};
 ghost use Rattle.lines.specs.Readings.{restOf};
-ghost use Rattle.lines.specs.Stepping.{Answered};
+ghost use Rattle.lines.specs.Stepping.{oneDay, Answered};
 
 // A line's letter and its count of numbers; no letter where the line is not understood.
 struct Heard {
@@ -132,24 +136,27 @@ fn is_call(letter: u8) -> bool
 
 // Whether a book stands: an O was accepted, and the memory holds a book of one day.
 fn has_book(started: bool, book: &[u64]) -> bool
-    requires { ⌜ 1 ≤ length (now book) ⌝ }
-    ensures { λ r. ⌜ r ≡ (started && eqb (word (now (book .entry)) 0) 1) ⌝ }
+    requires { ⌜ LAYOUT < length (now book) ⌝ }
+    ensures { λ r. ⌜ r ≡ (started && oneDay (now (book .entry))) ⌝ }
 {
     if !started {
         return false;
     }
-    book[0] == 1
+    if book[DAYS] != 1 {
+        return false;
+    }
+    book[LAYOUT] == LAYOUT_NUMBER
 }
 
-// Whether an enrol comes when 8 units stand. The book's sixth word counts its units.
+// Whether an enrol comes when 8 units stand.
 fn is_beyond(letter: u8, book: &[u64]) -> bool
-    requires { ⌜ 6 ≤ length (now book) ⌝ }
+    requires { ⌜ UNITS < length (now book) ⌝ }
     ensures { λ r. ⌜ r ≡ (eqb letter 69 && leb 8 (length (decode (now (book .entry)) .units))) ⌝ }
 {
     if letter != b'E' {
         return false;
     }
-    8 <= book[5]
+    8 <= book[UNITS]
 }
 
 fn make_call(letter: u8, numbers: &[u64], book: &mut [u64], rows: &mut [u64]) -> Answer
@@ -186,7 +193,7 @@ fn turn_down(started: bool, out: &mut [u8]) -> Printed
 }
 
 fn answer_opening(started: bool, numbers: &[u64], book: &mut [u64], out: &mut [u8]) -> Printed
-    requires { ⌜ (length (now numbers) ≡ 27) × (length (now book) ≡ 9648) × (length (now out) ≡ 95256) ⌝ }
+    requires { ⌜ (length (now numbers) ≡ 27) × (length (now book) ≡ bookWords 1) × (length (now out) ≡ 95256) ⌝ }
     ensures { λ r. ⌜ Answered started (now (book .entry))
         (opening (getD (now (numbers .entry)) 0 0) (getD (now (numbers .entry)) 1 0) (getD (now (numbers .entry)) 2 0))
         (r .started) (now (book .exit)) (take (r .length) (now (out .exit))) ⌝ }
@@ -215,8 +222,8 @@ fn answer_call(
     rows: &mut [u64],
     out: &mut [u8],
 ) -> Printed
-    requires { ⌜ (length (now numbers) ≡ 27) × (length (now book) ≡ 9648) × (length (now rows) ≡ 4464) × (length (now out) ≡ 95256) ⌝ }
-    requires { ⌜ word (now book) 0 ≡ 1 ⌝ }
+    requires { ⌜ (length (now numbers) ≡ 27) × (length (now book) ≡ bookWords 1) × (length (now rows) ≡ 4464) × (length (now out) ≡ 95256) ⌝ }
+    requires { ⌜ oneDay (now book) ≡ true ⌝ }
     ensures { λ r. ⌜ Answered true (now (book .entry)) (calling (callOf letter (now (numbers .entry))))
         (r .started) (now (book .exit)) (take (r .length) (now (out .exit))) ⌝ }
     ensures { λ r. ⌜ r .length ≤ 95256 ⌝ }
@@ -248,7 +255,7 @@ pub(crate) fn answer(
     rows: &mut [u64],
     out: &mut [u8],
 ) -> Printed
-    requires { ⌜ (length (now numbers) ≡ 27) × (length (now book) ≡ 9648) × (length (now rows) ≡ 4464) × (length (now out) ≡ 95256) ⌝ }
+    requires { ⌜ (length (now numbers) ≡ 27) × (length (now book) ≡ bookWords 1) × (length (now rows) ≡ 4464) × (length (now out) ≡ 95256) ⌝ }
     ensures { λ r. ⌜ Answered started (now (book .entry)) (restOf reading (now (numbers .entry)) [])
         (r .started) (now (book .exit)) (take (r .length) (now (out .exit))) ⌝ }
     ensures { λ r. ⌜ r .length ≤ 95256 ⌝ }

@@ -4,6 +4,7 @@ use crate::reading::Reading;
 use crate::reading::has_begun;
 use crate::reading::line_end;
 use crate::reading::read_bytes;
+use book::places::ONE_DAY;
 ghost use mathlib.Core.Path.{_≡_};
 ghost use Prim.Native.Nat.{_≤_};
 ghost use lib.ListN.{take};
@@ -13,7 +14,7 @@ ghost use Rattle.lines.specs.Stepping.{state, freshDesk, Stepped, Ended}
 // numbers, and room for the longest answer, which is `ok` with a number in 24 bytes and a row in 128.
 pub type Numbers = [u64; 27];
 
-pub type BookMemory = [u64; 9648];
+pub type BookMemory = [u64; ONE_DAY];
 
 pub type RowMemory = [u64; 4464];
 

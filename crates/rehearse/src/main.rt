@@ -1,5 +1,6 @@
 // The program `rehearse` (paper 01): reads standard input and writes to standard output what the steps of the proved
 // library `lines` print.
+use book::places::ONE_DAY;
 use libc::STDIN_FILENO;
 use libc::STDOUT_FILENO;
 use lines::steps::BookMemory;
@@ -96,7 +97,7 @@ fn answer_all(numbers: &mut Numbers, book: &mut BookMemory, rows: &mut RowMemory
 // What it leaves is what `answer_all` ensures: an entry function takes no clause.
 fn main() {
     let mut numbers = [0u64; 27];
-    let mut book = [0u64; 9648];
+    let mut book = [0u64; ONE_DAY];
     let mut rows = [0u64; 4464];
     let mut out = [0u8; 95256];
     answer_all(&mut numbers, &mut book, &mut rows, &mut out);

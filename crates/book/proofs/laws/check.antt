@@ -3,9 +3,14 @@ pub mod NumberLaws
 pub mod PairLaws
 pub mod TogetherLaws
 pub mod LinkedLaws
-pub mod SettleLaws
+pub mod OpenDayLaws
+pub mod CellLaws
+pub mod PassLaws
+pub mod DayLaws
+pub mod UnitLaws
+pub mod VerdictLaws
 pub mod UnitsFitLaws
 pub mod ShareLaws
-pub mod PeriodLaws
+pub mod BoundLaws
 pub mod JoinLaws
 pub mod MisfitLaws

@@ -1,2 +1,1 @@
 pub mod EnrolLaws
-pub mod CellLaws

@@ -1,4 +1,6 @@
-pub mod PlaceFacts
+pub mod PlaceLaws
 pub mod RangeFacts
+pub mod TestLaws
 pub mod WordLaws
+pub mod RunLaws
 pub mod KeptLaws

@@ -1,39 +1,55 @@
 -- What the functions that close the day leave in memory.
-use Prim.Native.Nat.{ℕ, _+_, _*_, _≤_, _<_}
+use Prim.Native.Nat.{ℕ, _+_, _-_, _*_, _≤_, _<_}
 use mathlib.Core.Path.{_≡_}
 use mathlib.Core.List.{List}
-use lib.ListN.{length, set}
+use lib.ListN.{length}
 use Rattle.limits.specs.Units.{mostCapacity}
-use Rattle.book.specs.Book.{Figures}
-use Rattle.book.specs.Close.{dayOver}
-use Rattle.book.specs.Layout.{word, figuresAt, netIn}
+use Rattle.book.specs.Layout.{DAYS, UNITS, figuresStart, dayPlace, RAISED, LOWERED, MARK, VOLUME, word}
 
--- the memory with the day over for one unit and period
-unfoldable pub cellClosed : List ℕ → ℕ → ℕ → List ℕ
-cellClosed m k p =
-    set
-    (set (set (set m (1776 + 328 * p + 5 * k) (netIn m k p)) (1777 + 328 * p + 5 * k) 0) (1778 + 328 * p + 5 * k) 0)
-    (1780 + 328 * p + 5 * k) 0
+-- the hours of a day
+abbrev pub hours : ℕ
+hours = 24
 
--- that every unit's figures of period p come to a net
-pub record AllNetted (m : List ℕ) (p : ℕ) : Type 0 where
-  pub held : (k : ℕ) → k < word m 5 → word m (1776 + 328 * p + 5 * k) + word m (1777 + 328 * p + 5 * k) ≤ mostCapacity
-  pub lowered : (k : ℕ) → k < word m 5 → word m (1778 + 328 * p + 5 * k) ≤ word m (1776 + 328 * p + 5 * k)
+-- that the figures that begin at a place, of a unit on a day, come to a net in every hour
+pub record BlockNetted (m : List ℕ) (at : ℕ) : Type 0 where
+  pub held : (h : ℕ) → h < hours → word m (at + h) + word m (at + h + RAISED) ≤ mostCapacity
+  pub lowered : (h : ℕ) → h < hours → word m (at + h + LOWERED) ≤ word m (at + h)
 
--- x is m with the day over for the first k units in period p, and all else as it was
-pub record DayOver (m x : List ℕ) (p k : ℕ) : Type 0 where
-  pub long : length x ≡ length m
-  pub over : (j : ℕ) → j < k → figuresAt x j p ≡ dayOver (figuresAt m j p)
-  pub same : (i : ℕ) → i < 1776 + 328 * p → word x i ≡ word m i
-  pub behind : (i : ℕ) → 1776 + 328 * p + 5 * k ≤ i → word x i ≡ word m i
+-- that every unit's figures do on day d, and on every day
+abbrev pub DayNetted : List ℕ → ℕ → Type 0
+DayNetted m d = (k : ℕ) → k < word m UNITS → BlockNetted m (dayPlace d k)
 
--- that every unit's figures come to a net in every period
 pub record Netting (m : List ℕ) : Type 0 where
-  pub each : (p : ℕ) → p < 24 * word m 0 → AllNetted m p
+  pub each : (d : ℕ) → d < word m DAYS → DayNetted m d
 
--- x is m with the day over for all units in the first q periods, and all else as it was
-pub record DaysOver (m x : List ℕ) (q : ℕ) : Type 0 where
+-- x has of the figures that begin at a place, in the first n hours, those of m with the day over
+pub record BlockOver (m x : List ℕ) (at n : ℕ) : Type 0 where
+  pub held : (h : ℕ) → h < n → word x (at + h) ≡ word m (at + h) + word m (at + h + RAISED) - word m (at + h + LOWERED)
+  pub raised : (h : ℕ) → h < n → word x (at + h + RAISED) ≡ 0
+  pub lowered : (h : ℕ) → h < n → word x (at + h + LOWERED) ≡ 0
+  pub mark : (h : ℕ) → h < n → word x (at + h + MARK) ≡ 0
+  pub volume : (h : ℕ) → h < n → word x (at + h + VOLUME) ≡ word m (at + h + VOLUME)
+
+-- the words of a block from raised up to a place in it are 0
+abbrev pub Untraded : List ℕ → ℕ → ℕ → Type 0
+Untraded m at n = (i : ℕ) → RAISED ≤ i → i < n → word m (at + i) ≡ 0
+
+-- and all else as it was
+pub record BlockClosed (m x : List ℕ) (at n : ℕ) : Type 0 where
   pub long : length x ≡ length m
-  pub over : (p : ℕ) → p < q → (j : ℕ) → j < word m 5 → figuresAt x j p ≡ dayOver (figuresAt m j p)
-  pub same : (i : ℕ) → i < 1776 → word x i ≡ word m i
-  pub behind : (i : ℕ) → 1776 + 328 * q ≤ i → word x i ≡ word m i
+  pub over : BlockOver m x at n
+  pub kept : (i : ℕ) → ((h f : ℕ) → h < n → f < 4 → i ≡ at + h + hours * f → ⊥) → word x i ≡ word m i
+
+-- x is m with the day over for the first k units on day d, and all else as it was
+pub record DayOver (m x : List ℕ) (d k : ℕ) : Type 0 where
+  pub long : length x ≡ length m
+  pub over : (j : ℕ) → j < k → BlockOver m x (dayPlace d j) hours
+  pub before : (i : ℕ) → i < dayPlace d 0 → word x i ≡ word m i
+  pub behind : (i : ℕ) → dayPlace d k ≤ i → word x i ≡ word m i
+
+-- x is m with the day over for all units on the first n days, and all else as it was
+pub record DaysOver (m x : List ℕ) (n : ℕ) : Type 0 where
+  pub long : length x ≡ length m
+  pub over : (d : ℕ) → d < n → (j : ℕ) → j < word m UNITS → BlockOver m x (dayPlace d j) hours
+  pub before : (i : ℕ) → i < figuresStart → word x i ≡ word m i
+  pub behind : (i : ℕ) → dayPlace n 0 ≤ i → word x i ≡ word m i

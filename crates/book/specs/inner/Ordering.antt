@@ -10,8 +10,7 @@ use Rattle.matching.specs.Orders.{Order as OpenOrder}
 use Rattle.matching.specs.Memory.{ordersIn, written}
 use Rattle.matching.specs.Rolling.{meet}
 use Rattle.book.specs.Book.{Book}
-use Rattle.book.specs.Opening.{bookWords}
-use Rattle.book.specs.Layout.{word, ordersPart, decode}
+use Rattle.book.specs.Layout.{DAYS, UNITS, ORDERS, ordersStart, orderPlace, UNIT, DIRECTION, PERIOD, amountsStart, word, ordersPart, decode, Aside}
 use Rattle.book.specs.Refusals.{
   Check,
   firstOf,
@@ -46,9 +45,9 @@ orderFitChecks b u d p q =
 -- an enrolled unit, a direction, a period of the term and a quantity in range
 pub record Named (m : List ℕ) (u d p q : ℕ) : Type 0 where
   pub from : 1 ≤ u
-  pub upto : u ≤ word m 5
+  pub upto : u ≤ word m UNITS
   pub direction : d ≤ 1
-  pub period : p < 24 * word m 0
+  pub period : p < 24 * word m DAYS
   pub quantity : q ≤ mostEnergy
 
 -- r is the first of the first part of the checks; 0 only if the order is named so
@@ -58,29 +57,29 @@ pub record NameChecked (m : List ℕ) (u d p price q lent r : ℕ) : Type 0 wher
 
 -- 1 where the order at place k is the unit's and of the period, and 1 where it goes the other way too
 unfoldable pub ofUnitAt : List ℕ → ℕ → ℕ → ℕ → ℕ
-ofUnitAt m u p k = cond (eqb (word m (240 + 6 * k + 1)) u && eqb (word m (240 + 6 * k + 3)) p) 1 0
+ofUnitAt m u p k = cond (eqb (word m (orderPlace k + UNIT)) u && eqb (word m (orderPlace k + PERIOD)) p) 1 0
 
 unfoldable pub againstAt : List ℕ → ℕ → ℕ → ℕ → ℕ → ℕ
 againstAt m u d p k =
-    cond ((eqb (word m (240 + 6 * k + 1)) u && eqb (word m (240 + 6 * k + 3)) p) && not (eqb (word m (240 + 6 * k + 2)) d)) 1 0
+    cond ((eqb (word m (orderPlace k + UNIT)) u && eqb (word m (orderPlace k + PERIOD)) p) && not (eqb (word m (orderPlace k + DIRECTION)) d)) 1 0
 
 -- x is m with these open orders
 pub record OrdersPut (m x : List ℕ) (os : List OpenOrder) : Type 0 where
   pub long : length x ≡ length m
-  pub low : (i : ℕ) → i < 240 → (i ≡ 7 → ⊥) → word x i ≡ word m i
-  pub high : (i : ℕ) → 1776 ≤ i → word x i ≡ word m i
-  pub orders : ordersIn (ordersPart x) (word x 7) ≡ os
+  pub low : (i : ℕ) → i < ordersStart → (i ≡ ORDERS → ⊥) → word x i ≡ word m i
+  pub high : (i : ℕ) → amountsStart ≤ i → word x i ≡ word m i
+  pub orders : ordersIn (ordersPart x) (word x ORDERS) ≡ os
 
 -- x is m after an order met those that stand open: what is left of it, the rows and their count
 pub record Rolled (m x rows rows′ : List ℕ) (o : OpenOrder) (q n : ℕ) : Type 0 where
-  pub orders : OrdersPut m x (meet o (ordersIn (ordersPart m) (word m 7)) .orders)
-  pub handed : rows′ ≡ written rows (meet o (ordersIn (ordersPart m) (word m 7)) .rows)
-  pub left : q ≡ meet o (ordersIn (ordersPart m) (word m 7)) .left
-  pub count : n ≡ length (meet o (ordersIn (ordersPart m) (word m 7)) .rows)
+  pub orders : OrdersPut m x (meet o (ordersIn (ordersPart m) (word m ORDERS)) .orders)
+  pub handed : rows′ ≡ written rows (meet o (ordersIn (ordersPart m) (word m ORDERS)) .rows)
+  pub left : q ≡ meet o (ordersIn (ordersPart m) (word m ORDERS)) .left
+  pub count : n ≡ length (meet o (ordersIn (ordersPart m) (word m ORDERS)) .rows)
 
 -- m′ and rows′ are the memory and the lent rows after an order in the rolling phase, n its count of rows
 pub record RolledOn (m rows : List ℕ) (u d p price q n : ℕ) (m′ rows′ : List ℕ) : Type 0 where
   pub book : decode m′ ≡ orderedInRolling (decode m) (newOrder (decode m) u d p price q) .book
   pub handed : rows′ ≡ written rows (meet (newOrder (decode m) u d p price q) (decode m .orders) .rows)
   pub count : n ≡ length (meet (newOrder (decode m) u d p price q) (decode m .orders) .rows)
-  pub past : drop (bookWords (word m 0)) m′ ≡ drop (bookWords (word m 0)) m
+  pub aside : Aside m m′

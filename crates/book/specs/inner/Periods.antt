@@ -8,8 +8,7 @@ use Rattle.matching.specs.Clearing.{Cleared, clearFrom}
 use Rattle.limits.specs.Units.{periods}
 use Rattle.book.specs.Book.{Book, rollingPhase, withOrders, inPhase}
 use Rattle.book.specs.Trades.{rowsBooked}
-use Rattle.book.specs.Opening.{bookWords}
-use Rattle.book.specs.Layout.{word, decode}
+use Rattle.book.specs.Layout.{ORDERS, ordersStart, amountsStart, word, decode, Aside}
 
 -- what clearing all periods of a book gives
 abbrev pub clearedAll : Book → Cleared
@@ -20,11 +19,11 @@ pub record Swept (m rows : List ℕ) (count : ℕ) (m′ rows′ : List ℕ) : T
   pub book : decode m′ ≡ withOrders (decode m) (clearedAll (decode m) .orders)
   pub counted : count ≡ length (clearedAll (decode m) .rows)
   pub handed : rows′ ≡ written rows (clearedAll (decode m) .rows)
-  pub low : (i : ℕ) → i < 240 → (i ≡ 7 → ⊥) → word m′ i ≡ word m i
-  pub high : (i : ℕ) → 1776 ≤ i → word m′ i ≡ word m i
-  pub orders : word m′ 7 ≤ 256
+  pub low : (i : ℕ) → i < ordersStart → (i ≡ ORDERS → ⊥) → word m′ i ≡ word m i
+  pub high : (i : ℕ) → amountsStart ≤ i → word m′ i ≡ word m i
+  pub orders : word m′ ORDERS ≤ 256
   pub few : count ≤ 256
-  pub past : drop (bookWords (word m 0)) m′ ≡ drop (bookWords (word m 0)) m
+  pub aside : Aside m m′
   pub long : length m′ ≡ length m
 
 -- and their rows booked: "the rolling phase begins"
@@ -32,4 +31,4 @@ pub record AllCleared (m rows : List ℕ) (count : ℕ) (m′ rows′ : List ℕ
   pub book : decode m′ ≡ inPhase (rowsBooked (clearedAll (decode m) .rows) (withOrders (decode m) (clearedAll (decode m) .orders))) rollingPhase
   pub counted : count ≡ length (clearedAll (decode m) .rows)
   pub handed : rows′ ≡ written rows (clearedAll (decode m) .rows)
-  pub past : drop (bookWords (word m 0)) m′ ≡ drop (bookWords (word m 0)) m
+  pub aside : Aside m m′

@@ -13,23 +13,22 @@ use Rattle.book.specs.Book.{Figures, OpenOffer, Book, rollingPhase, know
 use Rattle.book.specs.Fit.{Declaration, hourFits, termFits, volumeFits, unitFits}
 use Rattle.book.specs.Sound.{bilateralSides, offerIn, orderIn, oneDirection, apart, eachTwo}
 use Rattle.book.specs.Refusals.{check, firstOf}
-use Rattle.book.specs.Opening.{bookWords}
-use Rattle.book.specs.Layout.{word, decode, netIn}
+use Rattle.book.specs.Layout.{DAYS, UNITS, OFFERS, ORDERS, unitPlace, CAPACITY, ASSET, figurePlace, RAISED, LOWERED, bookWords, word, decode}
 
 pub record Readable (m : List ℕ) : Type 0 where
-  pub daysFrom : 1 ≤ word m 0
-  pub daysTo : word m 0 ≤ mostDays
-  pub unitsTo : word m 5 ≤ 64
-  pub offersTo : word m 6 ≤ 8
-  pub ordersTo : word m 7 ≤ 256
-  pub long : bookWords (word m 0) ≤ length m
+  pub daysFrom : 1 ≤ word m DAYS
+  pub daysTo : word m DAYS ≤ mostDays
+  pub unitsTo : word m UNITS ≤ 64
+  pub offersTo : word m OFFERS ≤ 8
+  pub ordersTo : word m ORDERS ≤ 256
+  pub long : bookWords (word m DAYS) ≤ length m
 
 -- the fields of the unit at place k, and of all units
 unfoldable pub unitFieldsIn : List ℕ → ℕ → Bool
-unitFieldsIn m k = holds (kindIn (word m (8 + 3 * k)) ∷ capacityIn (word m (9 + 3 * k)) ∷ assetIn (word m (10 + 3 * k)) ∷ [])
+unitFieldsIn m k = holds (kindIn (word m (unitPlace k)) ∷ capacityIn (word m (unitPlace k + CAPACITY)) ∷ assetIn (word m (unitPlace k + ASSET)) ∷ [])
 
 abbrev pub unitsFieldsIn : List ℕ → Bool
-unitsFieldsIn m = all (word m 5) (unitFieldsIn m)
+unitsFieldsIn m = all (word m UNITS) (unitFieldsIn m)
 
 -- whether a partner is none, or an enrolled load for a generator
 unfoldable pub sidesIn : Book → ℕ → ℕ → Bool
@@ -89,8 +88,8 @@ pairsFit phase os = eachTwo oneDirection os && (not (eqb phase rollingPhase) || 
 
 -- that the figures of the unit at place k come to a net in every period
 pub record Netted (m : List ℕ) (k : ℕ) : Type 0 where
-  pub held : (p : ℕ) → p < periods (word m 0) → word m (1776 + 328 * p + 5 * k) + word m (1777 + 328 * p + 5 * k) ≤ mostCapacity
-  pub lowered : (p : ℕ) → p < periods (word m 0) → word m (1778 + 328 * p + 5 * k) ≤ word m (1776 + 328 * p + 5 * k)
+  pub held : (p : ℕ) → p < periods (word m DAYS) → word m (figurePlace k p) + word m (figurePlace k p + RAISED) ≤ mostCapacity
+  pub lowered : (p : ℕ) → p < periods (word m DAYS) → word m (figurePlace k p + LOWERED) ≤ word m (figurePlace k p)
 
 -- whether a unit fits, with today's directions in range, and whether all do
 unfoldable pub unitWhole : Book → ℕ → Bool

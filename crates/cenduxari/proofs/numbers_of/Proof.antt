@@ -3,19 +3,15 @@ use borrow.Author.Needs.{needs}
 use Rattle.cenduxari.proofs.numbers_of.Statement.{statement}
 use Rattle.cenduxari.proofs.numbers_of.Tie as tie
 
--- src/lib.rt:29:22
 enum-known-answer : tie.Need-enum-known-answer
 enum-known-answer c = search needs
 
--- src/lib.rt:30:31
 enum-told : tie.Need-enum-told
 enum-told c = search needs
 
--- src/lib.rt:25:1
 returns : tie.Need-returns
 returns c = rw (c .before .answer .given .1)
 
--- src/lib.rt:25:1
 returns-2 : tie.Need-returns-2
 returns-2 c = rw (c .enum-told .given .1)
 

@@ -6,7 +6,6 @@ use mathlib.Core.List.{List, []}
 use native.Mathlib.Omega.{arith}
 use borrow.Author.Tests.{not-true, not-false}
 use lib.ListN.{length, getD}
-use Rattle.book.specs.Layout.{word, decode}
 use Rattle.book.specs.Contract.{soundIn}
 use Rattle.book.specs.Calls.{callClear}
 use Rattle.book.proofs.laws.answer.MadeLaws.{made-unsound, made-checked, made-done, sound-readable, clear-passed}
@@ -63,7 +62,7 @@ returns-3 c =
     let w = c4 .clear-effect in
     made-done _ _ (callClear (length (c15 .args .rows .now))) 0 _ _ _ _ _ (sym (c11 .sound-book .ensures)
     ∙ not-false _ (c10 .if1 .left)) (sym (c7 .if2 .left) ∙ c8 .clear-checks .ensures) refl (w .ensures .counted) (w .ensures .book) (w .ensures .handed)
-    (w .ensures .past) (w .kept .0)
+    (w .ensures .aside) (w .kept .0)
 
 pub clear-spec : {M : Type 1} → statement M
 clear-spec =

@@ -8,7 +8,7 @@ use borrow.Author.Tests.{not-true, not-false}
 use lib.ListN.{length, drop}
 use Rattle.measures.proofs.RangeLaws.{In}
 use Rattle.book.specs.Curve.{points}
-use Rattle.book.specs.Layout.{word, decode}
+use Rattle.book.specs.Layout.{DAYS, UNITS, word, decode}
 use Rattle.book.specs.Contract.{soundIn}
 use Rattle.book.proofs.laws.answer.MadeLaws.{sound-readable}
 use Rattle.book.proofs.laws.curve.CurveLaws.{curved-unsound, curved-checked, curved-drawn, curve-passed, sound-netted}
@@ -20,9 +20,9 @@ use Rattle.book.proofs.calls.curve.Tie as tie
 is-sound : (c : tie.Else1) → soundIn (c .before .before .before .before .args .book .now) ≡ true
 is-sound c = sym (c .before .sound-book .ensures) ∙ not-false _ (c .if1 .left)
 
-passed : (c : tie.Else2) → (In 1 (word (c .before .before .before .before .before .before .args .book .now) 5)
+passed : (c : tie.Else2) → (In 1 (word (c .before .before .before .before .before .before .args .book .now) UNITS)
     (c .before .before .before .before .before .before .args .unit)) × (48 ≤ length (c .before .before .before .before .before .before .args .points .now))
-    × (c .before .before .before .before .before .before .args .day < word (c .before .before .before .before .before .before .args .book .now) 0)
+    × (c .before .before .before .before .before .before .args .day < word (c .before .before .before .before .before .before .args .book .now) DAYS)
 passed c = curve-passed _ _ _ _ (sym (c .if2 .left) ∙ c .before .curve-checks .ensures)
 
 sound-book-requires : tie.Need-sound-book-requires

@@ -7,7 +7,6 @@ use native.Mathlib.Omega.{arith}
 use borrow.Author.Tests.{not-true, not-false}
 use lib.ListN.{length, getD}
 use Rattle.matching.proofs.laws.orders.RowLaws.{written-none}
-use Rattle.book.specs.Layout.{word, decode}
 use Rattle.book.specs.Contract.{soundIn}
 use Rattle.book.specs.Calls.{callOrder}
 use Rattle.book.proofs.laws.answer.MadeLaws.{made-unsound, made-checked, made-done, order-called, order-rolled, sound-readable, sound-head}
@@ -118,7 +117,7 @@ returns-4 c =
     made-done _ _ (callOrder (c18 .args .unit) (c18 .args .direction) (c18 .args .period) (c18 .args .price) (c18 .args .quantity)
     (length (c18 .args .rows .now))) _ _ _ _ _ _ (sym (c14 .sound-book .ensures) ∙ not-false _ (c13 .if1 .left)) (sym (c10 .if2 .left)
     ∙ c11 .order-checks .ensures) (order-rolled _ (c18 .args .unit) (c18 .args .direction) (c18 .args .period) (c18 .args .price) (c18 .args .quantity)
-    (length (c18 .args .rows .now)) (c7 .if3 .left)) (w .ensures .count) (w .ensures .book) (w .ensures .handed) (w .ensures .past) (w .kept .0)
+    (length (c18 .args .rows .now)) (c7 .if3 .left)) (w .ensures .count) (w .ensures .book) (w .ensures .handed) (w .ensures .aside) (w .kept .0)
 
 pub order-spec : {M : Type 1} → statement M
 order-spec =

@@ -68,7 +68,7 @@ returns-3 c =
     let w = c4 .take-effect in
     made-done _ _ (callTake (a .unit) (a .number) (a .quantity) (length (a .rows .now))) 0 _ _ _ _ _ (sym (c14 .sound-book .ensures)
     ∙ not-false _ (c13 .if1 .left))
-    (sym (c8 .if2 .left) ∙ c10 .take-checks .ensures .answer) refl (w .ensures .rows .count) (w .ensures .book) (w .ensures .rows .rows) (w .ensures .past)
+    (sym (c8 .if2 .left) ∙ c10 .take-checks .ensures .answer) refl (w .ensures .rows .count) (w .ensures .book) (w .ensures .rows .rows) (w .ensures .aside)
     (w .kept .0)
 
 pub take-spec : {M : Type 1} → statement M

@@ -7,7 +7,7 @@ use native.Mathlib.Omega.{arith}
 use borrow.Author.Tests.{not-true, not-false}
 use lib.ListN.{length, getD}
 use Rattle.matching.proofs.laws.orders.RowLaws.{written-none}
-use Rattle.book.specs.Layout.{word, decode}
+use Rattle.book.specs.Layout.{decode}
 use Rattle.book.specs.Contract.{soundIn}
 use Rattle.book.specs.Calls.{callWithdraw}
 use Rattle.book.proofs.laws.answer.MadeLaws.{made-unsound, made-checked, made-done}

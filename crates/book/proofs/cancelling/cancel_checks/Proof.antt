@@ -68,6 +68,11 @@ returns-5 c =
     cancel-passes (s .args .book .now) (s .pre) (s .args .number) (s .args .unit) (omega arith) (w .result) (omega arith) (w .ensures .2 (omega arith))
     (omega arith)
 
+add-if4-2 : tie.Need-add-if4-2
+add-if4-2 c =
+    let c7 = c .before .before .before .before .before .before .before in
+    let r = ok c7 in omega arith
+
 pub cancel-checks-spec : {M : Type 1} → statement M
 cancel-checks-spec =
     tie.close
@@ -80,6 +85,7 @@ cancel-checks-spec =
     returns-3
     mul-if4
     add-if4
+    add-if4-2
     mul-if4-2
     shared-slice-read-if4
     returns-4

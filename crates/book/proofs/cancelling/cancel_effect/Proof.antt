@@ -5,10 +5,10 @@ use mathlib.Core.Path.{_≡_, _∙_}
 use borrow.Rule.Slice.PartMut.{mid-len}
 use lib.ListN.{length, length-take, length-drop}
 use Rattle.matching.proofs.laws.orders.PlacedLaws.{place-there}
-use Rattle.book.specs.Layout.{word}
+use Rattle.book.specs.Layout.{ORDERS, ordersStart, ordersWords, amountsStart, word}
 use Rattle.book.specs.inner.Readable.{Readable}
 use Rattle.book.proofs.laws.answer.MadeLaws.{sound-readable}
-use Rattle.book.proofs.laws.cancel.CancelLaws.{order-placed, cancelled, cancelled-past}
+use Rattle.book.proofs.laws.cancel.CancelLaws.{order-placed, cancelled, cancelled-aside}
 use borrow.Author.Needs.{needs}
 use Rattle.book.proofs.cancelling.cancel_effect.Statement.{statement}
 use Rattle.book.proofs.cancelling.cancel_effect.Tie as tie
@@ -16,15 +16,15 @@ use Rattle.book.proofs.cancelling.cancel_effect.Tie as tie
 ok : (c : tie.Start) → Readable (c .args .book .now)
 ok c = sound-readable _ (c .pre .0)
 
-found : (c : tie.After-order-place) → c .order-place .result < word (c .before .before .before .before .args .book .now) 7
+found : (c : tie.After-order-place) → c .order-place .result < word (c .before .before .before .before .args .book .now) ORDERS
 found c =
     let c4 = c .before .before .before .before in
     order-placed _ (c4 .pre .0) _ (c4 .pre .1) (c .order-place .result) (c .order-place .ensures .0) (c .order-place .ensures .1)
 
-long : (c : tie.After-slice-known3) → length (c .before .before .remove .last .0) ≡ 1536
+long : (c : tie.After-slice-known3) → length (c .before .before .remove .last .0) ≡ ordersWords
 long c =
     let c8 = c .before .before .before .before .before .before .before .before in
-    let r = ok c8 in c .before .before .remove .kept .0 ∙ mid-len 240 1776 (c8 .args .book .now) (omega arith)
+    let r = ok c8 in c .before .before .remove .kept .0 ∙ mid-len ordersStart amountsStart (c8 .args .book .now) (omega arith)
 
 slice-read-n : tie.Need-slice-read-n
 slice-read-n c = let r = ok (c .before .before) in omega arith
@@ -65,7 +65,7 @@ returns c =
     let p = c .before .before .remove .ensures .orders (place-there _ _ _ (r .ordersTo) (simp (length-take, length-drop) (omega arith)) f) in (
       cancelled (s .args .book .now) (c .before .before .remove .last .0) (s .args .number) (w .result) (s .pre .0) f (w .ensures .2 f) (long c)
           p,
-      cancelled-past (s .args .book .now) (c .before .before .remove .last .0) (s .args .number) (w .result) (s .pre .0) f (w .ensures .2 f) (long c)
+      cancelled-aside (s .args .book .now) (c .before .before .remove .last .0) (s .args .number) (w .result) (s .pre .0) f (w .ensures .2 f) (long c)
           p,
     )
 

@@ -3,16 +3,16 @@ use Prim.Native.Nat.{ℕ, _≤_, _<_, _+_, _*_, _-_}
 use mathlib.Core.Path.{_≡_}
 use native.Mathlib.Omega.{arith}
 use borrow.Author.Count.{below-more}
-use Rattle.book.specs.Layout.{word}
+use Rattle.book.specs.Layout.{ORDERS, orderPlace, word}
 use borrow.Author.Needs.{needs}
 use Rattle.book.proofs.cancelling.order_place.Statement.{statement}
 use Rattle.book.proofs.cancelling.order_place.Tie as tie
 
 abbrev Inv-loop : tie.InvT-loop
-Inv-loop book number n k₀ k = (k ≤ word book 7) × ((i : ℕ) → i < k → word book (240 + 6 * i) ≡ number → ⊥)
+Inv-loop book number n k₀ k = (k ≤ word book ORDERS) × ((i : ℕ) → i < k → word book (orderPlace i) ≡ number → ⊥)
 
 abbrev μ-loop : tie.MeasureT-loop
-μ-loop book number n k₀ k = word book 7 - k
+μ-loop book number n k₀ k = word book ORDERS - k
 
 shared-slice-read-n : tie.Need-shared-slice-read-n Inv-loop μ-loop
 shared-slice-read-n c = search needs

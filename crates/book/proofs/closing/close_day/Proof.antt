@@ -2,7 +2,7 @@
 use Prim.Native.Nat.{ℕ, _≤_}
 use native.Mathlib.Omega.{arith}
 use lib.ListN.{length-set}
-use Rattle.book.proofs.laws.close.ClosedLaws.{closed-book, closed-past}
+use Rattle.book.proofs.laws.close.ClosedLaws.{closed-book, closed-aside}
 use borrow.Author.Needs.{needs}
 use Rattle.book.proofs.closing.close_day.Statement.{statement}
 use Rattle.book.proofs.closing.close_day.Tie as tie
@@ -28,7 +28,7 @@ same-length c = search needs
 returns : tie.Need-returns
 returns c =
     let c5 = c .before .before .before .before .before in
-    (closed-book _ _ (c5 .pre .0) (c .before .before .close-figures .ensures), closed-past _ _ (c5 .pre .0) (c .before .before .close-figures .ensures))
+    (closed-book _ _ (c5 .pre .0) (c .before .before .close-figures .ensures), closed-aside _ _ (c5 .pre .0) (c .before .before .close-figures .ensures))
 
 pub close-day-spec : {M : Type 1} → statement M
 close-day-spec =

@@ -3,7 +3,7 @@ use Prim.Native.Nat.{ℕ, _+_, _*_, _-_, _<_}
 use mathlib.Core.Path.{_≡_, _∙_}
 use native.Mathlib.Omega.{arith}
 use lib.ListN.{length-set}
-use Rattle.book.specs.Layout.{word, decode}
+use Rattle.book.specs.Layout.{decode}
 use Rattle.book.proofs.laws.curve.CurveLaws.{Drawing, drawing-start, drawing-more, drawing-ends, net-figures}
 use borrow.Author.Needs.{needs}
 use Rattle.book.proofs.curve.write_points.Statement.{statement}
@@ -59,10 +59,11 @@ loop-less c = search needs
 
 loop-again : tie.Need-loop-again Inv-loop μ-loop
 loop-again c =
-    let s = c .before .before .before .before .before in
-    let l = c .before .before .loop in
-    drawing-more _ _ _ _ _ _ _ (l .inv) (c .before .loop-test .taken) (omega arith)
-    (c .net-at .ensures ∙ net-figures (s .args .book .now) (s .args .k) (24 * s .args .day + l .h) (omega arith) (omega arith))
+    let n = c .before .before in
+    let s = n .before .before .before .before .before in
+    let l = n .before .before .loop in
+    drawing-more _ _ _ _ _ _ _ (l .inv) (n .before .loop-test .taken) (omega arith)
+    (n .net-at .ensures ∙ net-figures (s .args .book .now) (s .args .k) (24 * s .args .day + l .h) (omega arith) (omega arith))
 
 same-length : tie.Need-same-length Inv-loop μ-loop
 same-length c = search needs

@@ -3,8 +3,7 @@ use native.Mathlib.Omega.{arith}
 use lib.ListN.{length-set}
 use Rattle.book.specs.inner.Readable.{Readable}
 use Rattle.book.proofs.laws.answer.MadeLaws.{sound-readable}
-use Rattle.book.proofs.laws.enrol.EnrolLaws.{enrolled-in, enrolled-past}
-use Rattle.book.proofs.laws.memory.PlaceFacts.{capacity-place, asset-place}
+use Rattle.book.proofs.laws.enrol.EnrolLaws.{enrolled-in, enrolled-aside}
 use borrow.Author.Needs.{needs}
 use Rattle.book.proofs.enrolling.enrol_effect.Statement.{statement}
 use Rattle.book.proofs.enrolling.enrol_effect.Tie as tie
@@ -15,11 +14,8 @@ ok c = sound-readable _ (c .pre .0)
 slice-read-k : tie.Need-slice-read-k
 slice-read-k c = let r = ok (c .before .before) in omega arith
 
-fresh-requires : tie.Need-fresh-requires
-fresh-requires c κs = search needs
-
-clear-unit-requires : tie.Need-clear-unit-requires
-clear-unit-requires c κs = (ok (c .before .before .before .before), c .before .before .before .before .pre .1)
+empty-unit-requires : tie.Need-empty-unit-requires
+empty-unit-requires c κs = (ok (c .before .before .before), c .before .before .before .pre .1)
 
 mul-at : tie.Need-mul-at
 mul-at c = search needs
@@ -32,8 +28,8 @@ mul-book c = search needs
 
 slice-write-book : tie.Need-slice-write-book
 slice-write-book c =
-    let c7 = c .before .before .before .before .before .before .before in
-    let r = ok c7 in omega arith
+    let c6 = c .before .before .before .before .before .before in
+    let r = ok c6 in omega arith
 
 add-book : tie.Need-add-book
 add-book c = search needs
@@ -43,8 +39,8 @@ mul-book-2 c = search needs
 
 slice-write-book-2 : tie.Need-slice-write-book-2
 slice-write-book-2 c =
-    let c7 = c .before .before .before .before .before .before .before in
-    let r = ok c7 in simp length-set (omega arith)
+    let c6 = c .before .before .before .before .before .before in
+    let r = ok c6 in simp length-set (omega arith)
 
 add-book-2 : tie.Need-add-book-2
 add-book-2 c = search needs
@@ -54,31 +50,27 @@ mul-book-3 c = search needs
 
 slice-write-book-3 : tie.Need-slice-write-book-3
 slice-write-book-3 c =
-    let c7 = c .before .before .before .before .before .before .before in
-    let r = ok c7 in simp length-set (omega arith)
+    let c6 = c .before .before .before .before .before .before in
+    let r = ok c6 in simp length-set (omega arith)
 
 add-book-3 : tie.Need-add-book-3
 add-book-3 c = search needs
 
 slice-write-book-4 : tie.Need-slice-write-book-4
 slice-write-book-4 c =
-    let c7 = c .before .before .before .before .before .before .before in
-    let r = ok c7 in simp length-set (omega arith)
+    let c6 = c .before .before .before .before .before .before in
+    let r = ok c6 in simp length-set (omega arith)
 
 same-length : tie.Need-same-length
-same-length c = simp length-set (c .before .before .clear-unit .kept .0)
+same-length c = simp length-set (c .before .before .empty-unit .kept .0)
 
 returns : tie.Need-returns
 returns c =
-    let s = c .before .before .before .before .before .before .before in
-    let a = s .args in
-    let e = c .before .before .before .before .fresh .ensures in
-    let w = c .before .before .clear-unit in
-    rw (e .0, e .1, e .2, capacity-place, asset-place) (
-      enrolled-in (a .book .now) (w .last .0) (a .kind) (a .capacity) (a .asset) (ok s) (s .pre .1) (w .kept .0) (w .ensures .0) (w .ensures .1)
-          (w .ensures .2),
-      enrolled-past (a .book .now) (w .last .0) (a .kind) (a .capacity) (a .asset) (ok s) (s .pre .1) (w .kept .0) (w .ensures .0) (w .ensures .1)
-          (w .ensures .2),
+    let s = c .before .before .before .before .before .before in
+    let u = s .args .unit in
+    let w = c .before .before .empty-unit in (
+      enrolled-in (s .args .book .now) (w .last .0) (u .kind) (u .capacity) (u .asset .0) (ok s) (s .pre .1) (w .ensures),
+      enrolled-aside (s .args .book .now) (w .last .0) (u .kind) (u .capacity) (u .asset .0) (ok s) (s .pre .1) (w .ensures),
     )
 
 pub enrol-effect-spec : {M : Type 1} → statement M
@@ -86,8 +78,7 @@ enrol-effect-spec =
     tie.close
     (tie.spec
     slice-read-k
-    fresh-requires
-    clear-unit-requires
+    empty-unit-requires
     mul-at
     add-at
     mul-book

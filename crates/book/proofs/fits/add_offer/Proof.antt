@@ -1,23 +1,27 @@
 -- `add_offer`: another unit's offer adds nothing, and of the unit's own each period passed has its amount added.
 use Prim.Native.Nat.{_≤_, _-_, _*_}
+use mathlib.Core.Path.{refl}
 use native.Mathlib.Omega.{arith}
-use Rattle.book.specs.Layout.{word, amountAt}
+use Rattle.book.specs.Layout.{DAYS, word, amountAt}
 use Rattle.book.proofs.laws.check.ShareLaws.{amount-small, added-none, Adding, adding-none, adding-more, adding-ends, offer-other, offer-own}
 use borrow.Author.Needs.{needs}
 use Rattle.book.proofs.fits.add_offer.Statement.{statement}
 use Rattle.book.proofs.fits.add_offer.Tie as tie
 
 abbrev Inv-loop : tie.InvT-loop
-Inv-loop book unit j totals₀ top p₀ totals p = (p ≤ 24 * word book 0) × (Adding totals₀ totals (amountAt book j) p)
+Inv-loop book unit j totals₀ top p₀ totals p = (p ≤ 24 * word book DAYS) × (Adding totals₀ totals (amountAt book j) p)
 
 abbrev μ-loop : tie.MeasureT-loop
-μ-loop book unit j totals₀ top p₀ totals p = 24 * word book 0 - p
+μ-loop book unit j totals₀ top p₀ totals p = 24 * word book DAYS - p
 
 mul-if1 : tie.Need-mul-if1 Inv-loop μ-loop
 mul-if1 c = search needs
 
 add-if1 : tie.Need-add-if1 Inv-loop μ-loop
 add-if1 c = search needs
+
+add-if1-2 : tie.Need-add-if1-2 Inv-loop μ-loop
+add-if1-2 c = search needs
 
 mul-if1-2 : tie.Need-mul-if1-2 Inv-loop μ-loop
 mul-if1-2 c = search needs
@@ -83,7 +87,7 @@ loop-less : tie.Need-loop-less Inv-loop μ-loop
 loop-less c = search needs
 
 loop-again : tie.Need-loop-again Inv-loop μ-loop
-loop-again c = (search needs, adding-more _ _ _ _ (omega arith) (c .before .before .before .loop .inv .1))
+loop-again c = (search needs, adding-more _ _ _ _ _ (omega arith) refl (c .before .before .before .loop .inv .1))
 
 same-length : tie.Need-same-length Inv-loop μ-loop
 same-length c = search needs
@@ -103,6 +107,7 @@ add-offer-spec =
     μ-loop
     mul-if1
     add-if1
+    add-if1-2
     mul-if1-2
     shared-slice-read-if1
     returns

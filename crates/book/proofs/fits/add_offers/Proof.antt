@@ -4,7 +4,7 @@ use native.Mathlib.Omega.{arith}
 use Rattle.measures.specs.Ranges.{mostEnergy}
 use Rattle.measures.specs.Lists.{sum}
 use Rattle.limits.specs.Units.{periods}
-use Rattle.book.specs.Layout.{word}
+use Rattle.book.specs.Layout.{DAYS, OFFERS, word}
 use Rattle.book.specs.inner.Fitting.{Added, offerShare}
 use Rattle.book.proofs.laws.check.ShareLaws.{shares-none, shares-more, shares-end}
 use borrow.Author.Needs.{needs}
@@ -12,11 +12,11 @@ use Rattle.book.proofs.fits.add_offers.Statement.{statement}
 use Rattle.book.proofs.fits.add_offers.Tie as tie
 
 abbrev Inv-loop : tie.InvT-loop
-Inv-loop book unit totals₀ n j₀ totals j = (j ≤ word book 6)
-    × (Added (periods (word book 0)) totals₀ totals (λ p. sum j (λ i. offerShare book unit i p)) (mostEnergy * j))
+Inv-loop book unit totals₀ n j₀ totals j = (j ≤ word book OFFERS)
+    × (Added (periods (word book DAYS)) totals₀ totals (λ p. sum j (λ i. offerShare book unit i p)) (mostEnergy * j))
 
 abbrev μ-loop : tie.MeasureT-loop
-μ-loop book unit totals₀ n j₀ totals j = word book 6 - j
+μ-loop book unit totals₀ n j₀ totals j = word book OFFERS - j
 
 shared-slice-read-n : tie.Need-shared-slice-read-n Inv-loop μ-loop
 shared-slice-read-n c = search needs

@@ -1,6 +1,6 @@
 -- `add_order`: an order of another unit or direction adds nothing, and the one store adds the order's share.
 use Prim.Native.Nat.{_+_, _*_}
-use Rattle.book.specs.Layout.{word}
+use Rattle.book.specs.Layout.{orderPlace, PERIOD, word}
 use native.Mathlib.Omega.{arith}
 use Rattle.book.proofs.laws.memory.RangeFacts.{OrderWords}
 use Rattle.book.proofs.laws.check.ShareLaws.{order-words, added-none, share-other, share-against, order-added}
@@ -72,7 +72,7 @@ shared-slice-read-totals c = search needs
 add-totals-2 : tie.Need-add-totals-2
 add-totals-2 c =
     let s = c .before .before .before .before .before .before .before in
-    omega (arith, facts s, s .pre .1 .1 (word (s .args .book .now) (240 + 6 * s .args .k + 3)))
+    omega (arith, facts s, s .pre .1 .1 (word (s .args .book .now) (orderPlace (s .args .k) + PERIOD)))
 
 mul-totals-3 : tie.Need-mul-totals-3
 mul-totals-3 c =

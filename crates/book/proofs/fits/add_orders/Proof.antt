@@ -4,7 +4,7 @@ use native.Mathlib.Omega.{arith}
 use Rattle.measures.specs.Ranges.{mostEnergy}
 use Rattle.measures.specs.Lists.{sum}
 use Rattle.limits.specs.Units.{periods}
-use Rattle.book.specs.Layout.{word}
+use Rattle.book.specs.Layout.{DAYS, ORDERS, word}
 use Rattle.book.specs.inner.Fitting.{Added, orderShare}
 use Rattle.book.proofs.laws.check.ShareLaws.{shares-none, shares-more, shares-end}
 use borrow.Author.Needs.{needs}
@@ -12,11 +12,11 @@ use Rattle.book.proofs.fits.add_orders.Statement.{statement}
 use Rattle.book.proofs.fits.add_orders.Tie as tie
 
 abbrev Inv-loop : tie.InvT-loop
-Inv-loop book unit direction totals₀ n k₀ totals k = (k ≤ word book 7)
-    × (Added (periods (word book 0)) totals₀ totals (λ p. sum k (λ i. orderShare book unit direction i p)) (mostEnergy * k))
+Inv-loop book unit direction totals₀ n k₀ totals k = (k ≤ word book ORDERS)
+    × (Added (periods (word book DAYS)) totals₀ totals (λ p. sum k (λ i. orderShare book unit direction i p)) (mostEnergy * k))
 
 abbrev μ-loop : tie.MeasureT-loop
-μ-loop book unit direction totals₀ n k₀ totals k = word book 7 - k
+μ-loop book unit direction totals₀ n k₀ totals k = word book ORDERS - k
 
 shared-slice-read-n : tie.Need-shared-slice-read-n Inv-loop μ-loop
 shared-slice-read-n c = search needs

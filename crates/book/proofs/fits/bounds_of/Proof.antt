@@ -3,9 +3,9 @@ use mathlib.Core.Path.{_≡_, sym, ap, _∙_}
 use Prim.Native.Nat.{_+_, _*_}
 use Rattle.limits.specs.Limits.{given, hourLimit}
 use Rattle.limits.specs.Answers.{answerOf}
-use Rattle.book.specs.Layout.{word}
+use Rattle.book.specs.Layout.{unitPlace, CAPACITY, word}
 use Rattle.book.specs.inner.Fitting.{termAt, volumeAt}
-use Rattle.book.proofs.laws.check.PeriodLaws.{bounds-given, bounds-refused, bounds-same}
+use Rattle.book.proofs.laws.check.BoundLaws.{bounds-given, bounds-refused, bounds-same}
 use borrow.Author.Needs.{needs}
 use Rattle.book.proofs.fits.bounds_of.Statement.{statement}
 use Rattle.book.proofs.fits.bounds_of.Tie as tie
@@ -15,7 +15,7 @@ start c = c .before .before .before .before
 
 limits-given : (c : tie.After-unit-limits) → answerOf (c .unit-limits .result)
     ≡ given
-    (hourLimit (word (start c .args .book .now) (8 + 3 * start c .args .k)) (word (start c .args .book .now) (9 + 3 * start c .args .k)) 0)
+    (hourLimit (word (start c .args .book .now) (unitPlace (start c .args .k))) (word (start c .args .book .now) (unitPlace (start c .args .k) + CAPACITY)) 0)
     (termAt (start c .args .book .now) (start c .args .k))
     (volumeAt (start c .args .book .now) (start c .args .k))
 limits-given c =

@@ -1,221 +1,95 @@
--- `fit_of`: the periods passed fit and have their sums; a period that does not fit, or a sum past its limit, decides.
-use Prim.Native.Nat.{_≤_, _+_, _-_, _*_}
-use mathlib.Core.Path.{_≡_}
-use mathlib.Core.Bool.{true}
+-- `fit_of`: the book is sound, so a fault of the pass is an hour that does not fit.
 use native.Mathlib.Omega.{arith}
-use lib.ListN.{getD}
-use Rattle.book.specs.Layout.{word}
-use Rattle.book.specs.inner.Fitting.{markHolds, hourHolds, termPart, volumePart}
-use Rattle.book.proofs.laws.memory.PlaceFacts.{FigurePlaces, figure-places}
-use Rattle.book.proofs.laws.check.PeriodLaws.{
-  Passing,
-  passing-none,
-  passing-more,
-  period-passed,
-  hour-small,
-  volume-at-most,
-  came-early,
-  came-term,
-  came-volume,
-  came-fits,
-}
+use Rattle.book.proofs.laws.check.MisfitLaws.{zeros-below}
+use Rattle.book.proofs.laws.check.VerdictLaws.{came-bad, came-term, came-volume, came-fits}
+use Rattle.book.proofs.laws.check.UnitsFitLaws.{sound-tidy}
 use borrow.Author.Needs.{needs}
 use Rattle.book.proofs.fits.fit_of.Statement.{statement}
 use Rattle.book.proofs.fits.fit_of.Tie as tie
 
-abbrev Inv-loop : tie.InvT-loop
-Inv-loop book k raising lowering most top whole₀ volume₀ p₀ whole volume p =
-    (p ≤ 24 * word book 0)
-    × (Passing
-    (markHolds book k)
-    (λ i. hourHolds book k i (getD raising i 0) (getD lowering i 0))
-    (λ i. termPart book k i (getD raising i 0))
-    (λ i. volumePart book k i (getD raising i 0) (getD lowering i 0))
-    p whole volume)
-
-abbrev μ-loop : tie.MeasureT-loop
-μ-loop book k raising lowering most top whole₀ volume₀ p₀ whole volume p = 24 * word book 0 - p
-
-abbrev turn : tie.Else1 Inv-loop μ-loop → tie.At-loop Inv-loop μ-loop
-turn c = c .before .before .before .before .before
-
-abbrev start : tie.Else1 Inv-loop μ-loop → tie.Start Inv-loop μ-loop
-start c = turn c .before .before .before .before .before .before
-
--- what a period that passed says
-passed : (c : tie.Else1 Inv-loop μ-loop)
-    → (markHolds (start c .args .book .now) (start c .args .k) (turn c .loop .p) ≡ true)
-    × (hourHolds (start c .args .book .now) (start c .args .k) (turn c .loop .p)
-    (getD (start c .args .raising .now) (turn c .loop .p) 0)
-    (getD (start c .args .lowering .now) (turn c .loop .p) 0)
-    ≡ true)
-passed c = period-passed _ _ _ (c .before .period-fit .ensures) (c .if1 .left)
-
-little : (c : tie.Else1 Inv-loop μ-loop)
-    → word (start c .args .book .now) (1776 + 328 * turn c .loop .p + 5 * start c .args .k)
-    + (word (start c .args .book .now) (1777 + 328 * turn c .loop .p + 5 * start c .args .k) + getD (start c .args .raising .now) (turn c .loop .p) 0)
-    ≤ 5_000_000
-little c = hour-small _ _ (start c .pre .0 .0) (start c .pre .0 .1) _ _ _ (passed c .1)
-
-places : (c : tie.Else1 Inv-loop μ-loop) → FigurePlaces (start c .args .book .now) (turn c .loop .p) (start c .args .k)
-places c = figure-places _ _ _
-
-bounds-of-requires : tie.Need-bounds-of-requires Inv-loop μ-loop
-bounds-of-requires c κs = search needs
-
-shared-slice-read-top : tie.Need-shared-slice-read-top Inv-loop μ-loop
-shared-slice-read-top c = search needs
-
-mul-top : tie.Need-mul-top Inv-loop μ-loop
-mul-top c = search needs
-
-loop-holds : tie.Need-loop-holds Inv-loop μ-loop
-loop-holds c = (search needs, passing-none _ _ _ _)
-
-mul-x : tie.Need-mul-x Inv-loop μ-loop
-mul-x c = search needs
-
-shared-slice-read-x : tie.Need-shared-slice-read-x Inv-loop μ-loop
-shared-slice-read-x c = search needs
-
-mul-y : tie.Need-mul-y Inv-loop μ-loop
-mul-y c = search needs
-
-shared-slice-read-y : tie.Need-shared-slice-read-y Inv-loop μ-loop
-shared-slice-read-y c = search needs
-
-period-fit-requires : tie.Need-period-fit-requires Inv-loop μ-loop
-period-fit-requires c κs = search needs
-
-returns : tie.Need-returns Inv-loop μ-loop
-returns c =
-    let c5 = c .before .before .before .before .before in
-    came-early _ _ _ _ _ _ _ (c5 .loop .p) _ (omega arith) (c .before .period-fit .ensures) (c .if1 .taken)
-
-mul-at : tie.Need-mul-at Inv-loop μ-loop
+mul-at : tie.Need-mul-at
 mul-at c = search needs
 
-add-at : tie.Need-add-at Inv-loop μ-loop
+add-at : tie.Need-add-at
 add-at c = search needs
 
-mul-at-2 : tie.Need-mul-at-2 Inv-loop μ-loop
-mul-at-2 c = search needs
+mul-hour-limits : tie.Need-mul-hour-limits
+mul-hour-limits c = search needs
 
-add-at-2 : tie.Need-add-at-2 Inv-loop μ-loop
-add-at-2 c = search needs
+shared-slice-read-hour-limits : tie.Need-shared-slice-read-hour-limits
+shared-slice-read-hour-limits c = search needs
 
-mul-whole : tie.Need-mul-whole Inv-loop μ-loop
-mul-whole c = search needs
+add-hour-limits : tie.Need-add-hour-limits
+add-hour-limits c = search needs
 
-shared-slice-read-whole : tie.Need-shared-slice-read-whole Inv-loop μ-loop
-shared-slice-read-whole c = search needs
+mul-hour-limits-2 : tie.Need-mul-hour-limits-2
+mul-hour-limits-2 c = search needs
 
-add-whole : tie.Need-add-whole Inv-loop μ-loop
-add-whole c = search needs
+shared-slice-read-hour-limits-2 : tie.Need-shared-slice-read-hour-limits-2
+shared-slice-read-hour-limits-2 c = search needs
 
-mul-whole-2 : tie.Need-mul-whole-2 Inv-loop μ-loop
-mul-whole-2 c = search needs
+slice-aggregate-hour-limits : tie.Need-slice-aggregate-hour-limits
+slice-aggregate-hour-limits c = search needs
 
-shared-slice-read-whole-2 : tie.Need-shared-slice-read-whole-2 Inv-loop μ-loop
-shared-slice-read-whole-2 c = search needs
+hour-limits-requires : tie.Need-hour-limits-requires
+hour-limits-requires c κs = (omega arith, zeros-below 24 0)
 
-add-whole-2 : tie.Need-add-whole-2 Inv-loop μ-loop
-add-whole-2 c = omega (arith, little (c .before .before), places (c .before .before) .raised)
+open-unit-requires : tie.Need-open-unit-requires
+open-unit-requires c κs = search needs
 
-add-whole-3 : tie.Need-add-whole-3 Inv-loop μ-loop
-add-whole-3 c = omega (arith, little (c .before .before), places (c .before .before) .raised)
+returns : tie.Need-returns
+returns c =
+    let s = c .before .before .before .before .before .before .before .before .before .before .before .before .pre .0 in
+    came-bad _ _ _ _ (s .1) (s .2) _ _ _ _ (c .before .before .open-unit .ensures) (sound-tidy _ _ (s .0) (s .1) (s .2)) (omega arith)
 
-add-whole-4 : tie.Need-add-whole-4 Inv-loop μ-loop
-add-whole-4 c = omega (arith, little (c .before .before), places (c .before .before) .raised)
+bounds-of-requires : tie.Need-bounds-of-requires
+bounds-of-requires c κs = search needs
 
-add-capped : tie.Need-add-capped Inv-loop μ-loop
-add-capped c = search needs
+returns-2 : tie.Need-returns-2
+returns-2 c =
+    let c3 = c .before .before .before in
+    let c6 = c3 .before .before .before in
+    let c16 = c6 .before .before .before .before .before .before .before .before .before .before in
+    let s = c16 .pre .0 in
+    let b = c3 .bounds-of .ensures in
+    came-term _ _ _ _ (s .1) (s .2) _ _ _ _ (c6 .open-unit .ensures) _ _ (omega arith) (b .0) (b .1) (sound-tidy _ _ (s .0) (s .1) (s .2)) (omega arith)
 
-mul-capped : tie.Need-mul-capped Inv-loop μ-loop
-mul-capped c = search needs
-
-shared-slice-read-capped : tie.Need-shared-slice-read-capped Inv-loop μ-loop
-shared-slice-read-capped c = search needs
-
-capped-requires : tie.Need-capped-requires Inv-loop μ-loop
-capped-requires c κs = search needs
-
-add-capped-2 : tie.Need-add-capped-2 Inv-loop μ-loop
-add-capped-2 c =
-    let e = c .before .before .before .before in
-    omega (arith, start e .pre .1 .2 (turn e .loop .p), start e .pre .1 .3 (turn e .loop .p))
-
-capped-requires-2 : tie.Need-capped-requires-2 Inv-loop μ-loop
-capped-requires-2 c κs = search needs
-
-add-p : tie.Need-add-p Inv-loop μ-loop
-add-p c = search needs
-
-loop-less : tie.Need-loop-less Inv-loop μ-loop
-loop-less c = search needs
-
-loop-again : tie.Need-loop-again Inv-loop μ-loop
-unfolding termPart volumePart
-loop-again c =
-    let e = c .before .before .before .before .before in
-    let l = turn e .loop in
-    let w = places e in (
-      search needs,
-      passing-more _ _ _ _ (l .p) (l .whole) (l .volume) _ _ (l .inv .1) (passed e .0) (passed e .1) (omega (arith, w .raised)) (little e)
-          (omega (arith, c .capped2 .ensures, c .before .capped .ensures, w .volume)),
-    )
-
-returns-2 : tie.Need-returns-2 Inv-loop μ-loop
-returns-2 c = came-term _ _ _ _ _ _ _ _ _ _ (c .before .before .before .loop .inv .1) (omega arith) (omega arith)
-
-returns-3 : tie.Need-returns-3 Inv-loop μ-loop
+returns-3 : tie.Need-returns-3
 returns-3 c =
-    let c5 = c .before .before .before .before .before in
-    came-volume _ _ _ _ _ _ _ _ _ _ (c5 .loop .inv .1) (omega arith) (omega arith) (omega arith)
+    let c6 = c .before .before .before .before .before .before in
+    let c9 = c6 .before .before .before in
+    let c19 = c9 .before .before .before .before .before .before .before .before .before .before in
+    let s = c19 .pre .0 in
+    let b = c6 .bounds-of .ensures in
+    came-volume _ _ _ _ (s .1) (s .2) _ _ _ _ (c9 .open-unit .ensures) _ _ (omega arith) (b .0) (b .1) (sound-tidy _ _ (s .0) (s .1) (s .2)) (omega arith)
+    (omega arith)
 
-returns-4 : tie.Need-returns-4 Inv-loop μ-loop
+returns-4 : tie.Need-returns-4
 returns-4 c =
-    let c5 = c .before .before .before .before .before in
-    let s = c .before .before .before .before .before .before .before .before .before .before .before in
-    came-fits _ _ _ _ _ _ _ _ _ _ (c5 .loop .inv .1) (omega arith) (omega arith) (omega arith) (volume-at-most _ _ (s .pre .0 .0) (s .pre .0 .1))
+    let c6 = c .before .before .before .before .before .before in
+    let c9 = c6 .before .before .before in
+    let c19 = c9 .before .before .before .before .before .before .before .before .before .before in
+    let s = c19 .pre .0 in
+    let b = c6 .bounds-of .ensures in
+    came-fits _ _ _ _ (s .1) (s .2) _ _ _ _ (c9 .open-unit .ensures) _ _ (omega arith) (b .0) (b .1) (sound-tidy _ _ (s .0) (s .1) (s .2)) (omega arith)
+    (omega arith)
 
 pub fit-of-spec : {M : Type 1} → statement M
 fit-of-spec =
     tie.close
     (tie.spec
-    Inv-loop
-    μ-loop
-    bounds-of-requires
-    shared-slice-read-top
-    mul-top
-    loop-holds
-    mul-x
-    shared-slice-read-x
-    mul-y
-    shared-slice-read-y
-    period-fit-requires
-    returns
     mul-at
     add-at
-    mul-at-2
-    add-at-2
-    mul-whole
-    shared-slice-read-whole
-    add-whole
-    mul-whole-2
-    shared-slice-read-whole-2
-    add-whole-2
-    add-whole-3
-    add-whole-4
-    add-capped
-    mul-capped
-    shared-slice-read-capped
-    capped-requires
-    add-capped-2
-    capped-requires-2
-    add-p
-    loop-less
-    loop-again
+    mul-hour-limits
+    shared-slice-read-hour-limits
+    add-hour-limits
+    mul-hour-limits-2
+    shared-slice-read-hour-limits-2
+    slice-aggregate-hour-limits
+    hour-limits-requires
+    open-unit-requires
+    returns
+    bounds-of-requires
     returns-2
     returns-3
     returns-4)

@@ -15,7 +15,7 @@ add-orders-requires : tie.Need-add-orders-requires
 add-orders-requires c κs =
     let s = c .before .before .before .before .before .before .before .before .before in
     let a = c .before .before .before .add-offers .ensures in
-    (s .pre .0 .0, (omega arith, λ i. omega (arith, a .grown i, s .pre .1 .2 i)))
+    (s .pre .0 .1, (omega arith, λ i. omega (arith, a .grown i, s .pre .1 .2 i)))
 
 sub-add-orders : tie.Need-sub-add-orders
 sub-add-orders c = search needs
@@ -23,7 +23,7 @@ sub-add-orders c = search needs
 add-orders-requires-2 : tie.Need-add-orders-requires-2
 add-orders-requires-2 c κs =
     let s = c .before .before .before .before .before .before .before .before .before .before .before .before .before in
-    (s .pre .0 .0, (omega arith, λ i. omega (arith, s .pre .1 .3 i)))
+    (s .pre .0 .1, (omega arith, λ i. omega (arith, s .pre .1 .3 i)))
 
 sub-fit-of : tie.Need-sub-fit-of
 sub-fit-of c = search needs
@@ -37,7 +37,7 @@ fit-of-requires c κs =
     let a = c12 .add-offers .ensures in
     let b = c8 .add-orders .ensures in
     let d = c4 .add-orders2 .ensures in (
-      (s .pre .0 .0, omega arith),
+      (s .pre .0 .0, s .pre .0 .1, omega arith),
       (
         omega arith,
         omega arith,
@@ -59,7 +59,7 @@ returns c =
     let offers = raises .before .before .before .before in
     let direction = offers .before .before in
     let pre = direction .before .before .before .before .pre .0 in
-    fitted-all _ _ _ _ _ _ _ _ _ _ _ _ (pre .1, pre .2) (pre .0 .readable .ordersTo) (direction .raising-direction .ensures .1)
+    fitted-all _ _ _ _ _ _ _ _ _ _ _ _ (pre .2, pre .3) (pre .1 .readable .ordersTo) (direction .raising-direction .ensures .1)
     (offers .add-offers .ensures) (raises .add-orders .ensures) (lowers .add-orders2 .ensures) (c .fit-of .ensures)
 
 pub misfit-spec : {M : Type 1} → statement M

@@ -20,8 +20,7 @@ use Rattle.matching.specs.Rolling.{Met, meet}
 use Rattle.book.specs.Trades.{rowsBooked}
 use Rattle.book.specs.Book.{Book, callPhase, rollingPhase, offerOf, withOffers, withOrders, inPhase, nextNumber}
 use Rattle.book.specs.Sound.{sound, headIn}
-use Rattle.book.specs.Opening.{bookWords}
-use Rattle.book.specs.Layout.{word, decode, enough}
+use Rattle.book.specs.Layout.{DAYS, PHASE, GIVEN, UNITS, LAYOUT, layoutNumber, bookWords, word, decode, laidOut, Aside}
 use Rattle.book.specs.Refusals.{Outcome, Check, check, firstOf, decided, accepted, unsound}
 use Rattle.book.specs.Enrol.{enrolment, enrolRefusal, enrolChecks, enrolled}
 use Rattle.book.specs.Offer.{offering, offerRefusal, offerChecks, offered}
@@ -37,21 +36,22 @@ use Rattle.book.specs.inner.Readable.{Readable, Ranged, unitsFieldsIn}
 use Rattle.book.proofs.laws.memory.RangeFacts.{Head, head-facts, readable, units-held}
 use Rattle.book.proofs.laws.answer.RefusalLaws.{none-applies}
 
--- a sound book in memory is long enough, and sound
-pub sound-enough : (m : List ℕ) → soundIn m ≡ true → enough m ≡ true
+-- memory that holds a sound book is laid out for one, and what it decodes to is sound
+pub sound-laid : (m : List ℕ) → soundIn m ≡ true → laidOut m ≡ true
 unfolding soundIn
-sound-enough m e = and-left (enough m) (sound (decode m)) e
+sound-laid m e = and-left (laidOut m) (sound (decode m)) e
 
 pub sound-book : (m : List ℕ) → soundIn m ≡ true → sound (decode m) ≡ true
 unfolding soundIn
-sound-book m e = and-right (enough m) (sound (decode m)) e
+sound-book m e = and-right (laidOut m) (sound (decode m)) e
 
 pub sound-head : (m : List ℕ) → soundIn m ≡ true → Head m
 unfolding sound
 sound-head m e = let t = all-true _ (sound-book m e) in head-facts m (t .0)
 
 pub sound-readable : (m : List ℕ) → soundIn m ≡ true → Readable m
-sound-readable m e = readable m (sound-head m e) (leb-true _ _ (sound-enough m e))
+sound-readable m e = readable m (sound-head m e) (leb-true _ _ (and-left (leb (bookWords (word m DAYS)) (length m)) (eqb (word m LAYOUT) layoutNumber)
+    (sound-laid m e)))
 
 -- a chain of checks on a book that is sound, or not
 pub chain-sound : (b : Book) (cs : List Check) → sound b ≡ true → firstOf (unsound b ∷ cs) ≡ firstOf cs
@@ -72,7 +72,7 @@ decided-accepted r b o e = cond-true (eqb r 0) o _ (eq-eqb r 0 e) refl
 -- on memory that holds a sound book a call gives what it gives on the book
 pub outcome-sound : (m : List ℕ) (c : Call) → soundIn m ≡ true → outcomeOn m c ≡ outcome (decode m) c
 unfolding outcomeOn
-outcome-sound m c e = cond-true (enough m) (outcome (decode m) c) _ (sound-enough m e) refl
+outcome-sound m c e = cond-true (laidOut m) (outcome (decode m) c) _ (sound-laid m e) refl
 
 -- the contract of a refused call, from what its outcome is
 pub made-refused : (m rows : List ℕ) (c : Call) (r : ℕ) → outcomeOn m c ≡ record { refusal = r; number = 0; rows = []; book = decode m } → (r ≡ 0 → ⊥)
@@ -82,7 +82,7 @@ made-refused m rows c r e n = record {
   refused = λ h. (refl, refl);
   accepted = λ h. absurd (n (sym (ap (λ (o : Outcome). o .refusal) e) ∙ h));
   handed = λ h. absurd (n (sym (ap (λ (o : Outcome). o .refusal) e) ∙ h));
-  past = refl;
+  aside = record { layout = refl; past = refl };
   long = refl;
 }
 
@@ -95,14 +95,14 @@ told-fixes (Refused r) (Refused r′) e = ap Refused (ap (λ (t : Told). t .refu
 
 -- the contract of an accepted call
 pub made-accepted : (m rows : List ℕ) (c : Call) (n : ℕ) (rs : List Row) (b : Book) (k : ℕ) (m′ rows′ : List ℕ) → outcomeOn m c ≡ accepted n rs b
-    → k ≡ length rs → decode m′ ≡ b → rows′ ≡ written rows rs → drop (bookWords (word m 0)) m′ ≡ drop (bookWords (word m 0)) m → length m′ ≡ length m
+    → k ≡ length rs → decode m′ ≡ b → rows′ ≡ written rows rs → Aside m m′ → length m′ ≡ length m
     → Made m rows c (Done n k) m′ rows′
 made-accepted m rows c n rs b k m′ rows′ e ek d w p l = record {
   answer = rw (e, ek) refl;
   refused = λ h. absurd (h (ap (λ (o : Outcome). o .refusal) e));
   accepted = λ h. d ∙ sym (ap (λ (o : Outcome). o .book) e);
   handed = λ h. w ∙ ap (λ (o : Outcome). written rows (o .rows)) (sym e);
-  past = p;
+  aside = p;
   long = l;
 }
 
@@ -151,16 +151,16 @@ outcome-is b callClose = refl
 -- the three ways of a call: not a sound book, a check that applies, or none
 pub made-unsound : (m rows : List ℕ) (c : Call) → soundIn m ≡ false → Made m rows c (Refused 1) m rows
 unfolding soundIn outcomeOn
-made-unsound m rows c e = made-refused m rows c 1 (go (enough m) (sound (decode m)) refl refl) (λ z. absurd (omega arith))
+made-unsound m rows c e = made-refused m rows c 1 (go (laidOut m) (sound (decode m)) refl refl) (λ z. absurd (omega arith))
   where
-    go : (a s : Bool) → enough m ≡ a → sound (decode m) ≡ s → outcomeOn m c ≡ record { refusal = 1; number = 0; rows = []; book = decode m }
-    go false s ea es = cond-false (enough m) (outcome (decode m) c) _ ea refl
+    go : (a s : Bool) → laidOut m ≡ a → sound (decode m) ≡ s → outcomeOn m c ≡ record { refusal = 1; number = 0; rows = []; book = decode m }
+    go false s ea es = cond-false (laidOut m) (outcome (decode m) c) _ ea refl
     go true false ea es =
-        cond-true (enough m) (outcome (decode m) c) _ ea refl ∙ outcome-is (decode m) c
+        cond-true (laidOut m) (outcome (decode m) c) _ ea refl ∙ outcome-is (decode m) c
         ∙ ap (λ (r : ℕ). decided r (decode m) (effectOf (decode m) c)) (chain-unsound (decode m) (checksOf (decode m) c) es)
     go true true ea es = both-ways (sym (and-true′ ea es) ∙ e)
       where
-        and-true′ : enough m ≡ true → sound (decode m) ≡ true → (enough m && sound (decode m)) ≡ true
+        and-true′ : laidOut m ≡ true → sound (decode m) ≡ true → (laidOut m && sound (decode m)) ≡ true
         and-true′ x y = rw (x, y) refl
 
 pub made-checked : (m rows : List ℕ) (c : Call) (r : ℕ) → soundIn m ≡ true → r ≡ firstOf (checksOf (decode m) c) → (r ≡ 0 → ⊥)
@@ -174,7 +174,7 @@ made-checked m rows c r e f n =
 
 pub made-done : (m rows : List ℕ) (c : Call) (n : ℕ) (rs : List Row) (b : Book) (k : ℕ) (m′ rows′ : List ℕ)
     → soundIn m ≡ true → 0 ≡ firstOf (checksOf (decode m) c) → effectOf (decode m) c ≡ accepted n rs b
-    → k ≡ length rs → decode m′ ≡ b → rows′ ≡ written rows rs → drop (bookWords (word m 0)) m′ ≡ drop (bookWords (word m 0)) m → length m′ ≡ length m
+    → k ≡ length rs → decode m′ ≡ b → rows′ ≡ written rows rs → Aside m m′ → length m′ ≡ length m
     → Made m rows c (Done n k) m′ rows′
 made-done m rows c n rs b k m′ rows′ e f g =
     made-accepted m rows c n rs b k m′ rows′
@@ -184,13 +184,13 @@ made-done m rows c n rs b k m′ rows′ e f g =
 
 -- the numbers that enrol and offer return, in memory
 pub enrol-number : (m : List ℕ) (kind capacity asset : ℕ) → effectOf (decode m) (callEnrol kind capacity asset)
-    ≡ accepted (word m 5 + 1) [] (enrolled (decode m) kind capacity asset)
+    ≡ accepted (word m UNITS + 1) [] (enrolled (decode m) kind capacity asset)
 enrol-number m kind capacity asset =
     ap (λ (n : ℕ). accepted n [] (enrolled (decode m) kind capacity asset))
     (length-append (decode m .units) _ ∙ ap (λ (n : ℕ). n + 1) (units-held m))
 
 pub offer-number : (m : List ℕ) (unit partner price : ℕ) (amounts : List ℕ) → effectOf (decode m) (callOffer unit partner price amounts)
-    ≡ accepted (word m 4 + 1) [] (offered (decode m) unit partner price amounts)
+    ≡ accepted (word m GIVEN + 1) [] (offered (decode m) unit partner price amounts)
 unfolding decode
 offer-number m unit partner price amounts = refl
 
@@ -207,13 +207,13 @@ clear-passed m lent e =
 
 -- the effect of an order in either phase
 module _ (m : List ℕ) (u d p price q lent : ℕ) where
-  pub order-called : word m 3 ≡ 0 → effectOf (decode m) (callOrder u d p price q lent)
-      ≡ accepted (word m 4 + 1) [] (orderedInCall (decode m) (newOrder (decode m) u d p price q) .book)
+  pub order-called : word m PHASE ≡ 0 → effectOf (decode m) (callOrder u d p price q lent)
+      ≡ accepted (word m GIVEN + 1) [] (orderedInCall (decode m) (newOrder (decode m) u d p price q) .book)
   unfolding decode
-  order-called e = cond-true (eqb (word m 3) 0) _ _ (eq-eqb (word m 3) 0 e) refl
+  order-called e = cond-true (eqb (word m PHASE) 0) _ _ (eq-eqb (word m PHASE) 0 e) refl
 
-  pub order-rolled : (word m 3 ≡ 0 → ⊥) → effectOf (decode m) (callOrder u d p price q lent)
-      ≡ accepted (word m 4 + 1) (meet (newOrder (decode m) u d p price q) (decode m .orders) .rows)
+  pub order-rolled : (word m PHASE ≡ 0 → ⊥) → effectOf (decode m) (callOrder u d p price q lent)
+      ≡ accepted (word m GIVEN + 1) (meet (newOrder (decode m) u d p price q) (decode m .orders) .rows)
       (orderedInRolling (decode m) (newOrder (decode m) u d p price q) .book)
   unfolding decode
-  order-rolled n = cond-false (eqb (word m 3) 0) _ _ (ne-eqb (word m 3) 0 n) refl
+  order-rolled n = cond-false (eqb (word m PHASE) 0) _ _ (ne-eqb (word m PHASE) 0 n) refl

@@ -8,7 +8,6 @@ use native.Mathlib.Decide.{decLt}
 use borrow.Author.Tests.{eq-eqb, ne-eqb}
 use borrow.Rule.Slice.PartMut.{putMid}
 use lib.ListN.{length, getD, take, drop, set}
-use lib.Seq.{getD-set-same, getD-set-other, drop-set-lt}
 use lib.Dec.{eqb, ltb}
 use Rattle.measures.specs.Lists.{keep}
 use Rattle.measures.proofs.ListLaws.{all-true, not-both}
@@ -18,8 +17,7 @@ use Rattle.matching.specs.Memory.{orderAt, ordersIn, noOrder}
 use Rattle.matching.proofs.laws.orders.OrderLaws.{orders-at}
 use Rattle.book.specs.Book.{Book, withOrders, orderOpen, orderOf, ordersOf, known}
 use Rattle.book.specs.Sound.{sound, numbersDiffer}
-use Rattle.book.specs.Opening.{bookWords}
-use Rattle.book.specs.Layout.{word, decode, ordersPart}
+use Rattle.book.specs.Layout.{UNITS, ORDERS, ordersStart, ordersWords, orderPlace, UNIT, word, ordersPart, decode, Aside}
 use Rattle.book.specs.inner.Readable.{offerNumbers}
 use Rattle.book.specs.Refusals.{firstOf}
 use Rattle.book.specs.Contract.{soundIn}
@@ -28,7 +26,8 @@ use Rattle.book.proofs.laws.memory.RangeFacts.{units-held, orders-held,
 use Rattle.book.proofs.laws.check.NumberLaws.{orders-from}
 use Rattle.book.proofs.laws.answer.MadeLaws.{sound-book, sound-readable}
 use Rattle.book.proofs.laws.memory.KeptLaws.{number-kept, number-gone, number-none}
-use Rattle.book.proofs.laws.memory.WordLaws.{orders-changed, word-before, word-behind, drop-behind, put-length, part-back}
+use Rattle.book.specs.inner.Ordering.{OrdersPut}
+use Rattle.book.proofs.laws.order.WaitLaws.{orders-put, put-decoded, put-aside}
 
 -- open numbers rise
 pub sound-rises : (m : List ℕ) → soundIn m ≡ true → (rising (offerNumbers (decode m)) ≡ true) × (rising (numbers (decode m .orders)) ≡ true)
@@ -39,25 +38,25 @@ sound-rises m s =
     (u .0, u .1 .0)
 
 -- the order at a place
-pub order-here : (m : List ℕ) (k : ℕ) → k < word m 7 → getD (decode m .orders) k noOrder ≡ orderAt (ordersPart m) k
+pub order-here : (m : List ℕ) (k : ℕ) → k < word m ORDERS → getD (decode m .orders) k noOrder ≡ orderAt (ordersPart m) k
 unfolding decode
-order-here m k h = orders-at (ordersPart m) (word m 7) k h
+order-here m k h = orders-at (ordersPart m) (word m ORDERS) k h
 
 module _ (m : List ℕ) (s : soundIn m ≡ true) (n : ℕ) where
-  few : word m 7 ≤ 256
+  few : word m ORDERS ≤ 256
   few = sound-readable m s .ordersTo
 
-  number-here : (k : ℕ) → k < word m 7 → getD (decode m .orders) k noOrder .number ≡ word m (240 + 6 * k)
+  number-here : (k : ℕ) → k < word m ORDERS → getD (decode m .orders) k noOrder .number ≡ word m (orderPlace k)
   number-here k h = ap (λ (o : OpenOrder). o .number) (order-here m k h) ∙ order-word m (6 * k) (omega (arith, few))
 
   -- no order has the number
-  pub order-absent : ((k : ℕ) → k < word m 7 → word m (240 + 6 * k) ≡ n → ⊥) → ordersOf (decode m) n ≡ []
+  pub order-absent : ((k : ℕ) → k < word m ORDERS → word m (orderPlace k) ≡ n → ⊥) → ordersOf (decode m) n ≡ []
   order-absent h =
       number-none (λ (o : OpenOrder). o .number) (decode m .orders) noOrder refl (sound-rises m s .1) n
-      (λ i l e. let u : i < word m 7 = omega (arith, orders-held m) in h i u (sym (number-here i u) ∙ e))
+      (λ i l e. let u : i < word m ORDERS = omega (arith, orders-held m) in h i u (sym (number-here i u) ∙ e))
 
   -- the order at place k has it
-  module _ (k : ℕ) (hk : k < word m 7) (e : word m (240 + 6 * k) ≡ n) where
+  module _ (k : ℕ) (hk : k < word m ORDERS) (e : word m (orderPlace k) ≡ n) where
     inside-list : k < length (decode m .orders)
     inside-list = omega (arith, orders-held m, hk)
 
@@ -71,30 +70,30 @@ module _ (m : List ℕ) (s : soundIn m ≡ true) (n : ℕ) where
 
   -- the checks
   module _ (u : ℕ) where
-    pub cancel-unknown : (In 1 (word m 5) u → ⊥) → 6 ≡ firstOf (cancelChecks (decode m) u n)
+    pub cancel-unknown : (In 1 (word m UNITS) u → ⊥) → 6 ≡ firstOf (cancelChecks (decode m) u n)
     unfolding firstOf
-    cancel-unknown h = rw (units-held m) (rw (outside 1 (word m 5) u h) refl)
+    cancel-unknown h = rw (units-held m) (rw (outside 1 (word m UNITS) u h) refl)
 
-    pub cancel-absent : In 1 (word m 5) u → ((k : ℕ) → k < word m 7 → word m (240 + 6 * k) ≡ n → ⊥) → 11 ≡ firstOf (cancelChecks (decode m) u n)
+    pub cancel-absent : In 1 (word m UNITS) u → ((k : ℕ) → k < word m ORDERS → word m (orderPlace k) ≡ n → ⊥) → 11 ≡ firstOf (cancelChecks (decode m) u n)
     unfolding firstOf
-    cancel-absent h a = rw (units-held m) (rw (inside 1 (word m 5) u h, order-absent a) refl)
+    cancel-absent h a = rw (units-held m) (rw (inside 1 (word m UNITS) u h, order-absent a) refl)
 
-    pub cancel-other : In 1 (word m 5) u → (k : ℕ) → k < word m 7 → word m (240 + 6 * k) ≡ n → (word m (241 + 6 * k) ≡ u → ⊥) → 11
+    pub cancel-other : In 1 (word m UNITS) u → (k : ℕ) → k < word m ORDERS → word m (orderPlace k) ≡ n → (word m (orderPlace k + UNIT) ≡ u → ⊥) → 11
         ≡ firstOf (cancelChecks (decode m) u n)
     unfolding firstOf
     cancel-other h k hk e ne =
-        let w : getD (ordersPart m) (6 * k + 1) 0 ≡ word m (241 + 6 * k) = order-word m (6 * k + 1) (omega (arith, few)) ∙ ap (word m) (omega arith) in
-        rw (units-held m) (rw (inside 1 (word m 5) u h, order-found k hk e, w, ne-eqb (word m (241 + 6 * k)) u ne) refl)
+        let w : getD (ordersPart m) (6 * k + 1) 0 ≡ word m (orderPlace k + UNIT) = order-word m (6 * k + 1) (omega (arith, few)) ∙ ap (word m) (omega arith) in
+        rw (units-held m) (rw (inside 1 (word m UNITS) u h, order-found k hk e, w, ne-eqb (word m (orderPlace k + UNIT)) u ne) refl)
 
-    pub cancel-passes : In 1 (word m 5) u → (k : ℕ) → k < word m 7 → word m (240 + 6 * k) ≡ n → word m (241 + 6 * k) ≡ u → 0
+    pub cancel-passes : In 1 (word m UNITS) u → (k : ℕ) → k < word m ORDERS → word m (orderPlace k) ≡ n → word m (orderPlace k + UNIT) ≡ u → 0
         ≡ firstOf (cancelChecks (decode m) u n)
     unfolding firstOf
     cancel-passes h k hk e g =
-        let w : getD (ordersPart m) (6 * k + 1) 0 ≡ word m (241 + 6 * k) = order-word m (6 * k + 1) (omega (arith, few)) ∙ ap (word m) (omega arith) in
-        rw (units-held m) (rw (inside 1 (word m 5) u h, order-found k hk e, w, eq-eqb (word m (241 + 6 * k)) u g) refl)
+        let w : getD (ordersPart m) (6 * k + 1) 0 ≡ word m (orderPlace k + UNIT) = order-word m (6 * k + 1) (omega (arith, few)) ∙ ap (word m) (omega arith) in
+        rw (units-held m) (rw (inside 1 (word m UNITS) u h, order-found k hk e, w, eq-eqb (word m (orderPlace k + UNIT)) u g) refl)
 
   -- an open order has a place
-  pub order-has-place : orderOpen (decode m) n ≡ true → ((k : ℕ) → k < word m 7 → word m (240 + 6 * k) ≡ n → ⊥) → ⊥
+  pub order-has-place : orderOpen (decode m) n ≡ true → ((k : ℕ) → k < word m ORDERS → word m (orderPlace k) ≡ n → ⊥) → ⊥
   order-has-place o a =
       let z : ltb 0 (length (ordersOf (decode m) n)) ≡ false = rw (order-absent a) refl in
       not-both _ o z
@@ -111,41 +110,26 @@ cancel-open b u n e = go (not (known b u)) (orderOpen b n) (eqb (orderOf b n .un
     go false true r ep eq er h = eq
 
 -- the memory after the order at place k is removed and one order fewer is counted
-module _ (m ys : List ℕ) (n k : ℕ) (s : soundIn m ≡ true) (hk : k < word m 7) (e : word m (240 + 6 * k) ≡ n) (same : length ys ≡ 1536)
-    (gone : ordersIn ys (word m 7 - 1) ≡ take k (ordersIn (ordersPart m) (word m 7)) ++ drop (k + 1) (ordersIn (ordersPart m) (word m 7))) where
-  long : 1776 ≤ length m
-  long = let r = sound-readable m s in omega arith
+module _ (m ys : List ℕ) (n k : ℕ) (s : soundIn m ≡ true) (hk : k < word m ORDERS) (e : word m (orderPlace k) ≡ n) (same : length ys ≡ ordersWords)
+    (gone : ordersIn ys (word m ORDERS - 1) ≡ take k (ordersIn (ordersPart m) (word m ORDERS)) ++ drop (k + 1) (ordersIn (ordersPart m) (word m ORDERS))) where
+  abbrev left : List OpenOrder
+  left = keep (λ (o : OpenOrder). not (eqb (o .number) n)) (decode m .orders)
 
-  low : (i : ℕ) → i < 240 → (i ≡ 7 → ⊥) → word (set (putMid 240 1536 m ys) 7 (word m 7 - 1)) i ≡ word m i
-  low i l ne = getD-set-other (putMid 240 1536 m ys) 7 i (word m 7 - 1) 0 ne ∙ word-before 240 1776 m ys (omega arith) long same i l
+  put : OrdersPut m (set (putMid ordersStart ordersWords m ys) ORDERS (word m ORDERS - 1)) left
+  put = let r = sound-readable m s in
+      orders-put m ys (word m ORDERS - 1) left (omega arith) same (gone ∙ sym (order-gone m s n k hk e ∙ rw (orders-from m) refl))
 
-  high : (i : ℕ) → 1776 ≤ i → word (set (putMid 240 1536 m ys) 7 (word m 7 - 1)) i ≡ word m i
-  high i l = getD-set-other (putMid 240 1536 m ys) 7 i (word m 7 - 1) 0 (omega arith) ∙ word-behind 240 1776 m ys (omega arith) long same i l
+  pub cancelled : decode (set (putMid ordersStart ordersWords m ys) ORDERS (word m ORDERS - 1)) ≡ withOrders (decode m) left
+  cancelled = let r = sound-readable m s in put-decoded m _ left put (r .unitsTo) (r .offersTo)
 
-  count : word (set (putMid 240 1536 m ys) 7 (word m 7 - 1)) 7 ≡ word m 7 - 1
-  count = getD-set-same (putMid 240 1536 m ys) 7 (word m 7 - 1) 0 (omega (arith, long, put-length 240 1776 m ys (omega arith) long same))
-
-  part : ordersPart (set (putMid 240 1536 m ys) 7 (word m 7 - 1)) ≡ ys
-  part = ap (take 1536) (drop-set-lt 240 (putMid 240 1536 m ys) 7 (word m 7 - 1) (omega arith)) ∙ part-back 240 1776 m ys (omega arith) long same
-
-  pub cancelled : decode (set (putMid 240 1536 m ys) 7 (word m 7 - 1))
-      ≡ withOrders (decode m) (keep (λ (o : OpenOrder). not (eqb (o .number) n)) (decode m .orders))
-  cancelled =
-      let r = sound-readable m s in
-      orders-changed (set (putMid 240 1536 m ys) 7 (word m 7 - 1)) m (keep (λ (o : OpenOrder). not (eqb (o .number) n)) (decode m .orders)) (r .unitsTo)
-      (r .offersTo) low high
-      (rw (count, part) (gone ∙ sym (order-gone m s n k hk e ∙ rw (orders-from m) refl)))
-
-  pub cancelled-past : drop (bookWords (word m 0)) (set (putMid 240 1536 m ys) 7 (word m 7 - 1)) ≡ drop (bookWords (word m 0)) m
-  cancelled-past =
-      drop-set-lt (bookWords (word m 0)) (putMid 240 1536 m ys) 7 (word m 7 - 1) (omega arith)
-      ∙ drop-behind 240 1776 m ys (omega arith) long same (bookWords (word m 0)) (omega arith)
+  pub cancelled-aside : Aside m (set (putMid ordersStart ordersWords m ys) ORDERS (word m ORDERS - 1))
+  cancelled-aside = put-aside m _ left put
 
 -- the place that the search gives is an order's
-pub order-placed : (m : List ℕ) → soundIn m ≡ true → (n : ℕ) → orderOpen (decode m) n ≡ true → (k : ℕ) → k ≤ word m 7
-    → ((i : ℕ) → i < k → word m (240 + 6 * i) ≡ n → ⊥) → k < word m 7
-order-placed m s n o k le h = go (decLt k (word m 7))
+pub order-placed : (m : List ℕ) → soundIn m ≡ true → (n : ℕ) → orderOpen (decode m) n ≡ true → (k : ℕ) → k ≤ word m ORDERS
+    → ((i : ℕ) → i < k → word m (orderPlace i) ≡ n → ⊥) → k < word m ORDERS
+order-placed m s n o k le h = go (decLt k (word m ORDERS))
   where
-    go : Dec (k < word m 7) → k < word m 7
+    go : Dec (k < word m ORDERS) → k < word m ORDERS
     go (yes l) = l
     go (no l) = absurd (order-has-place m s n o (λ i u. h i (omega arith)))

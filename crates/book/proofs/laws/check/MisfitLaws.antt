@@ -1,5 +1,5 @@
 -- What the fit of a unit says of a plain book: with nothing declared, and on a unit that fits.
-use Prim.Native.Nat.{ℕ, zero, suc, _+_, _<_}
+use Prim.Native.Nat.{ℕ, zero, suc, _+_, _<_, _≤_}
 use mathlib.Core.Path.{_≡_, refl, sym, _∙_}
 use mathlib.Core.Bool.{Bool, true, false, not, _||_}
 use mathlib.Core.List.{List, [], _∷_}
@@ -14,12 +14,16 @@ use Rattle.book.specs.Book.{Book, figuresOf}
 use Rattle.book.specs.Fit.{Declaration, nothing, openRaising, openLowering, raisingToday, hourFits, hoursFit, termFits, volumeFits, unitFits}
 use Rattle.book.specs.Refusals.{check, firstOf, hourMisfit, termMisfit, volumeMisfit}
 use Rattle.book.specs.inner.Readable.{declared, misfitOf}
+use Rattle.book.specs.inner.Fitting.{Below}
 
 -- a list of zeros
 pub zeros-at : (n i : ℕ) → getD (replicate {A = ℕ} n 0) i 0 ≡ 0
 zeros-at zero i = refl
 zeros-at (suc n) zero = refl
 zeros-at (suc n) (suc i) = zeros-at n i
+
+pub zeros-below : (n b : ℕ) → Below b (replicate n 0)
+zeros-below n b i = omega (arith, zeros-at n i)
 
 -- declarations that are the same in each period fit alike
 module _ (b : Book) (u : ℕ) where

@@ -14,7 +14,7 @@ use Rattle.measures.specs.Ranges.{mostEnergy}
 use Rattle.measures.specs.Lists.{sum}
 use Rattle.measures.proofs.ListLaws.{and-right-false, all-at, sum-none, sum-more, sum-at, total-table}
 use Rattle.limits.specs.Units.{periods}
-use Rattle.book.specs.Layout.{word, amountAt}
+use Rattle.book.specs.Layout.{DAYS, OFFERS, ORDERS, offerPlace, orderPlace, UNIT, DIRECTION, PERIOD, QUANTITY, word, amountAt}
 use Rattle.book.specs.inner.Readable.{Ranged}
 use Rattle.book.specs.inner.Fitting.{Added, orderShare, offerShare}
 use Rattle.book.proofs.laws.memory.RangeFacts.{OrderWords, order-facts, orders-every, OfferWords, offer-facts, offers-every}
@@ -26,19 +26,19 @@ getD-past (x ∷ l) zero h = absurd (omega arith)
 getD-past (x ∷ l) (suc i) h = getD-past l i (omega arith)
 
 -- what stands in a memory that is in range
-pub order-words : (m : List ℕ) (k : ℕ) → Ranged m → k < word m 7 → OrderWords m k
+pub order-words : (m : List ℕ) (k : ℕ) → Ranged m → k < word m ORDERS → OrderWords m k
 order-words m k r h =
     let s = r .readable .ordersTo in
-    order-facts m k (omega arith) (all-at (word m 7) _ k (sym (orders-every m) ∙ r .orders) h)
+    order-facts m k (omega arith) (all-at (word m ORDERS) _ k (sym (orders-every m) ∙ r .orders) h)
 
-pub offer-words : (m : List ℕ) (j : ℕ) → Ranged m → j < word m 6 → OfferWords m j
-offer-words m j r h = offer-facts m j (all-at (word m 6) _ j (sym (offers-every m) ∙ r .offers) h)
+offer-words : (m : List ℕ) (j : ℕ) → Ranged m → j < word m OFFERS → OfferWords m j
+offer-words m j r h = offer-facts m j (all-at (word m OFFERS) _ j (sym (offers-every m) ∙ r .offers) h)
 
-pub amount-small : (m : List ℕ) (j p : ℕ) → Ranged m → j < word m 6 → p < periods (word m 0) → amountAt m j p ≤ mostEnergy
+pub amount-small : (m : List ℕ) (j p : ℕ) → Ranged m → j < word m OFFERS → p < periods (word m DAYS) → amountAt m j p ≤ mostEnergy
 amount-small m j p r h l =
     let w = offer-words m j r h .whole in
-    let t = total-table (periods (word m 0)) (amountAt m j) in
-    let s = sum-at (periods (word m 0)) (amountAt m j) p l in
+    let t = total-table (periods (word m DAYS)) (amountAt m j) in
+    let s = sum-at (periods (word m DAYS)) (amountAt m j) p l in
     omega arith
 
 -- nothing added, and something more
@@ -69,27 +69,29 @@ placed n l k q f h s e z = record { long = length-set l _ _; each = λ i b. each
 
 -- the share of an order, by cases
 module _ (m : List ℕ) (u direction k : ℕ) where
-  pub share-other : (word m (240 + 6 * k + 1) ≡ u → ⊥) → (p : ℕ) → orderShare m u direction k p ≡ 0
+  pub share-other : (word m (orderPlace k + UNIT) ≡ u → ⊥) → (p : ℕ) → orderShare m u direction k p ≡ 0
   unfolding orderShare
   share-other n p = rw (ne-eqb _ _ n)
 
-  pub share-against : (word m (240 + 6 * k + 2) ≡ direction → ⊥) → (p : ℕ) → orderShare m u direction k p ≡ 0
+  pub share-against : (word m (orderPlace k + DIRECTION) ≡ direction → ⊥) → (p : ℕ) → orderShare m u direction k p ≡ 0
   unfolding orderShare
   share-against n p =
-      rw (and-right-false (eqb (word m (240 + 6 * k + 1)) u && eqb (word m (240 + 6 * k + 3)) p) (eqb (word m (240 + 6 * k + 2)) direction) (ne-eqb _ _ n))
+      rw (and-right-false (eqb (word m (orderPlace k + UNIT)) u && eqb (word m (orderPlace k + PERIOD)) p) (eqb (word m (orderPlace k + DIRECTION)) direction)
+      (ne-eqb _ _ n))
 
-  module _ (e : word m (240 + 6 * k + 1) ≡ u) (f : word m (240 + 6 * k + 2) ≡ direction) where
-    pub share-there : (p : ℕ) → word m (240 + 6 * k + 3) ≡ p → orderShare m u direction k p ≡ word m (240 + 6 * k + 5)
+  module _ (e : word m (orderPlace k + UNIT) ≡ u) (f : word m (orderPlace k + DIRECTION) ≡ direction) where
+    pub share-there : (p : ℕ) → word m (orderPlace k + PERIOD) ≡ p → orderShare m u direction k p ≡ word m (orderPlace k + QUANTITY)
     unfolding orderShare
     share-there p q = rw (eq-eqb _ _ e, eq-eqb _ _ f, eq-eqb _ _ q)
 
-    pub share-elsewhere : (p : ℕ) → (word m (240 + 6 * k + 3) ≡ p → ⊥) → orderShare m u direction k p ≡ 0
+    pub share-elsewhere : (p : ℕ) → (word m (orderPlace k + PERIOD) ≡ p → ⊥) → orderShare m u direction k p ≡ 0
     unfolding orderShare
     share-elsewhere p q = rw (eq-eqb _ _ e, ne-eqb _ _ q)
 
-    pub order-added : (n : ℕ) (l : List ℕ) → word m (240 + 6 * k + 3) < length l → word m (240 + 6 * k + 5) ≤ mostEnergy
-        → Added n l (set l (word m (240 + 6 * k + 3)) (getD l (word m (240 + 6 * k + 3)) 0 + word m (240 + 6 * k + 5))) (orderShare m u direction k) mostEnergy
-    order-added n l h s = placed n l (word m (240 + 6 * k + 3)) (word m (240 + 6 * k + 5)) (orderShare m u direction k) h s (share-there _ refl)
+    pub order-added : (n : ℕ) (l : List ℕ) → word m (orderPlace k + PERIOD) < length l → word m (orderPlace k + QUANTITY) ≤ mostEnergy
+        → Added n l (set l (word m (orderPlace k + PERIOD)) (getD l (word m (orderPlace k + PERIOD)) 0 + word m (orderPlace k + QUANTITY)))
+        (orderShare m u direction k) mostEnergy
+    order-added n l h s = placed n l (word m (orderPlace k + PERIOD)) (word m (orderPlace k + QUANTITY)) (orderShare m u direction k) h s (share-there _ refl)
         (λ p w. share-elsewhere p (λ z. w (sym z)))
 
 -- the periods below p have f added, the others not yet
@@ -101,8 +103,8 @@ pub record Adding (l x : List ℕ) (f : ℕ → ℕ) (p : ℕ) : Type 0 where
 pub adding-none : (l : List ℕ) (f : ℕ → ℕ) → Adding l l f 0
 adding-none l f = record { long = refl; passed = λ i h. absurd (omega arith); still = λ i h. refl }
 
-pub adding-more : (l x : List ℕ) (f : ℕ → ℕ) (p : ℕ) → p < length l → Adding l x f p → Adding l (set x p (getD x p 0 + f p)) f (p + 1)
-adding-more l x f p h a =
+pub adding-more : (l x : List ℕ) (f : ℕ → ℕ) (p v : ℕ) → p < length l → v ≡ f p → Adding l x f p → Adding l (set x p (getD x p 0 + v)) f (p + 1)
+adding-more l x f p v h ev a =
     let n = a .long in
     record {
       long = length-set x p _ ∙ a .long;
@@ -110,11 +112,11 @@ adding-more l x f p h a =
       still = λ i k. getD-set-other x p i _ 0 (omega arith) ∙ a .still i (omega arith);
     }
   where
-    go : (i : ℕ) → i < p + 1 → Dec (i ≡ p) → getD (set x p (getD x p 0 + f p)) i 0 ≡ getD l i 0 + f i
+    go : (i : ℕ) → i < p + 1 → Dec (i ≡ p) → getD (set x p (getD x p 0 + v)) i 0 ≡ getD l i 0 + f i
     go i k (yes e) =
         let n = a .long in
         let s = a .still p (omega arith) in
-        rw e (getD-set-same x p _ 0 (omega arith) ∙ ap (λ (y : ℕ). y + f p) s)
+        rw (e, ← ev) (getD-set-same x p _ 0 (omega arith) ∙ ap (λ (y : ℕ). y + v) s)
     go i k (no ne) = getD-set-other x p i _ 0 ne ∙ a .passed i (omega arith)
 
 pub adding-ends : (n : ℕ) (l x : List ℕ) (f s : ℕ → ℕ) (p g : ℕ) → p ≡ n → Adding l x f p → ((i : ℕ) → i < n → f i ≤ g) → ((i : ℕ) → s i ≡ f i)
@@ -137,11 +139,11 @@ adding-ends n l x f s p g e a b q =
 
 -- the share of an offer, by cases
 module _ (m : List ℕ) (u j : ℕ) where
-  pub offer-other : (word m (201 + 5 * j) ≡ u → ⊥) → (p : ℕ) → offerShare m u j p ≡ 0
+  pub offer-other : (word m (offerPlace j + UNIT) ≡ u → ⊥) → (p : ℕ) → offerShare m u j p ≡ 0
   unfolding offerShare
   offer-other n p = rw (ne-eqb _ _ n)
 
-  pub offer-own : word m (201 + 5 * j) ≡ u → (p : ℕ) → offerShare m u j p ≡ amountAt m j p
+  pub offer-own : word m (offerPlace j + UNIT) ≡ u → (p : ℕ) → offerShare m u j p ≡ amountAt m j p
   unfolding offerShare
   offer-own e p = rw (eq-eqb _ _ e)
 

@@ -8,7 +8,7 @@ use borrow.Author.Tests.{eq-eqb, ne-eqb, lt-ltb, le-ltb, ltb-false}
 use lib.Dec.{eqb, ltb}
 use Rattle.book.specs.Book.{Book}
 use Rattle.book.specs.Refusals.{firstOf}
-use Rattle.book.specs.Layout.{word, decode}
+use Rattle.book.specs.Layout.{PHASE, word, decode}
 use Rattle.book.specs.Clear.{clearChecks}
 
 -- the checks
@@ -17,13 +17,13 @@ module _ (m : List ℕ) (lent : ℕ) where
   unfolding firstOf
   clear-few-rows h = rw (lt-ltb lent 4464 h) refl
 
-  pub clear-rolling : 4464 ≤ lent → word m 3 ≡ 1 → 14 ≡ firstOf (clearChecks (decode m) lent)
+  pub clear-rolling : 4464 ≤ lent → word m PHASE ≡ 1 → 14 ≡ firstOf (clearChecks (decode m) lent)
   unfolding firstOf decode
-  clear-rolling h e = rw (le-ltb lent 4464 h, eq-eqb (word m 3) 1 e) refl
+  clear-rolling h e = rw (le-ltb lent 4464 h, eq-eqb (word m PHASE) 1 e) refl
 
-  pub clear-passes : 4464 ≤ lent → (word m 3 ≡ 1 → ⊥) → 0 ≡ firstOf (clearChecks (decode m) lent)
+  pub clear-passes : 4464 ≤ lent → (word m PHASE ≡ 1 → ⊥) → 0 ≡ firstOf (clearChecks (decode m) lent)
   unfolding firstOf decode
-  clear-passes h e = rw (le-ltb lent 4464 h, ne-eqb (word m 3) 1 e) refl
+  clear-passes h e = rw (le-ltb lent 4464 h, ne-eqb (word m PHASE) 1 e) refl
 
 -- where the checks of a clear give 0, 744 rows are lent
 pub clear-room : (b : Book) (lent : ℕ) → 0 ≡ firstOf (clearChecks b lent) → 4464 ≤ lent

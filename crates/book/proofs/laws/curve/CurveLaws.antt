@@ -21,50 +21,50 @@ use Rattle.book.specs.Fit.{nothing}
 use Rattle.book.specs.Sound.{sound}
 use Rattle.book.specs.Refusals.{firstOf}
 use Rattle.book.specs.Curve.{Drawn, curve, curveRefusal, curveChecks, firstHalf, secondHalf, pointsFrom, points}
-use Rattle.book.specs.Layout.{word, figuresAt, unitAt, decode, enough, netIn}
+use Rattle.book.specs.Layout.{DAYS, UNITS, figurePlace, RAISED, LOWERED, word, figuresAt, decode, laidOut, netIn}
 use Rattle.book.specs.declared.Answer.{Answer}
 use Rattle.book.specs.declared.Answer.the-variants.{Done, Refused}
 use Rattle.book.specs.Contract.{Told, toldBy, soundIn, curveOn, Curved}
 use Rattle.book.specs.inner.Readable.{Netted}
 use Rattle.book.proofs.laws.memory.RangeFacts.{units-held, unit-at}
-use Rattle.book.proofs.laws.answer.MadeLaws.{sound-book, sound-enough, chain-sound, chain-unsound}
+use Rattle.book.proofs.laws.answer.MadeLaws.{sound-book, sound-laid, chain-sound, chain-unsound}
 use Rattle.book.proofs.laws.answer.RefusalLaws.{none-applies}
 use Rattle.book.proofs.laws.sound.SoundLaws.{UnitRanges, Sound, sound-facts}
 use Rattle.book.proofs.laws.sound.FitLaws.{Fits}
 
-days-held : (m : List ℕ) → decode m .rules .days ≡ word m 0
+days-held : (m : List ℕ) → decode m .rules .days ≡ word m DAYS
 unfolding decode
 days-held m = refl
 
 -- the checks by cases
 module _ (m : List ℕ) (u day lent : ℕ) where
-  pub no-such-unit : (In 1 (word m 5) u → ⊥) → 6 ≡ firstOf (curveChecks (decode m) u day lent)
+  pub no-such-unit : (In 1 (word m UNITS) u → ⊥) → 6 ≡ firstOf (curveChecks (decode m) u day lent)
   unfolding firstOf
-  no-such-unit n = rw (units-held m, outside 1 (word m 5) u n)
+  no-such-unit n = rw (units-held m, outside 1 (word m UNITS) u n)
 
-  pub few-points : In 1 (word m 5) u → lent < 48 → 7 ≡ firstOf (curveChecks (decode m) u day lent)
+  pub few-points : In 1 (word m UNITS) u → lent < 48 → 7 ≡ firstOf (curveChecks (decode m) u day lent)
   unfolding firstOf
-  few-points h l = rw (units-held m, inside 1 (word m 5) u h, lt-ltb lent 48 l)
+  few-points h l = rw (units-held m, inside 1 (word m UNITS) u h, lt-ltb lent 48 l)
 
-  pub no-such-day : In 1 (word m 5) u → 48 ≤ lent → word m 0 ≤ day → 10 ≡ firstOf (curveChecks (decode m) u day lent)
+  pub no-such-day : In 1 (word m UNITS) u → 48 ≤ lent → word m DAYS ≤ day → 10 ≡ firstOf (curveChecks (decode m) u day lent)
   unfolding firstOf decode
-  no-such-day h l d = rw (units-held m, inside 1 (word m 5) u h, le-ltb lent 48 l, le-ltb day (word m 0) d)
+  no-such-day h l d = rw (units-held m, inside 1 (word m UNITS) u h, le-ltb lent 48 l, le-ltb day (word m DAYS) d)
 
-  pub drawn : In 1 (word m 5) u → 48 ≤ lent → day < word m 0 → 0 ≡ firstOf (curveChecks (decode m) u day lent)
+  pub drawn : In 1 (word m UNITS) u → 48 ≤ lent → day < word m DAYS → 0 ≡ firstOf (curveChecks (decode m) u day lent)
   unfolding firstOf decode
-  drawn h l d = rw (units-held m, inside 1 (word m 5) u h, le-ltb lent 48 l, lt-ltb day (word m 0) d)
+  drawn h l d = rw (units-held m, inside 1 (word m UNITS) u h, le-ltb lent 48 l, lt-ltb day (word m DAYS) d)
 
 -- the figures of a unit, in memory
-pub figures-at : (m : List ℕ) (u p : ℕ) → In 1 (word m 5) u → p < periods (word m 0) → figuresOf (decode m) u p ≡ figuresAt m (u - 1) p
+pub figures-at : (m : List ℕ) (u p : ℕ) → In 1 (word m UNITS) u → p < periods (word m DAYS) → figuresOf (decode m) u p ≡ figuresAt m (u - 1) p
 figures-at m u p h l =
     ap (λ (x : EnrolledUnit). getD (x .figures) p noFigures) (unit-at m u h)
-    ∙ table-at (periods (word m 0)) (figuresAt m (u - 1)) p noFigures l
+    ∙ table-at (periods (word m DAYS)) (figuresAt m (u - 1)) p noFigures l
 
 -- a sound book's figures come to a net
-pub sound-netted : (m : List ℕ) (k : ℕ) → soundIn m ≡ true → k < word m 5 → Netted m k
+pub sound-netted : (m : List ℕ) (k : ℕ) → soundIn m ≡ true → k < word m UNITS → Netted m k
 sound-netted m k e h = record { held = λ p l. at p l .0; lowered = λ p l. at p l .1 }
   where
-    i : In 1 (word m 5) (k + 1)
+    i : In 1 (word m UNITS) (k + 1)
     i = (omega arith, omega arith)
 
     s : Sound (decode m)
@@ -76,8 +76,8 @@ sound-netted m k e h = record { held = λ p l. at p l .0; lowered = λ p l. at p
     r : UnitRanges (decode m .rules .days) (unitOf (decode m) (k + 1))
     r = each-at (UnitRanges (decode m .rules .days)) (decode m .units) (k + 1 - 1) noUnit (s .formed .units) (rw (units-held m) (omega arith))
 
-    at : (p : ℕ) → p < periods (word m 0) → (word m (1776 + 328 * p + 5 * k) + word m (1777 + 328 * p + 5 * k) ≤ mostCapacity)
-        × (word m (1778 + 328 * p + 5 * k) ≤ word m (1776 + 328 * p + 5 * k))
+    at : (p : ℕ) → p < periods (word m DAYS) → (word m (figurePlace k p) + word m (figurePlace k p + RAISED) ≤ mostCapacity)
+        × (word m (figurePlace k p + LOWERED) ≤ word m (figurePlace k p))
     at p l =
         let lp : p < periods (decode m .rules .days) = rw (days-held m) l in
         let a = f .raising p lp in
@@ -147,7 +147,7 @@ drawing-ends b u p pts₀ pts h g l =
     sym (take-append-drop 48 pts) ∙ ap (λ (x : List ℕ). take 48 pts ++ (x ++ drop 48 pts)) (sym (points-none b u (p + 24))) ∙ f
 
 -- the net in memory is that of the book's figures
-pub net-figures : (m : List ℕ) (k p : ℕ) → k < word m 5 → p < periods (word m 0) → netIn m k p ≡ net (figuresOf (decode m) (k + 1) p)
+pub net-figures : (m : List ℕ) (k p : ℕ) → k < word m UNITS → p < periods (word m DAYS) → netIn m k p ≡ net (figuresOf (decode m) (k + 1) p)
 net-figures m k p h l =
     let q : k ≡ k + 1 - 1 = omega arith in
     ap (λ (x : ℕ). net (figuresAt m x p)) q ∙ ap net (sym (figures-at m (k + 1) p (omega arith, omega arith) l))
@@ -156,7 +156,7 @@ net-figures m k p h l =
 module _ (m pts : List ℕ) (u day : ℕ) where
   on-sound : soundIn m ≡ true → curveOn m u day (length pts) ≡ curve (decode m) u day (length pts)
   unfolding curveOn
-  on-sound e = cond-true (enough m) (curve (decode m) u day (length pts)) _ (sound-enough m e) refl
+  on-sound e = cond-true (laidOut m) (curve (decode m) u day (length pts)) _ (sound-laid m e) refl
 
   pub curved-refused : (r : ℕ) → curveOn m u day (length pts) ≡ record { refusal = r; points = [] } → (r ≡ 0 → ⊥) → Curved m pts u day (Refused r) pts
   curved-refused r e n = record {
@@ -167,13 +167,13 @@ module _ (m pts : List ℕ) (u day : ℕ) where
 
   pub curved-unsound : soundIn m ≡ false → Curved m pts u day (Refused 1) pts
   unfolding soundIn curveOn curve curveRefusal
-  curved-unsound e = curved-refused 1 (go (enough m) (sound (decode m)) refl refl) (λ z. absurd (omega arith))
+  curved-unsound e = curved-refused 1 (go (laidOut m) (sound (decode m)) refl refl) (λ z. absurd (omega arith))
     where
-      go : (a s : Bool) → enough m ≡ a → sound (decode m) ≡ s → curveOn m u day (length pts) ≡ record { refusal = 1; points = [] }
-      go false s ea es = cond-false (enough m) (curve (decode m) u day (length pts)) _ ea refl
-      go true false ea es = cond-true (enough m) (curve (decode m) u day (length pts)) _ ea
+      go : (a s : Bool) → laidOut m ≡ a → sound (decode m) ≡ s → curveOn m u day (length pts) ≡ record { refusal = 1; points = [] }
+      go false s ea es = cond-false (laidOut m) (curve (decode m) u day (length pts)) _ ea refl
+      go true false ea es = cond-true (laidOut m) (curve (decode m) u day (length pts)) _ ea
           (rw (chain-unsound (decode m) (curveChecks (decode m) u day (length pts)) es) refl)
-      go true true ea es = both-ways (sym (and-true (enough m) (sound (decode m)) ea es) ∙ e)
+      go true true ea es = both-ways (sym (and-true (laidOut m) (sound (decode m)) ea es) ∙ e)
 
   pub curved-checked : (r : ℕ) → soundIn m ≡ true → r ≡ firstOf (curveChecks (decode m) u day (length pts)) → (r ≡ 0 → ⊥)
       → Curved m pts u day (Refused r) pts
@@ -197,9 +197,9 @@ module _ (m pts : List ℕ) (u day : ℕ) where
       }
 
 -- what passed checks say
-pub curve-passed : (m : List ℕ) (u day lent : ℕ) → 0 ≡ firstOf (curveChecks (decode m) u day lent) → (In 1 (word m 5) u) × (48 ≤ lent) × (day < word m 0)
+pub curve-passed : (m : List ℕ) (u day lent : ℕ) → 0 ≡ firstOf (curveChecks (decode m) u day lent) → (In 1 (word m UNITS) u) × (48 ≤ lent) × (day < word m DAYS)
 unfolding decode
 curve-passed m u day lent e =
     let t = none-applies (curveChecks (decode m) u day lent) (omega arith, (omega arith, (omega arith, tt))) (sym e) in
     let k : between 1 (length (decode m .units)) u ≡ true = not-false _ (t .0) in
-    (within 1 (word m 5) u (rw (units-held m) at k), ltb-false lent 48 (t .1 .0), ltb-true day (word m 0) (not-false _ (t .1 .1 .0)))
+    (within 1 (word m UNITS) u (rw (units-held m) at k), ltb-false lent 48 (t .1 .0), ltb-true day (word m DAYS) (not-false _ (t .1 .1 .0)))

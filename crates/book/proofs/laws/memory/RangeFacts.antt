@@ -31,42 +31,71 @@ use Rattle.matching.specs.Memory.{orderAt, ordersIn}
 use Rattle.matching.proofs.laws.orders.OrderLaws.{orders-length}
 use Rattle.book.specs.Book.{EnrolledUnit, Book, noUnit, unitOf}
 use Rattle.book.specs.Sound.{headIn, pricesIn, bilateralSides, offerSides, offerIn, orderIn}
-use Rattle.book.specs.Opening.{bookWords}
-use Rattle.book.specs.Layout.{word, unitAt, offerAt, amountAt, decode, enough, ordersPart}
+use Rattle.book.specs.Layout.{
+  DAYS,
+  FLOOR,
+  CEILING,
+  PHASE,
+  GIVEN,
+  UNITS,
+  OFFERS,
+  ORDERS,
+  unitPlace,
+  CAPACITY,
+  ASSET,
+  offerPlace,
+  ordersStart,
+  ordersWords,
+  orderPlace,
+  UNIT,
+  PARTNER,
+  TAKEN,
+  DIRECTION,
+  PERIOD,
+  PRICE,
+  QUANTITY,
+  bookWords,
+  word,
+  unitAt,
+  amountAt,
+  offerAt,
+  ordersPart,
+  decode,
+}
 use Rattle.book.specs.inner.Readable.{Readable, unitFieldsIn, sidesIn}
 
 -- how many units, offers and orders a memory holds
-pub units-held : (m : List ℕ) → length (decode m .units) ≡ word m 5
+pub units-held : (m : List ℕ) → length (decode m .units) ≡ word m UNITS
 unfolding decode
 units-held m = table-length _ _
 
-pub offers-held : (m : List ℕ) → length (decode m .offers) ≡ word m 6
+pub offers-held : (m : List ℕ) → length (decode m .offers) ≡ word m OFFERS
 unfolding decode
 offers-held m = table-length _ _
 
-pub orders-held : (m : List ℕ) → length (decode m .orders) ≡ word m 7
+pub orders-held : (m : List ℕ) → length (decode m .orders) ≡ word m ORDERS
 unfolding decode
-orders-held m = orders-length (ordersPart m) (word m 7)
+orders-held m = orders-length (ordersPart m) (word m ORDERS)
 
 -- the head of a book in memory
 pub record Head (m : List ℕ) : Type 0 where
-  pub days : In 1 mostDays (word m 0)
-  pub prices : word m 1 ≤ word m 2
-  pub ceiling : word m 2 ≤ mostPrice
-  pub phase : word m 3 ≤ 1
-  pub given : word m 4 ≤ 65_535
-  pub units : word m 5 ≤ 64
-  pub offers : word m 6 ≤ 8
-  pub orders : word m 7 ≤ 256
+  pub days : In 1 mostDays (word m DAYS)
+  pub prices : word m FLOOR ≤ word m CEILING
+  pub ceiling : word m CEILING ≤ mostPrice
+  pub phase : word m PHASE ≤ 1
+  pub given : word m GIVEN ≤ 65_535
+  pub units : word m UNITS ≤ 64
+  pub offers : word m OFFERS ≤ 8
+  pub orders : word m ORDERS ≤ 256
 
 pub head-facts : (m : List ℕ) → headIn (decode m) ≡ true → Head m
 unfolding headIn decode
 head-facts m e =
     let t = all-true _ e in
     record {
-      days = within 1 mostDays (word m 0) (t .0);
-      prices = leb-true _ _ (and-left (leb (word m 1) (word m 2)) (leb (word m 2) mostPrice) (t .1 .0));
-      ceiling = leb-true _ _ (and-right (leb (word m 1) (word m 2)) (leb (word m 2) mostPrice) (t .1 .0));
+      days = within 1 mostDays (word m DAYS) (t .0);
+      prices = leb-true _ _ (and-left (leb (word m FLOOR) (word m CEILING)) (leb (word m CEILING) mostPrice) (t .1 .0));
+      ceiling = leb-true _ _ (and-right (leb (word m FLOOR) (word m CEILING)) (leb (word m CEILING) mostPrice) (t .1 .0));
       phase = leb-true _ _ (t .1 .1 .0);
       given = leb-true _ _ (t .1 .1 .1 .0);
       units = rw (units-held m) at (leb-true (length (decode m .units)) 64 (t .1 .1 .1 .1 .0));
@@ -78,7 +107,7 @@ pub head-holds : (m : List ℕ) → Head m → headIn (decode m) ≡ true
 unfolding headIn decode
 head-holds m h =
     holds-all _ (
-      inside 1 mostDays (word m 0) (h .days),
+      inside 1 mostDays (word m DAYS) (h .days),
       (
         and-true _ _ (le-leb _ _ (h .prices)) (le-leb _ _ (h .ceiling)),
         (
@@ -101,23 +130,23 @@ pub head-fails : (m : List ℕ) → (Head m → ⊥) → false ≡ headIn (decod
 head-fails m n = sym (false-by _ (λ e. n (head-facts m e)))
 
 -- a memory that is long enough and whose head is in range can be read
-pub readable : (m : List ℕ) → Head m → bookWords (word m 0) ≤ length m → Readable m
+pub readable : (m : List ℕ) → Head m → bookWords (word m DAYS) ≤ length m → Readable m
 readable m h l =
     record { daysFrom = h .days .0; daysTo = h .days .1; unitsTo = h .units; offersTo = h .offers; ordersTo = h .orders; long = l }
 
 -- the fields of a unit in memory
 pub record UnitFields (m : List ℕ) (k : ℕ) : Type 0 where
-  pub kind : In 1 4 (word m (8 + 3 * k))
-  pub capacity : In 1 mostCapacity (word m (9 + 3 * k))
-  pub asset : word m (10 + 3 * k) ≤ mostEnergy
+  pub kind : In 1 4 (word m (unitPlace k))
+  pub capacity : In 1 mostCapacity (word m (unitPlace k + CAPACITY))
+  pub asset : word m (unitPlace k + ASSET) ≤ mostEnergy
 
 pub unit-facts : (m : List ℕ) (k : ℕ) → unitFieldsIn m k ≡ true → UnitFields m k
 unfolding unitFieldsIn
 unit-facts m k e =
     let t = all-true _ e in
     record {
-      kind = within 1 4 (word m (8 + 3 * k)) (t .0);
-      capacity = within 1 mostCapacity (word m (9 + 3 * k)) (t .1 .0);
+      kind = within 1 4 (word m (unitPlace k)) (t .0);
+      capacity = within 1 mostCapacity (word m (unitPlace k + CAPACITY)) (t .1 .0);
       asset = leb-true _ _ (t .1 .1 .0);
     }
 
@@ -129,17 +158,17 @@ pub unit-fails : (m : List ℕ) (k : ℕ) → (UnitFields m k → ⊥) → false
 unit-fails m k n = sym (false-by _ (λ e. n (unit-facts m k e)))
 
 -- the unit of a number, in memory
-pub unit-at : (m : List ℕ) (u : ℕ) → In 1 (word m 5) u → unitOf (decode m) u ≡ unitAt m (word m 0) (u - 1)
+pub unit-at : (m : List ℕ) (u : ℕ) → In 1 (word m UNITS) u → unitOf (decode m) u ≡ unitAt m (word m DAYS) (u - 1)
 unfolding decode
-unit-at m u h = table-at (word m 5) (unitAt m (word m 0)) (u - 1) noUnit (omega arith)
+unit-at m u h = table-at (word m UNITS) (unitAt m (word m DAYS)) (u - 1) noUnit (omega arith)
 
-pub kind-at : (m : List ℕ) (u : ℕ) → In 1 (word m 5) u → unitOf (decode m) u .kind ≡ word m (8 + 3 * (u - 1))
+pub kind-at : (m : List ℕ) (u : ℕ) → In 1 (word m UNITS) u → unitOf (decode m) u .kind ≡ word m (unitPlace (u - 1))
 kind-at m u h = ap (λ (x : EnrolledUnit). x .kind) (unit-at m u h)
 
-pub generator-is : (m : List ℕ) (u : ℕ) → In 1 (word m 5) u → In 1 2 (word m (8 + 3 * (u - 1))) → true ≡ generator (unitOf (decode m) u .kind)
+pub generator-is : (m : List ℕ) (u : ℕ) → In 1 (word m UNITS) u → In 1 2 (word m (unitPlace (u - 1))) → true ≡ generator (unitOf (decode m) u .kind)
 generator-is m u h k = rw (kind-at m u h) (sym (inside 1 2 _ k))
 
-pub generator-not : (m : List ℕ) (u : ℕ) → In 1 (word m 5) u → (In 1 2 (word m (8 + 3 * (u - 1))) → ⊥) → false ≡ generator (unitOf (decode m) u .kind)
+pub generator-not : (m : List ℕ) (u : ℕ) → In 1 (word m UNITS) u → (In 1 2 (word m (unitPlace (u - 1))) → ⊥) → false ≡ generator (unitOf (decode m) u .kind)
 generator-not m u h k = rw (kind-at m u h) (sym (outside 1 2 _ k))
 
 -- a partner, by cases
@@ -147,15 +176,15 @@ pub sides-alone : (b : Book) (u v : ℕ) → v ≡ 0 → true ≡ sidesIn b u v
 unfolding sidesIn
 sides-alone b u v e = rw (eq-eqb v 0 e)
 
-pub sides-unknown : (m : List ℕ) (u v : ℕ) → (v ≡ 0 → ⊥) → word m 5 < v → false ≡ sidesIn (decode m) u v
+pub sides-unknown : (m : List ℕ) (u v : ℕ) → (v ≡ 0 → ⊥) → word m UNITS < v → false ≡ sidesIn (decode m) u v
 unfolding sidesIn
-sides-unknown m u v n l = rw (ne-eqb v 0 n, units-held m) (rw (outside 1 (word m 5) v (omega arith)))
+sides-unknown m u v n l = rw (ne-eqb v 0 n, units-held m) (rw (outside 1 (word m UNITS) v (omega arith)))
 
-pub sides-known : (m : List ℕ) (u v : ℕ) → (v ≡ 0 → ⊥) → v ≤ word m 5 → bilateralSides (decode m) u v ≡ sidesIn (decode m) u v
+pub sides-known : (m : List ℕ) (u v : ℕ) → (v ≡ 0 → ⊥) → v ≤ word m UNITS → bilateralSides (decode m) u v ≡ sidesIn (decode m) u v
 unfolding sidesIn
-sides-known m u v n l = rw (ne-eqb v 0 n, units-held m) (rw (inside 1 (word m 5) v (omega arith)))
+sides-known m u v n l = rw (ne-eqb v 0 n, units-held m) (rw (inside 1 (word m UNITS) v (omega arith)))
 
-module _ (m : List ℕ) (u v : ℕ) (n : v ≡ 0 → ⊥) (l : v ≤ word m 5) where
+module _ (m : List ℕ) (u v : ℕ) (n : v ≡ 0 → ⊥) (l : v ≤ word m UNITS) where
   pub sides-no-generator : generator (unitOf (decode m) u .kind) ≡ false → false ≡ sidesIn (decode m) u v
   sides-no-generator e = sym (and-left-false (generator (unitOf (decode m) u .kind)) (not (generator (unitOf (decode m) v .kind))) e)
       ∙ sides-known m u v n l
@@ -169,42 +198,42 @@ module _ (m : List ℕ) (u v : ℕ) (n : v ≡ 0 → ⊥) (l : v ≤ word m 5) w
       ∙ sides-known m u v n l
 
 -- the order at a place of the orders' part, word by word
-pub order-word : (m : List ℕ) (i : ℕ) → i < 1536 → getD (ordersPart m) i 0 ≡ word m (240 + i)
-order-word m i h = getD-take 1536 (drop 240 m) i 0 h ∙ getD-drop 240 m i 0
+pub order-word : (m : List ℕ) (i : ℕ) → i < ordersWords → getD (ordersPart m) i 0 ≡ word m (ordersStart + i)
+order-word m i h = getD-take ordersWords (drop ordersStart m) i 0 h ∙ getD-drop ordersStart m i 0
 
 -- an open offer in memory
 pub record OfferWords (m : List ℕ) (j : ℕ) : Type 0 where
-  pub number : In 1 (word m 4) (word m (200 + 5 * j))
-  pub unit : In 1 (word m 5) (word m (201 + 5 * j))
-  pub price : In (word m 1) (word m 2) (word m (203 + 5 * j))
-  pub taken : word m (204 + 5 * j) ≤ 1
-  pub whole : In 1 mostEnergy (total (table (periods (word m 0)) (amountAt m j)))
-  pub sides : sidesIn (decode m) (word m (201 + 5 * j)) (word m (202 + 5 * j)) ≡ true
+  pub number : In 1 (word m GIVEN) (word m (offerPlace j))
+  pub unit : In 1 (word m UNITS) (word m (offerPlace j + UNIT))
+  pub price : In (word m FLOOR) (word m CEILING) (word m (offerPlace j + PRICE))
+  pub taken : word m (offerPlace j + TAKEN) ≤ 1
+  pub whole : In 1 mostEnergy (total (table (periods (word m DAYS)) (amountAt m j)))
+  pub sides : sidesIn (decode m) (word m (offerPlace j + UNIT)) (word m (offerPlace j + PARTNER)) ≡ true
 
-pub offer-facts : (m : List ℕ) (j : ℕ) → offerIn (decode m) (offerAt m (word m 0) j) ≡ true → OfferWords m j
+pub offer-facts : (m : List ℕ) (j : ℕ) → offerIn (decode m) (offerAt m (word m DAYS) j) ≡ true → OfferWords m j
 unfolding offerIn decode sidesIn
 offer-facts m j e =
     let t = all-true _ e in
     record {
-      number = within 1 (word m 4) _ (t .0);
-      unit = within 1 (word m 5) _ (rw (units-held m) at (t .1 .0));
-      price = within (word m 1) (word m 2) _ (t .1 .1 .1 .0);
+      number = within 1 (word m GIVEN) _ (t .0);
+      unit = within 1 (word m UNITS) _ (rw (units-held m) at (t .1 .0));
+      price = within (word m FLOOR) (word m CEILING) _ (t .1 .1 .1 .0);
       taken = leb-true _ _ (t .1 .1 .1 .1 .0);
       whole = within 1 mostEnergy _ (t .1 .1 .1 .1 .1 .1 .0);
       sides = t .1 .1 .0;
     }
 
-pub offer-holds : (m : List ℕ) (j : ℕ) → OfferWords m j → offerIn (decode m) (offerAt m (word m 0) j) ≡ true
+pub offer-holds : (m : List ℕ) (j : ℕ) → OfferWords m j → offerIn (decode m) (offerAt m (word m DAYS) j) ≡ true
 unfolding offerIn decode sidesIn
 offer-holds m j w =
     holds-all _ (
-      inside 1 (word m 4) _ (w .number),
+      inside 1 (word m GIVEN) _ (w .number),
       (
-        rw (units-held m) (inside 1 (word m 5) _ (w .unit)),
+        rw (units-held m) (inside 1 (word m UNITS) _ (w .unit)),
         (
           w .sides,
           (
-            inside (word m 1) (word m 2) _ (w .price),
+            inside (word m FLOOR) (word m CEILING) _ (w .price),
             (
               le-leb _ _ (w .taken),
               (
@@ -217,35 +246,35 @@ offer-holds m j w =
       ),
     )
 
-pub offer-fails : (m : List ℕ) (j : ℕ) → (OfferWords m j → ⊥) → false ≡ offerIn (decode m) (offerAt m (word m 0) j)
+pub offer-fails : (m : List ℕ) (j : ℕ) → (OfferWords m j → ⊥) → false ≡ offerIn (decode m) (offerAt m (word m DAYS) j)
 offer-fails m j n = sym (false-by _ (λ e. n (offer-facts m j e)))
 
 -- the sides decide where all else is in range
-pub offer-by-sides : (m : List ℕ) (j : ℕ) → In 1 (word m 4) (word m (200 + 5 * j)) → In 1 (word m 5) (word m (201 + 5 * j))
-    → In (word m 1) (word m 2) (word m (203 + 5 * j))
-    → word m (204 + 5 * j) ≤ 1 → In 1 mostEnergy (total (table (periods (word m 0)) (amountAt m j)))
-    → sidesIn (decode m) (word m (201 + 5 * j)) (word m (202 + 5 * j)) ≡ offerIn (decode m) (offerAt m (word m 0) j)
-offer-by-sides m j n u p t w = go (sidesIn (decode m) (word m (201 + 5 * j)) (word m (202 + 5 * j))) refl
+pub offer-by-sides : (m : List ℕ) (j : ℕ) → In 1 (word m GIVEN) (word m (offerPlace j)) → In 1 (word m UNITS) (word m (offerPlace j + UNIT))
+    → In (word m FLOOR) (word m CEILING) (word m (offerPlace j + PRICE))
+    → word m (offerPlace j + TAKEN) ≤ 1 → In 1 mostEnergy (total (table (periods (word m DAYS)) (amountAt m j)))
+    → sidesIn (decode m) (word m (offerPlace j + UNIT)) (word m (offerPlace j + PARTNER)) ≡ offerIn (decode m) (offerAt m (word m DAYS) j)
+offer-by-sides m j n u p t w = go (sidesIn (decode m) (word m (offerPlace j + UNIT)) (word m (offerPlace j + PARTNER))) refl
   where
-    go : (s : Bool) → sidesIn (decode m) (word m (201 + 5 * j)) (word m (202 + 5 * j)) ≡ s
-        → sidesIn (decode m) (word m (201 + 5 * j)) (word m (202 + 5 * j)) ≡ offerIn (decode m) (offerAt m (word m 0) j)
+    go : (s : Bool) → sidesIn (decode m) (word m (offerPlace j + UNIT)) (word m (offerPlace j + PARTNER)) ≡ s
+        → sidesIn (decode m) (word m (offerPlace j + UNIT)) (word m (offerPlace j + PARTNER)) ≡ offerIn (decode m) (offerAt m (word m DAYS) j)
     go true e = e ∙ sym (offer-holds m j (record { number = n; unit = u; price = p; taken = t; whole = w; sides = e }))
     go false e = e ∙ offer-fails m j (λ f. not-both _ (f .sides) e)
 
 -- an open order in memory
 pub record OrderWords (m : List ℕ) (k : ℕ) : Type 0 where
-  pub number : In 1 (word m 4) (word m (240 + 6 * k))
-  pub unit : In 1 (word m 5) (word m (240 + 6 * k + 1))
-  pub direction : word m (240 + 6 * k + 2) ≤ 1
-  pub period : word m (240 + 6 * k + 3) < 24 * word m 0
-  pub price : In (word m 1) (word m 2) (word m (240 + 6 * k + 4))
-  pub quantity : In 1 mostEnergy (word m (240 + 6 * k + 5))
+  pub number : In 1 (word m GIVEN) (word m (orderPlace k))
+  pub unit : In 1 (word m UNITS) (word m (orderPlace k + UNIT))
+  pub direction : word m (orderPlace k + DIRECTION) ≤ 1
+  pub period : word m (orderPlace k + PERIOD) < 24 * word m DAYS
+  pub price : In (word m FLOOR) (word m CEILING) (word m (orderPlace k + PRICE))
+  pub quantity : In 1 mostEnergy (word m (orderPlace k + QUANTITY))
 
 module _ (m : List ℕ) (k : ℕ) (h : k < 256) where
-  at : (i : ℕ) → i < 6 → getD (ordersPart m) (6 * k + i) 0 ≡ word m (240 + 6 * k + i)
+  at : (i : ℕ) → i < 6 → getD (ordersPart m) (6 * k + i) 0 ≡ word m (orderPlace k + i)
   at i l = order-word m (6 * k + i) (omega arith) ∙ ap (word m) (omega arith)
 
-  at0 : getD (ordersPart m) (6 * k) 0 ≡ word m (240 + 6 * k)
+  at0 : getD (ordersPart m) (6 * k) 0 ≡ word m (orderPlace k)
   at0 = order-word m (6 * k) (omega arith)
 
   pub order-facts : orderIn (decode m) (orderAt (ordersPart m) k) ≡ true → OrderWords m k
@@ -253,28 +282,28 @@ module _ (m : List ℕ) (k : ℕ) (h : k < 256) where
   order-facts e =
       let t = all-true _ e in
       record {
-        number = within 1 (word m 4) _ (rw at0 at (t .0));
-        unit = within 1 (word m 5) _ (rw (units-held m, at 1 (omega arith)) at (t .1 .0));
-        direction = leb-true _ _ (rw (at 2 (omega arith)) at (t .1 .1 .0));
-        period = ltb-true _ _ (rw (at 3 (omega arith)) at (t .1 .1 .1 .0));
-        price = within (word m 1) (word m 2) _ (rw (at 4 (omega arith)) at (t .1 .1 .1 .1 .0));
-        quantity = within 1 mostEnergy _ (rw (at 5 (omega arith)) at (t .1 .1 .1 .1 .1 .0));
+        number = within 1 (word m GIVEN) _ (rw at0 at (t .0));
+        unit = within 1 (word m UNITS) _ (rw (units-held m, at UNIT (omega arith)) at (t .1 .0));
+        direction = leb-true _ _ (rw (at DIRECTION (omega arith)) at (t .1 .1 .0));
+        period = ltb-true _ _ (rw (at PERIOD (omega arith)) at (t .1 .1 .1 .0));
+        price = within (word m FLOOR) (word m CEILING) _ (rw (at PRICE (omega arith)) at (t .1 .1 .1 .1 .0));
+        quantity = within 1 mostEnergy _ (rw (at QUANTITY (omega arith)) at (t .1 .1 .1 .1 .1 .0));
       }
 
   pub order-holds : OrderWords m k → orderIn (decode m) (orderAt (ordersPart m) k) ≡ true
   unfolding orderIn decode
   order-holds w =
       holds-all _ (
-        rw at0 (inside 1 (word m 4) _ (w .number)),
+        rw at0 (inside 1 (word m GIVEN) _ (w .number)),
         (
-          rw (units-held m, at 1 (omega arith)) (inside 1 (word m 5) _ (w .unit)),
+          rw (units-held m, at UNIT (omega arith)) (inside 1 (word m UNITS) _ (w .unit)),
           (
-            rw (at 2 (omega arith)) (le-leb _ _ (w .direction)),
+            rw (at DIRECTION (omega arith)) (le-leb _ _ (w .direction)),
             (
-              rw (at 3 (omega arith)) (lt-ltb _ _ (w .period)),
+              rw (at PERIOD (omega arith)) (lt-ltb _ _ (w .period)),
               (
-                rw (at 4 (omega arith)) (inside (word m 1) (word m 2) _ (w .price)),
-                (rw (at 5 (omega arith)) (inside 1 mostEnergy _ (w .quantity)), tt),
+                rw (at PRICE (omega arith)) (inside (word m FLOOR) (word m CEILING) _ (w .price)),
+                (rw (at QUANTITY (omega arith)) (inside 1 mostEnergy _ (w .quantity)), tt),
               ),
             ),
           ),
@@ -285,10 +314,10 @@ module _ (m : List ℕ) (k : ℕ) (h : k < 256) where
   order-fails n = sym (false-by _ (λ e. n (order-facts e)))
 
 -- a test of each open offer and order, by places
-pub offers-every : (m : List ℕ) → every (offerIn (decode m)) (decode m .offers) ≡ all (word m 6) (λ j. offerIn (decode m) (offerAt m (word m 0) j))
+pub offers-every : (m : List ℕ) → every (offerIn (decode m)) (decode m .offers) ≡ all (word m OFFERS) (λ j. offerIn (decode m) (offerAt m (word m DAYS) j))
 unfolding decode
-offers-every m = every-table (offerIn (decode m)) (word m 6) (offerAt m (word m 0))
+offers-every m = every-table (offerIn (decode m)) (word m OFFERS) (offerAt m (word m DAYS))
 
-pub orders-every : (m : List ℕ) → every (orderIn (decode m)) (decode m .orders) ≡ all (word m 7) (λ k. orderIn (decode m) (orderAt (ordersPart m) k))
+pub orders-every : (m : List ℕ) → every (orderIn (decode m)) (decode m .orders) ≡ all (word m ORDERS) (λ k. orderIn (decode m) (orderAt (ordersPart m) k))
 unfolding decode ordersIn
-orders-every m = every-table (orderIn (decode m)) (word m 7) (orderAt (ordersPart m))
+orders-every m = every-table (orderIn (decode m)) (word m ORDERS) (orderAt (ordersPart m))

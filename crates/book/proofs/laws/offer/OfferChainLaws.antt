@@ -16,7 +16,7 @@ use Rattle.measures.proofs.RangeLaws.{In, within}
 use Rattle.limits.specs.Units.{periods}
 use Rattle.book.specs.Book.{Book, known}
 use Rattle.book.specs.Sound.{energyIn}
-use Rattle.book.specs.Layout.{word, decode}
+use Rattle.book.specs.Layout.{DAYS, UNITS, OFFERS, word, decode}
 use Rattle.book.specs.Refusals.{
   Check,
   firstOf,
@@ -97,19 +97,19 @@ module _ (b : Book) (u v q : ℕ) (l : List ℕ) where
 
 -- what the first part leaves
 pub record Terms (m : List ℕ) (u v : ℕ) (l : List ℕ) : Type 0 where
-  pub unit : In 1 (word m 5) u
-  pub partner : v ≤ word m 5
-  pub whole : length l ≡ 24 * word m 0
+  pub unit : In 1 (word m UNITS) u
+  pub partner : v ≤ word m UNITS
+  pub whole : length l ≡ 24 * word m DAYS
   pub energy : In 1 mostEnergy (total l)
 
-amounts-are : (m l : List ℕ) → not (eqb (length l) (periods (decode m .rules .days)) && energyIn (total l)) ≡ false → (length l ≡ 24 * word m 0)
+amounts-are : (m l : List ℕ) → not (eqb (length l) (periods (decode m .rules .days)) && energyIn (total l)) ≡ false → (length l ≡ 24 * word m DAYS)
     × In 1 mostEnergy (total l)
 unfolding decode
 amounts-are m l e =
-    let t : (eqb (length l) (24 * word m 0) && energyIn (total l)) ≡ true = not-false _ e in (
-      eqb-true (length l) (24 * word m 0) (and-left (eqb (length l) (24 * word m 0)) (energyIn (total l)) t),
+    let t : (eqb (length l) (24 * word m DAYS) && energyIn (total l)) ≡ true = not-false _ e in (
+      eqb-true (length l) (24 * word m DAYS) (and-left (eqb (length l) (24 * word m DAYS)) (energyIn (total l)) t),
       within 1 mostEnergy (total l)
-          (and-right (eqb (length l) (24 * word m 0)) (energyIn (total l)) t),
+          (and-right (eqb (length l) (24 * word m DAYS)) (energyIn (total l)) t),
     )
 
 pub terms-left : (m : List ℕ) (u v q : ℕ) (l : List ℕ) (r : ℕ) → r ≡ firstOf (termsOf (decode m) u v q l) → r ≡ 0 → Terms m u v l
@@ -118,18 +118,18 @@ terms-left m u v q l r e z =
     let k : known (decode m) u ≡ true = not-false _ (t .0) in
     let a = amounts-are m l (t .1 .1 .1 .0) in
     record {
-      unit = within 1 (word m 5) u (rw (units-held m) at k);
-      partner = go (t .1 .0) (decLt (word m 5) v);
+      unit = within 1 (word m UNITS) u (rw (units-held m) at k);
+      partner = go (t .1 .0) (decLt (word m UNITS) v);
       whole = a .0;
       energy = a .1;
     }
   where
-    go : (not (eqb v 0) && not (known (decode m) v)) ≡ false → Dec (word m 5 < v) → v ≤ word m 5
+    go : (not (eqb v 0) && not (known (decode m) v)) ≡ false → Dec (word m UNITS < v) → v ≤ word m UNITS
     go f (yes h) = absurd (not-both _ (partner-not m v h) f)
     go f (no h) = omega arith
 
 -- where the checks of an offer give 0 there is a place, and an amount for each period
-pub offer-passed : (m : List ℕ) (u v q : ℕ) (l : List ℕ) → 0 ≡ firstOf (offerChecks (decode m) u v q l) → (word m 6 < 8) × (length l ≡ 24 * word m 0)
+pub offer-passed : (m : List ℕ) (u v q : ℕ) (l : List ℕ) → 0 ≡ firstOf (offerChecks (decode m) u v q l) → (word m OFFERS < 8) × (length l ≡ 24 * word m DAYS)
 offer-passed m u v q l e =
     let t = first-passed (offerChecks (decode m) u v q l) refl (sym e) in
     let f : length (decode m .offers) < 8 = leb-false 8 (length (decode m .offers)) (t .1 .1 .1 .1 .1 .0) in

@@ -14,7 +14,7 @@ use Rattle.measures.proofs.RangeLaws.{In}
 use Rattle.book.specs.Book.{noUnit}
 use Rattle.book.specs.Fit.{unitFits}
 use Rattle.book.specs.Sound.{sound, unitIn}
-use Rattle.book.specs.Layout.{word, decode, unitAt}
+use Rattle.book.specs.Layout.{DAYS, UNITS, word, unitAt, decode}
 use Rattle.book.specs.inner.Readable.{Ranged, unitFieldsIn, marksIn, declared, Fitted, small}
 use Rattle.book.specs.Refusals.{firstOf}
 use Rattle.book.specs.Contract.{soundIn}
@@ -26,14 +26,14 @@ use Rattle.book.proofs.laws.offer.OfferChainLaws.{fitOf}
 
 module _ (m : List ℕ) (s : soundIn m ≡ true) where
   -- each unit is in range, with today's directions
-  unit-in : (k : ℕ) → k < word m 5 → unitIn (word m 0) (unitAt m (word m 0) k) ≡ true
+  unit-in : (k : ℕ) → k < word m UNITS → unitIn (word m DAYS) (unitAt m (word m DAYS) k) ≡ true
   unfolding sound decode
   unit-in k h =
       let t = all-true _ (sound-book m s) in
       let l : k < length (decode m .units) = omega (arith, units-held m) in
-      rw (table-at (word m 5) (unitAt m (word m 0)) k noUnit h) at (every-at (unitIn (word m 0)) (decode m .units) k noUnit (t .1 .0) l)
+      rw (table-at (word m UNITS) (unitAt m (word m DAYS)) k noUnit h) at (every-at (unitIn (word m DAYS)) (decode m .units) k noUnit (t .1 .0) l)
 
-  fields : (k : ℕ) → k < word m 5 → unitFieldsIn m k ≡ true
+  fields : (k : ℕ) → k < word m UNITS → unitFieldsIn m k ≡ true
   unfolding unitIn unitFieldsIn
   fields k h = let t = all-true _ (unit-in k h) in holds-all _ (t .0, (t .1 .0, (t .1 .1 .0, tt)))
 
@@ -41,9 +41,9 @@ module _ (m : List ℕ) (s : soundIn m ≡ true) where
   unfolding sound
   sound-ranged =
       let t = all-true _ (sound-book m s) in
-      record { readable = sound-readable m s; units = all-by (word m 5) (unitFieldsIn m) fields; offers = t .1 .1 .0; orders = t .1 .1 .1 .0 }
+      record { readable = sound-readable m s; units = all-by (word m UNITS) (unitFieldsIn m) fields; offers = t .1 .1 .0; orders = t .1 .1 .1 .0 }
 
-  module _ (u : ℕ) (h : In 1 (word m 5) u) where
+  module _ (u : ℕ) (h : In 1 (word m UNITS) u) where
     pub sound-marks : marksIn (decode m) u ≡ true
     unfolding marksIn unitIn
     sound-marks = let t = all-true _ (unit-in (u - 1) (omega arith)) in rw (unit-at m u h) (t .1 .1 .1 .1 .0)

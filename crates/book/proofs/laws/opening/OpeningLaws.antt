@@ -20,8 +20,24 @@ use Rattle.book.specs.Book.{rulesOf, Book}
 use Rattle.book.specs.Sound.{pricesIn}
 use Rattle.book.specs.Refusals.{firstOf, badOpening}
 use Rattle.book.proofs.laws.answer.RefusalLaws.{none-applies}
-use Rattle.book.specs.Opening.{bookWords, wordsFor, fresh, tooShort, openingRefusal}
-use Rattle.book.specs.Layout.{word, decode}
+use Rattle.book.specs.Opening.{wordsFor, fresh, tooShort, openingRefusal}
+use Rattle.book.specs.Layout.{
+  DAYS,
+  FLOOR,
+  CEILING,
+  PHASE,
+  GIVEN,
+  UNITS,
+  OFFERS,
+  ORDERS,
+  LAYOUT,
+  layoutNumber,
+  figuresStart,
+  dayWords,
+  bookWords,
+  word,
+  decode,
+}
 use Rattle.book.specs.Contract.{Told, toldBy, Opened}
 
 -- the published length by cases
@@ -61,15 +77,20 @@ opened-refused m days floor ceiling r e n = record {
   answer = rw (e, ne-eqb r 0 n) refl;
   refused = λ h. refl;
   accepted = λ h. absurd (n (sym e ∙ h));
+  laid = λ h. absurd (n (sym e ∙ h));
   past = refl;
   long = refl;
 }
 
--- eight words at the front
-pub headed : (m : List ℕ) (a b c : ℕ) → 1776 ≤ length m
-    → decode (set (set (set (set (set (set (set (set m 0 a) 1 b) 2 c) 3 0) 4 0) 5 0) 6 0) 7 0) ≡ fresh (rulesOf a b c)
+-- nine words at the front
+abbrev pub headWritten : List ℕ → ℕ → ℕ → ℕ → List ℕ
+headWritten m a b c =
+    set (set (set (set (set (set (set (set (set m DAYS a) FLOOR b) CEILING c) PHASE 0) GIVEN 0) UNITS 0) OFFERS 0) ORDERS 0) LAYOUT layoutNumber
+
+pub headed : (m : List ℕ) (a b c : ℕ) → figuresStart ≤ length m → (decode (headWritten m a b c) ≡ fresh (rulesOf a b c)) × (word (headWritten m a b c) LAYOUT
+    ≡ layoutNumber)
 unfolding decode tableFrom ordersIn
-headed (x0 ∷ x1 ∷ x2 ∷ x3 ∷ x4 ∷ x5 ∷ x6 ∷ x7 ∷ m) a b c h = refl
+headed (x0 ∷ x1 ∷ x2 ∷ x3 ∷ x4 ∷ x5 ∷ x6 ∷ x7 ∷ x8 ∷ m) a b c h = (refl, refl)
 headed [] a b c h = absurd (omega arith)
 headed (x0 ∷ []) a b c h = absurd (omega arith)
 headed (x0 ∷ x1 ∷ []) a b c h = absurd (omega arith)
@@ -78,35 +99,39 @@ headed (x0 ∷ x1 ∷ x2 ∷ x3 ∷ []) a b c h = absurd (omega arith)
 headed (x0 ∷ x1 ∷ x2 ∷ x3 ∷ x4 ∷ []) a b c h = absurd (omega arith)
 headed (x0 ∷ x1 ∷ x2 ∷ x3 ∷ x4 ∷ x5 ∷ []) a b c h = absurd (omega arith)
 headed (x0 ∷ x1 ∷ x2 ∷ x3 ∷ x4 ∷ x5 ∷ x6 ∷ []) a b c h = absurd (omega arith)
+headed (x0 ∷ x1 ∷ x2 ∷ x3 ∷ x4 ∷ x5 ∷ x6 ∷ x7 ∷ []) a b c h = absurd (omega arith)
 
 -- a store before place n does not touch what stands from n on
 past : (n i v : ℕ) (l k : List ℕ) → i < n → drop n l ≡ drop n k → drop n (set l i v) ≡ drop n k
 past n i v l k h e = drop-set-lt n l i v h ∙ e
 
-pub head-past : (n : ℕ) (m : List ℕ) (a b c : ℕ) → 8 ≤ n → drop n (set (set (set (set (set (set (set (set m 0 a) 1 b) 2 c) 3 0) 4 0) 5 0) 6 0) 7 0)
-    ≡ drop n m
+pub head-past : (n : ℕ) (m : List ℕ) (a b c : ℕ) → LAYOUT < n → drop n (headWritten m a b c) ≡ drop n m
 head-past n m a b c h =
-    let l0 = set m 0 a in
-    let l1 = set l0 1 b in
-    let l2 = set l1 2 c in
-    let l3 = set l2 3 0 in
-    let l4 = set l3 4 0 in
-    let l5 = set l4 5 0 in
-    let l6 = set l5 6 0 in
-    past n 7 0 l6 m (omega arith) (past n 6 0 l5 m (omega arith) (past n 5 0 l4 m (omega arith) (past n 4 0 l3 m (omega arith)
-    (past n 3 0 l2 m (omega arith) (past n 2 c l1 m (omega arith) (past n 1 b l0 m (omega arith) (past n 0 a m m (omega arith) refl)))))))
+    let l0 = set m DAYS a in
+    let l1 = set l0 FLOOR b in
+    let l2 = set l1 CEILING c in
+    let l3 = set l2 PHASE 0 in
+    let l4 = set l3 GIVEN 0 in
+    let l5 = set l4 UNITS 0 in
+    let l6 = set l5 OFFERS 0 in
+    let l7 = set l6 ORDERS 0 in
+    past n LAYOUT layoutNumber l7 m h (past n ORDERS 0 l6 m (omega arith) (past n OFFERS 0 l5 m (omega arith) (past n UNITS 0 l4 m (omega arith)
+    (past n GIVEN 0 l3 m (omega arith) (past n PHASE 0 l2 m (omega arith) (past n CEILING c l1 m (omega arith) (past n FLOOR b l0 m (omega arith)
+    (past n DAYS a m m (omega arith) refl))))))))
 
--- what is kept behind 1776 is kept behind the whole book
-pub past-book : (days : ℕ) (m m′ : List ℕ) → drop 1776 m′ ≡ drop 1776 m → drop (bookWords days) m′ ≡ drop (bookWords days) m
+-- what is kept from the figures on is kept behind the whole book
+past-book : (days : ℕ) (m m′ : List ℕ) → drop figuresStart m′ ≡ drop figuresStart m → drop (bookWords days) m′ ≡ drop (bookWords days) m
 past-book days m m′ e =
-    sym (drop-drop (7872 * days) 1776 m′) ∙ ap (drop (7872 * days)) e ∙ drop-drop (7872 * days) 1776 m
+    sym (drop-drop (dayWords * days) figuresStart m′) ∙ ap (drop (dayWords * days)) e ∙ drop-drop (dayWords * days) figuresStart m
 
 pub opened-fresh : (m : List ℕ) (days floor ceiling : ℕ) (m′ : List ℕ) → openingRefusal (length m) (rulesOf days floor ceiling) ≡ 0
-    → decode m′ ≡ fresh (rulesOf days floor ceiling) → drop 1776 m′ ≡ drop 1776 m → length m′ ≡ length m → Opened m (rulesOf days floor ceiling) (Done 0 0) m′
-opened-fresh m days floor ceiling m′ e d p l = record {
+    → decode m′ ≡ fresh (rulesOf days floor ceiling) → word m′ LAYOUT ≡ layoutNumber → drop figuresStart m′ ≡ drop figuresStart m
+    → length m′ ≡ length m → Opened m (rulesOf days floor ceiling) (Done 0 0) m′
+opened-fresh m days floor ceiling m′ e d y p l = record {
   answer = rw e refl;
   refused = λ h. absurd (h e);
   accepted = λ h. d;
+  laid = λ h. y;
   past = past-book days m m′ p;
   long = l;
 }

@@ -31,7 +31,24 @@ use Rattle.book.specs.Refusals.{
   numbersUsed,
   markedAgainst,
 }
-use Rattle.book.specs.Layout.{word, decode, ordersPart}
+use Rattle.book.specs.Layout.{
+  DAYS,
+  FLOOR,
+  CEILING,
+  PHASE,
+  GIVEN,
+  UNITS,
+  ORDERS,
+  orderPlace,
+  UNIT,
+  DIRECTION,
+  PERIOD,
+  figurePlace,
+  MARK,
+  word,
+  ordersPart,
+  decode,
+}
 use Rattle.book.specs.Order.{orderChecks}
 use Rattle.book.specs.inner.Ordering.{nameChecks, dayChecks, orderFitChecks, NameChecked, ofUnitAt, againstAt}
 use Rattle.book.proofs.laws.memory.RangeFacts.{units-held, orders-held, order-word}
@@ -74,48 +91,49 @@ next-part (c ∷ cs) ds r n z h = go (c .applies) refl (λ e. next-part cs ds r 
 
 -- the first part, by cases
 module _ (m : List ℕ) (u d p price q lent : ℕ) where
-  unknown-no : In 1 (word m 5) u → unknownUnit (decode m) u .applies ≡ false
-  unknown-no h = rw (units-held m, inside 1 (word m 5) u h) refl
+  unknown-no : In 1 (word m UNITS) u → unknownUnit (decode m) u .applies ≡ false
+  unknown-no h = rw (units-held m, inside 1 (word m UNITS) u h) refl
 
-  price-no : In (word m 1) (word m 2) price → badPrice (decode m) price .applies ≡ false
+  price-no : In (word m FLOOR) (word m CEILING) price → badPrice (decode m) price .applies ≡ false
   unfolding decode
-  price-no h = rw (inside (word m 1) (word m 2) price h) refl
+  price-no h = rw (inside (word m FLOOR) (word m CEILING) price h) refl
 
-  price-yes : (In (word m 1) (word m 2) price → ⊥) → badPrice (decode m) price .applies ≡ true
+  price-yes : (In (word m FLOOR) (word m CEILING) price → ⊥) → badPrice (decode m) price .applies ≡ true
   unfolding decode
-  price-yes n = rw (outside (word m 1) (word m 2) price n) refl
+  price-yes n = rw (outside (word m FLOOR) (word m CEILING) price n) refl
 
-  period-yes : 24 * word m 0 ≤ p → badPeriod (decode m) p .applies ≡ true
+  period-yes : 24 * word m DAYS ≤ p → badPeriod (decode m) p .applies ≡ true
   unfolding decode
-  period-yes n = rw (le-ltb p (24 * word m 0) n) refl
+  period-yes n = rw (le-ltb p (24 * word m DAYS) n) refl
 
   quantity-no : In 1 mostEnergy q → badQuantity q .applies ≡ false
   quantity-no h = rw (inside 1 mostEnergy q h) refl
 
-  period-no : p < 24 * word m 0 → badPeriod (decode m) p .applies ≡ false
+  period-no : p < 24 * word m DAYS → badPeriod (decode m) p .applies ≡ false
   unfolding decode
-  period-no h = rw (lt-ltb p (24 * word m 0) h) refl
+  period-no h = rw (lt-ltb p (24 * word m DAYS) h) refl
 
   refused : (r : ℕ) → (r ≡ 0 → ⊥) → r ≡ firstOf (nameChecks (decode m) u d p price q lent) → NameChecked m u d p price q lent r
   refused r n e = record { answer = e; named = λ z. absurd (n z) }
 
-  pub names-unit : (In 1 (word m 5) u → ⊥) → NameChecked m u d p price q lent 6
+  pub names-unit : (In 1 (word m UNITS) u → ⊥) → NameChecked m u d p price q lent 6
   unfolding nameChecks
-  names-unit n = refused 6 (omega arith) (applies-first (unknownUnit (decode m) u) _ (rw (units-held m, outside 1 (word m 5) u n) refl))
+  names-unit n = refused 6 (omega arith) (applies-first (unknownUnit (decode m) u) _ (rw (units-held m, outside 1 (word m UNITS) u n) refl))
 
-  pub names-rows : In 1 (word m 5) u → lent < 4464 → NameChecked m u d p price q lent 7
+  pub names-rows : In 1 (word m UNITS) u → lent < 4464 → NameChecked m u d p price q lent 7
   unfolding nameChecks
   names-rows h l = refused 7 (omega arith) (passes-first (unknownUnit (decode m) u) _ 7 (unknown-no h)
       (applies-first (fewRows lent) _ (lt-ltb lent 4464 l)))
 
-  pub names-price : In 1 (word m 5) u → 4464 ≤ lent → (In (word m 1) (word m 2) price → ⊥) → NameChecked m u d p price q lent 8
+  pub names-price : In 1 (word m UNITS) u → 4464 ≤ lent → (In (word m FLOOR) (word m CEILING) price → ⊥) → NameChecked m u d p price q lent 8
   unfolding nameChecks
   names-price h l n =
       refused 8 (omega arith)
       (passes-first (unknownUnit (decode m) u) _ 8 (unknown-no h)
       (passes-first (fewRows lent) _ 8 (le-ltb lent 4464 l) (applies-first (badPrice (decode m) price) _ (price-yes n))))
 
-  pub names-energy : In 1 (word m 5) u → 4464 ≤ lent → In (word m 1) (word m 2) price → (In 1 mostEnergy q → ⊥) → NameChecked m u d p price q lent 9
+  pub names-energy : In 1 (word m UNITS) u → 4464 ≤ lent → In (word m FLOOR) (word m CEILING) price → (In 1 mostEnergy q → ⊥)
+      → NameChecked m u d p price q lent 9
   unfolding nameChecks
   names-energy h l w n =
       refused 9 (omega arith)
@@ -123,7 +141,7 @@ module _ (m : List ℕ) (u d p price q lent : ℕ) where
       (passes-first (fewRows lent) _ 9 (le-ltb lent 4464 l)
       (passes-first (badPrice (decode m) price) _ 9 (price-no w) (applies-first (badQuantity q) _ (rw (outside 1 mostEnergy q n) refl)))))
 
-  pub names-period : In 1 (word m 5) u → 4464 ≤ lent → In (word m 1) (word m 2) price → In 1 mostEnergy q → 24 * word m 0 ≤ p
+  pub names-period : In 1 (word m UNITS) u → 4464 ≤ lent → In (word m FLOOR) (word m CEILING) price → In 1 mostEnergy q → 24 * word m DAYS ≤ p
       → NameChecked m u d p price q lent 10
   unfolding nameChecks
   names-period h l w e n =
@@ -133,7 +151,7 @@ module _ (m : List ℕ) (u d p price q lent : ℕ) where
       (passes-first (badPrice (decode m) price) _ 10 (price-no w)
       (passes-first (badQuantity q) _ 10 (quantity-no e) (applies-first (badPeriod (decode m) p) _ (period-yes n))))))
 
-  module _ (h : In 1 (word m 5) u) (l : 4464 ≤ lent) (w : In (word m 1) (word m 2) price) (e : In 1 mostEnergy q) (t : p < 24 * word m 0) where
+  module _ (h : In 1 (word m UNITS) u) (l : 4464 ≤ lent) (w : In (word m FLOOR) (word m CEILING) price) (e : In 1 mostEnergy q) (t : p < 24 * word m DAYS) where
     rest-names : (r : ℕ) → r ≡ firstOf (badDirection d ∷ []) → r ≡ firstOf (nameChecks (decode m) u d p price q lent)
     unfolding nameChecks
     rest-names r f =
@@ -165,8 +183,8 @@ module _ {A : Type 0} where
       go false h = omega arith
 
 -- a unit's orders of a period, by places
-module _ (m : List ℕ) (u d p : ℕ) (few : word m 7 ≤ 256) where
-  here : (k i : ℕ) → k < word m 7 → i < 6 → getD (ordersPart m) (6 * k + i) 0 ≡ word m (240 + 6 * k + i)
+module _ (m : List ℕ) (u d p : ℕ) (few : word m ORDERS ≤ 256) where
+  here : (k i : ℕ) → k < word m ORDERS → i < 6 → getD (ordersPart m) (6 * k + i) 0 ≡ word m (orderPlace k + i)
   here k i h l = order-word m (6 * k + i) (omega arith) ∙ ap (word m) (omega arith)
 
   abbrev ofUnit : OpenOrder → Bool
@@ -175,23 +193,23 @@ module _ (m : List ℕ) (u d p : ℕ) (few : word m 7 ≤ 256) where
   abbrev goesAgainst : OpenOrder → Bool
   goesAgainst o = not (eqb (o .direction) d)
 
-  pub stand-count : length (ordersOfUnit (decode m) u p) ≡ sum (word m 7) (ofUnitAt m u p)
+  pub stand-count : length (ordersOfUnit (decode m) u p) ≡ sum (word m ORDERS) (ofUnitAt m u p)
   unfolding ofUnitAt ordersIn
   stand-count =
       kept-length ofUnit (decode m .orders)
       ∙ ap (sumOf (λ (o : OpenOrder). cond (ofUnit o) 1 0)) (orders-from m)
-      ∙ sumOf-table (λ (o : OpenOrder). cond (ofUnit o) 1 0) (word m 7) (orderAt (ordersPart m))
-      ∙ sum-ext (word m 7) (λ k. cond (ofUnit (orderAt (ordersPart m) k)) 1 0) (ofUnitAt m u p)
+      ∙ sumOf-table (λ (o : OpenOrder). cond (ofUnit o) 1 0) (word m ORDERS) (orderAt (ordersPart m))
+      ∙ sum-ext (word m ORDERS) (λ k. cond (ofUnit (orderAt (ordersPart m) k)) 1 0) (ofUnitAt m u p)
       (λ k h. rw (here k 1 h (omega arith), here k 3 h (omega arith)) refl)
 
-  pub against-count : length (keep goesAgainst (ordersOfUnit (decode m) u p)) ≡ sum (word m 7) (againstAt m u d p)
+  pub against-count : length (keep goesAgainst (ordersOfUnit (decode m) u p)) ≡ sum (word m ORDERS) (againstAt m u d p)
   unfolding againstAt ordersIn
   against-count =
       ap (λ (l : List OpenOrder). length l) (keep-keep goesAgainst ofUnit (decode m .orders))
       ∙ kept-length (λ (o : OpenOrder). ofUnit o && goesAgainst o) (decode m .orders)
       ∙ ap (sumOf (λ (o : OpenOrder). cond (ofUnit o && goesAgainst o) 1 0)) (orders-from m)
-      ∙ sumOf-table (λ (o : OpenOrder). cond (ofUnit o && goesAgainst o) 1 0) (word m 7) (orderAt (ordersPart m))
-      ∙ sum-ext (word m 7) (λ k. cond (ofUnit (orderAt (ordersPart m) k) && goesAgainst (orderAt (ordersPart m) k)) 1 0) (againstAt m u d p)
+      ∙ sumOf-table (λ (o : OpenOrder). cond (ofUnit o && goesAgainst o) 1 0) (word m ORDERS) (orderAt (ordersPart m))
+      ∙ sum-ext (word m ORDERS) (λ k. cond (ofUnit (orderAt (ordersPart m) k) && goesAgainst (orderAt (ordersPart m) k)) 1 0) (againstAt m u d p)
       (λ k h. rw (here k 1 h (omega arith), here k 2 h (omega arith), here k 3 h (omega arith)) refl)
 
 -- one place more, and all of them
@@ -203,32 +221,32 @@ counting-end f k n s h e = h ∙ ap (λ (x : ℕ). sum x f) e
 
 -- the order at one place
 module _ (m : List ℕ) (u d p k : ℕ) where
-  pub unit-other : (word m (240 + 6 * k + 1) ≡ u → ⊥) → 0 ≡ ofUnitAt m u p k
+  pub unit-other : (word m (orderPlace k + UNIT) ≡ u → ⊥) → 0 ≡ ofUnitAt m u p k
   unfolding ofUnitAt
-  unit-other n = rw (ne-eqb (word m (240 + 6 * k + 1)) u n) refl
+  unit-other n = rw (ne-eqb (word m (orderPlace k + UNIT)) u n) refl
 
-  pub period-other : word m (240 + 6 * k + 1) ≡ u → (word m (240 + 6 * k + 3) ≡ p → ⊥) → 0 ≡ ofUnitAt m u p k
+  pub period-other : word m (orderPlace k + UNIT) ≡ u → (word m (orderPlace k + PERIOD) ≡ p → ⊥) → 0 ≡ ofUnitAt m u p k
   unfolding ofUnitAt
-  period-other e n = rw (eq-eqb (word m (240 + 6 * k + 1)) u e, ne-eqb (word m (240 + 6 * k + 3)) p n) refl
+  period-other e n = rw (eq-eqb (word m (orderPlace k + UNIT)) u e, ne-eqb (word m (orderPlace k + PERIOD)) p n) refl
 
-  pub of-unit : word m (240 + 6 * k + 1) ≡ u → word m (240 + 6 * k + 3) ≡ p → 1 ≡ ofUnitAt m u p k
+  pub of-unit : word m (orderPlace k + UNIT) ≡ u → word m (orderPlace k + PERIOD) ≡ p → 1 ≡ ofUnitAt m u p k
   unfolding ofUnitAt
-  of-unit e f = rw (eq-eqb (word m (240 + 6 * k + 1)) u e, eq-eqb (word m (240 + 6 * k + 3)) p f) refl
+  of-unit e f = rw (eq-eqb (word m (orderPlace k + UNIT)) u e, eq-eqb (word m (orderPlace k + PERIOD)) p f) refl
 
-  pub against-same : word m (240 + 6 * k + 2) ≡ d → 0 ≡ againstAt m u d p k
+  pub against-same : word m (orderPlace k + DIRECTION) ≡ d → 0 ≡ againstAt m u d p k
   unfolding againstAt
-  against-same e = go (eqb (word m (240 + 6 * k + 1)) u && eqb (word m (240 + 6 * k + 3)) p)
+  against-same e = go (eqb (word m (orderPlace k + UNIT)) u && eqb (word m (orderPlace k + PERIOD)) p)
     where
-      go : (b : Bool) → _≡_ {A = ℕ} 0 (cond (b && not (eqb (word m (240 + 6 * k + 2)) d)) 1 0)
-      go true = rw (eq-eqb (word m (240 + 6 * k + 2)) d e) refl
+      go : (b : Bool) → _≡_ {A = ℕ} 0 (cond (b && not (eqb (word m (orderPlace k + DIRECTION)) d)) 1 0)
+      go true = rw (eq-eqb (word m (orderPlace k + DIRECTION)) d e) refl
       go false = refl
 
-  pub against-other : (r : ℕ) → (word m (240 + 6 * k + 2) ≡ d → ⊥) → r ≡ ofUnitAt m u p k → r ≡ againstAt m u d p k
+  pub against-other : (r : ℕ) → (word m (orderPlace k + DIRECTION) ≡ d → ⊥) → r ≡ ofUnitAt m u p k → r ≡ againstAt m u d p k
   unfolding againstAt ofUnitAt
-  against-other r n e = e ∙ go (eqb (word m (240 + 6 * k + 1)) u && eqb (word m (240 + 6 * k + 3)) p)
+  against-other r n e = e ∙ go (eqb (word m (orderPlace k + UNIT)) u && eqb (word m (orderPlace k + PERIOD)) p)
     where
-      go : (b : Bool) → _≡_ {A = ℕ} (cond b 1 0) (cond (b && not (eqb (word m (240 + 6 * k + 2)) d)) 1 0)
-      go true = rw (ne-eqb (word m (240 + 6 * k + 2)) d n) refl
+      go : (b : Bool) → _≡_ {A = ℕ} (cond b 1 0) (cond (b && not (eqb (word m (orderPlace k + DIRECTION)) d)) 1 0)
+      go true = rw (ne-eqb (word m (orderPlace k + DIRECTION)) d n) refl
       go false = refl
 
 -- today's mark against the order's direction
@@ -246,11 +264,11 @@ mark-one (suc zero) mark h n = rw (ne-eqb mark 3 n) (sym (or-none (eqb mark 1)))
 mark-one (suc (suc d)) mark h n = absurd (omega arith)
 
 -- the second part, by cases
-module _ (m : List ℕ) (u d p : ℕ) (few : word m 7 ≤ 256) (hu : In 1 (word m 5) u) (hd : d ≤ 1) (hp : p < 24 * word m 0) where
-  mark-held : figuresOf (decode m) u p .mark ≡ word m (1780 + 328 * p + 5 * (u - 1))
+module _ (m : List ℕ) (u d p : ℕ) (few : word m ORDERS ≤ 256) (hu : In 1 (word m UNITS) u) (hd : d ≤ 1) (hp : p < 24 * word m DAYS) where
+  mark-held : figuresOf (decode m) u p .mark ≡ word m (figurePlace (u - 1) p + MARK)
   mark-held = ap (λ (f : Figures). f .mark) (figures-at m u p hu hp)
 
-  pub days-against : (a : ℕ) → a ≡ sum (word m 7) (againstAt m u d p) → 0 < a → 15 ≡ firstOf (dayChecks (decode m) u d p)
+  pub days-against : (a : ℕ) → a ≡ sum (word m ORDERS) (againstAt m u d p) → 0 < a → 15 ≡ firstOf (dayChecks (decode m) u d p)
   unfolding dayChecks
   days-against a e h =
       applies-first (otherDirection (decode m) u d p) _
@@ -258,7 +276,7 @@ module _ (m : List ℕ) (u d p : ℕ) (few : word m 7 ≤ 256) (hu : In 1 (word 
       (markedAgainst d (figuresOf (decode m) u p .mark))
       (lt-ltb 0 (length (keep (λ (o : OpenOrder). not (eqb (o .direction) d)) (ordersOfUnit (decode m) u p))) (rw (against-count m u d p few, ← e) h)))
 
-  pub days-mark : (r : Bool) → r ≡ markedAgainst d (word m (1780 + 328 * p + 5 * (u - 1))) → r ≡ true → 15 ≡ firstOf (dayChecks (decode m) u d p)
+  pub days-mark : (r : Bool) → r ≡ markedAgainst d (word m (figurePlace (u - 1) p + MARK)) → r ≡ true → 15 ≡ firstOf (dayChecks (decode m) u d p)
   unfolding dayChecks
   days-mark r e t =
       applies-first (otherDirection (decode m) u d p) _
@@ -266,7 +284,7 @@ module _ (m : List ℕ) (u d p : ℕ) (few : word m 7 ≤ 256) (hu : In 1 (word 
       (markedAgainst d (figuresOf (decode m) u p .mark))
       (ap (markedAgainst d) mark-held ∙ sym e ∙ t))
 
-  module _ (a : ℕ) (ea : a ≡ sum (word m 7) (againstAt m u d p)) (na : a ≤ 0) (w : Bool) (ew : w ≡ markedAgainst d (word m (1780 + 328 * p + 5 * (u - 1))))
+  module _ (a : ℕ) (ea : a ≡ sum (word m ORDERS) (againstAt m u d p)) (na : a ≤ 0) (w : Bool) (ew : w ≡ markedAgainst d (word m (figurePlace (u - 1) p + MARK)))
       (nw : w ≡ false) where
     other-no : otherDirection (decode m) u d p .applies ≡ false
     other-no =
@@ -274,7 +292,7 @@ module _ (m : List ℕ) (u d p : ℕ) (few : word m 7 ≤ 256) (hu : In 1 (word 
         rw (le-ltb 0 (length (keep (λ (o : OpenOrder). not (eqb (o .direction) d)) (ordersOfUnit (decode m) u p))) t)
         (ap (markedAgainst d) mark-held ∙ sym ew ∙ nw)
 
-    module _ (s r : ℕ) (es : s ≡ sum (word m 7) (ofUnitAt m u p)) (er : r ≡ cond (eqb (word m 3) 0) s 0) where
+    module _ (s r : ℕ) (es : s ≡ sum (word m ORDERS) (ofUnitAt m u p)) (er : r ≡ cond (eqb (word m PHASE) 0) s 0) where
       two-is : (b : Bool) → r ≡ cond b s 0 → (1 < r → (b && leb 2 s) ≡ true) × (r ≤ 1 → (b && leb 2 s) ≡ false)
       two-is true e = (λ h. le-leb 2 s (omega arith), λ h. lt-leb 2 s (omega arith))
       two-is false e = (λ h. absurd (omega arith), λ h. refl)
@@ -282,36 +300,36 @@ module _ (m : List ℕ) (u d p : ℕ) (few : word m 7 ≤ 256) (hu : In 1 (word 
       stand-is : length (ordersOfUnit (decode m) u p) ≡ s
       stand-is = stand-count m u d p few ∙ sym es
 
-      two-applies : twoOpen (decode m) u p .applies ≡ (eqb (word m 3) 0 && leb 2 s)
+      two-applies : twoOpen (decode m) u p .applies ≡ (eqb (word m PHASE) 0 && leb 2 s)
       unfolding decode
-      two-applies = ap (λ (x : ℕ). eqb (word m 3) 0 && leb 2 x) stand-is
+      two-applies = ap (λ (x : ℕ). eqb (word m PHASE) 0 && leb 2 x) stand-is
 
       pub days-two : 1 < r → 16 ≡ firstOf (dayChecks (decode m) u d p)
       unfolding dayChecks
       days-two h =
           passes-first (otherDirection (decode m) u d p) _ 16 other-no
-          (applies-first (twoOpen (decode m) u p) _ (two-applies ∙ two-is (eqb (word m 3) 0) er .0 h))
+          (applies-first (twoOpen (decode m) u p) _ (two-applies ∙ two-is (eqb (word m PHASE) 0) er .0 h))
 
       module _ (nr : r ≤ 1) where
         two-no : twoOpen (decode m) u p .applies ≡ false
-        two-no = two-applies ∙ two-is (eqb (word m 3) 0) er .1 nr
+        two-no = two-applies ∙ two-is (eqb (word m PHASE) 0) er .1 nr
 
-        pub days-full : 256 ≤ word m 7 → 17 ≡ firstOf (dayChecks (decode m) u d p)
+        pub days-full : 256 ≤ word m ORDERS → 17 ≡ firstOf (dayChecks (decode m) u d p)
         unfolding dayChecks
         days-full h =
             passes-first (otherDirection (decode m) u d p) _ 17 other-no
             (passes-first (twoOpen (decode m) u p) _ 17 two-no
             (applies-first (ordersFull (decode m)) _ (le-leb 256 (length (decode m .orders)) (rw (orders-held m) h))))
 
-        module _ (nf : word m 7 < 256) where
+        module _ (nf : word m ORDERS < 256) where
           full-no : ordersFull (decode m) .applies ≡ false
           full-no = lt-leb 256 (length (decode m .orders)) (rw (orders-held m) nf)
 
-          given-is : decode m .given ≡ word m 4
+          given-is : decode m .given ≡ word m GIVEN
           unfolding decode
           given-is = refl
 
-          pub days-used : 65535 ≤ word m 4 → 18 ≡ firstOf (dayChecks (decode m) u d p)
+          pub days-used : 65535 ≤ word m GIVEN → 18 ≡ firstOf (dayChecks (decode m) u d p)
           unfolding dayChecks
           days-used h =
               passes-first (otherDirection (decode m) u d p) _ 18 other-no
@@ -319,7 +337,7 @@ module _ (m : List ℕ) (u d p : ℕ) (few : word m 7 ≤ 256) (hu : In 1 (word 
               (passes-first (ordersFull (decode m)) _ 18 full-no
               (applies-first (numbersUsed (decode m)) [] (le-leb 65535 (decode m .given) (rw given-is h)))))
 
-          pub days-pass : word m 4 < 65535 → 0 ≡ firstOf (dayChecks (decode m) u d p)
+          pub days-pass : word m GIVEN < 65535 → 0 ≡ firstOf (dayChecks (decode m) u d p)
           unfolding dayChecks
           days-pass h =
               passes-first (otherDirection (decode m) u d p) _ 0 other-no

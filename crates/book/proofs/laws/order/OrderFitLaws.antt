@@ -19,7 +19,7 @@ use Rattle.book.specs.Trades.{raises, lowers}
 use Rattle.book.specs.Fit.{unitFits}
 use Rattle.book.specs.Sound.{sound, unitIn}
 use Rattle.book.specs.Refusals.{firstOf}
-use Rattle.book.specs.Layout.{word, decode, unitAt}
+use Rattle.book.specs.Layout.{DAYS, UNITS, word, unitAt, decode}
 use Rattle.book.specs.inner.Readable.{Ranged, marksIn, declared, Fitted, unitFieldsIn, small}
 use Rattle.book.specs.Contract.{soundIn}
 use Rattle.book.specs.Order.{orderDeclares}
@@ -31,13 +31,13 @@ use Rattle.book.proofs.laws.check.MisfitLaws.{zeros-at, misfit-ext, mis
 
 module _ (m : List ℕ) (e : soundIn m ≡ true) where
   -- a sound book's units, offers and orders are in range
-  fields : (k : ℕ) → k < word m 5 → UnitFields m k
+  fields : (k : ℕ) → k < word m UNITS → UnitFields m k
   fields k h =
-      let i : In 1 (word m 5) (k + 1) = omega arith in
+      let i : In 1 (word m UNITS) (k + 1) = omega arith in
       let s = sound-facts (decode m) (sound-book m e) in
       let r = each-at (UnitRanges (decode m .rules .days)) (decode m .units) (k + 1 - 1) noUnit (s .formed .units) (rw (units-held m) (omega arith)) in
       let q : k + 1 - 1 ≡ k = omega arith in
-      let g : unitOf (decode m) (k + 1) ≡ unitAt m (word m 0) k = unit-at m (k + 1) i ∙ ap (unitAt m (word m 0)) q in
+      let g : unitOf (decode m) (k + 1) ≡ unitAt m (word m DAYS) k = unit-at m (k + 1) i ∙ ap (unitAt m (word m DAYS)) q in
       let x = ap (λ (y : EnrolledUnit). y .kind) g in
       let y = ap (λ (z : EnrolledUnit). z .capacity) g in
       let z = ap (λ (w : EnrolledUnit). w .asset) g in
@@ -52,12 +52,12 @@ module _ (m : List ℕ) (e : soundIn m ≡ true) where
       let t = all-true _ (sound-book m e) in
       record {
         readable = sound-readable m e;
-        units = all-by (word m 5) (unitFieldsIn m) (λ k h. unit-holds m k (fields k h));
+        units = all-by (word m UNITS) (unitFieldsIn m) (λ k h. unit-holds m k (fields k h));
         offers = t .1 .1 .0;
         orders = t .1 .1 .1 .0;
       }
 
-  module _ (u : ℕ) (h : In 1 (word m 5) u) where
+  module _ (u : ℕ) (h : In 1 (word m UNITS) u) where
     marks-are : marksIn (decode m) u ≡ true
     unfolding sound unitIn marksIn
     marks-are =
@@ -113,7 +113,7 @@ none : (b : Bool) → _≡_ {A = ℕ} 0 (cond b 0 0)
 none true = refl
 none false = refl
 
-module _ (m : List ℕ) (e : soundIn m ≡ true) (n u d p q r : ℕ) (from : 1 ≤ u) (upto : u ≤ word m 5) (h : p < n) where
+module _ (m : List ℕ) (e : soundIn m ≡ true) (n u d p q r : ℕ) (from : 1 ≤ u) (upto : u ≤ word m UNITS) (h : p < n) where
   checked : (raising lowering : List ℕ) → ((i : ℕ) → getD raising i 0 ≡ orderDeclares (decode m) u d p q .raising i)
       → ((i : ℕ) → getD lowering i 0 ≡ orderDeclares (decode m) u d p q .lowering i)
       → Fitted (decode m) u (declared raising lowering) r → r ≡ firstOf (orderFitChecks (decode m) u d p q)

@@ -23,7 +23,7 @@ use Rattle.matching.proofs.laws.lists.SumLaws.{sumOf-has}
 use Rattle.book.specs.Book.{Book, noUnit, unitOf}
 use Rattle.book.specs.Trades.{raises, lowers}
 use Rattle.book.specs.Fit.{openOrders, openRaising, openLowering}
-use Rattle.book.specs.Layout.{word, decode, ordersPart}
+use Rattle.book.specs.Layout.{ORDERS, ordersStart, ordersWords, amountsStart, word, ordersPart, decode}
 use Rattle.book.specs.Contract.{soundIn}
 use Rattle.book.specs.Order.{waiting}
 use Rattle.book.specs.inner.Ordering.{OrdersPut, Rolled}
@@ -85,25 +85,26 @@ sum-small [] h = omega arith
 sum-small (o ∷ os) h = let t = sum-small os (h .1) in let k = h .0 in omega arith
 
 -- the open orders of a sound book fit for matching
-pub orders-fit : (m rows : List ℕ) → soundIn m ≡ true → 4464 ≤ length rows → fit (ordersPart m) (word m 7) rows ≡ true
+pub orders-fit : (m rows : List ℕ) → soundIn m ≡ true → 4464 ≤ length rows → fit (ordersPart m) (word m ORDERS) rows ≡ true
 unfolding fit
 orders-fit m rows e l =
-    and-true _ _ (and-true _ _ (and-true _ _ (and-true _ _ (le-leb _ _ few) (le-leb _ _ inside)) (le-leb (6 * word m 7) (length rows) (omega (arith, few))))
+    and-true _ _ (and-true _ _ (and-true _ _ (and-true _ _ (le-leb _ _ few) (le-leb _ _ inside)) (le-leb (6 * word m ORDERS) (length rows)
+    (omega (arith, few))))
     rises) (le-leb _ _ amount)
   where
-    few : word m 7 ≤ 256
+    few : word m ORDERS ≤ 256
     few = sound-readable m e .ordersTo
 
-    inside : 6 * word m 7 ≤ length (ordersPart m)
-    inside = let r = sound-readable m e in omega (arith, few, mid-len 240 1776 m (omega arith))
+    inside : 6 * word m ORDERS ≤ length (ordersPart m)
+    inside = let r = sound-readable m e in omega (arith, few, mid-len ordersStart amountsStart m (omega arith))
 
     facts : Sound (decode m)
     facts = sound-facts (decode m) (sound-book m e)
 
-    rises : rising (numbers (ordersIn (ordersPart m) (word m 7))) ≡ true
+    rises : rising (numbers (ordersIn (ordersPart m) (word m ORDERS))) ≡ true
     rises = rw (orders-from m) at (facts .formed .ordersRise)
 
-    amount : quantities (ordersIn (ordersPart m) (word m 7)) ≤ mostEnergy
+    amount : quantities (ordersIn (ordersPart m) (word m ORDERS)) ≤ mostEnergy
     amount =
         let t = sum-small (decode m .orders) (each-has (λ (o : OpenOrder). o .quantity
         ≤ mostCapacity) (decode m .orders) (λ o h. order-small (decode m) facts o h)) in
@@ -111,12 +112,12 @@ orders-fit m rows e l =
         rw (orders-from m) at w
 
 module _ (m ys rows rows′ : List ℕ) (o : OpenOrder) (a : Matched) (e : soundIn m ≡ true) (l : 4464
-    ≤ length rows) (h : Meets (ordersPart m) rows (word m 7) o a ys rows′) where
+    ≤ length rows) (h : Meets (ordersPart m) rows (word m ORDERS) o a ys rows′) where
   pub met-unfit : answerOf a .fits ≡ false → ⊥
   met-unfit z = not-both _ (h .fits ∙ orders-fit m rows e l) z
 
-  pub met-rolled : (left count standing : ℕ) → answerOf a ≡ record { fits = true; left = left; count = count; standing = standing } → length ys ≡ 1536
-      → Rolled m (set (putMid 240 1536 m ys) 7 standing) rows rows′ o left count
+  pub met-rolled : (left count standing : ℕ) → answerOf a ≡ record { fits = true; left = left; count = count; standing = standing } → length ys ≡ ordersWords
+      → Rolled m (set (putMid ordersStart ordersWords m ys) ORDERS standing) rows rows′ o left count
   met-rolled left count standing z same =
       let f = orders-fit m rows e l in
       let r = sound-readable m e in
@@ -128,25 +129,25 @@ module _ (m ys rows rows′ : List ℕ) (o : OpenOrder) (a : Matched) (e : sound
       }
 
 -- "the rest waits"
-pub rest-none : (m : List ℕ) (o : OpenOrder) (left : ℕ) → left ≡ 0 → OrdersPut m m (ordersIn (ordersPart m) (word m 7) ++ waiting (leaving o left))
+pub rest-none : (m : List ℕ) (o : OpenOrder) (left : ℕ) → left ≡ 0 → OrdersPut m m (ordersIn (ordersPart m) (word m ORDERS) ++ waiting (leaving o left))
 unfolding waiting
 rest-none m o left e =
-    record { long = refl; low = λ i l n. refl; high = λ i l. refl; orders = rw (eq-eqb left 0 e) (sym (append-nil (ordersIn (ordersPart m) (word m 7)))) }
+    record { long = refl; low = λ i l n. refl; high = λ i l. refl; orders = rw (eq-eqb left 0 e) (sym (append-nil (ordersIn (ordersPart m) (word m ORDERS)))) }
 
 -- what is said of an order holds of an equal one
 module _ (o o′ : OpenOrder) (e : o ≡ o′) where
-  pub put-same : (m x : List ℕ) → OrdersPut m x (ordersIn (ordersPart m) (word m 7) ++ (o ∷ []))
-      → OrdersPut m x (ordersIn (ordersPart m) (word m 7) ++ (o′ ∷ []))
-  put-same m x h = subst (λ (z : OpenOrder). OrdersPut m x (ordersIn (ordersPart m) (word m 7) ++ (z ∷ []))) e h
+  pub put-same : (m x : List ℕ) → OrdersPut m x (ordersIn (ordersPart m) (word m ORDERS) ++ (o ∷ []))
+      → OrdersPut m x (ordersIn (ordersPart m) (word m ORDERS) ++ (o′ ∷ []))
+  put-same m x h = subst (λ (z : OpenOrder). OrdersPut m x (ordersIn (ordersPart m) (word m ORDERS) ++ (z ∷ []))) e h
 
-  pub waits-same : (m x : List ℕ) (q : ℕ) → OrdersPut m x (ordersIn (ordersPart m) (word m 7) ++ waiting (leaving o q))
-      → OrdersPut m x (ordersIn (ordersPart m) (word m 7) ++ waiting (leaving o′ q))
-  waits-same m x q h = subst (λ (z : OpenOrder). OrdersPut m x (ordersIn (ordersPart m) (word m 7) ++ waiting (leaving z q))) e h
+  pub waits-same : (m x : List ℕ) (q : ℕ) → OrdersPut m x (ordersIn (ordersPart m) (word m ORDERS) ++ waiting (leaving o q))
+      → OrdersPut m x (ordersIn (ordersPart m) (word m ORDERS) ++ waiting (leaving o′ q))
+  waits-same m x q h = subst (λ (z : OpenOrder). OrdersPut m x (ordersIn (ordersPart m) (word m ORDERS) ++ waiting (leaving z q))) e h
 
   pub rolled-same : (m x rows rows′ : List ℕ) (q n : ℕ) → Rolled m x rows rows′ o q n → Rolled m x rows rows′ o′ q n
   rolled-same m x rows rows′ q n h = subst (λ (z : OpenOrder). Rolled m x rows rows′ z q n) e h
 
-pub rest-some : (m x : List ℕ) (o : OpenOrder) (left : ℕ) → (left ≡ 0 → ⊥) → OrdersPut m x (ordersIn (ordersPart m) (word m 7) ++ (leaving o left ∷ []))
-    → OrdersPut m x (ordersIn (ordersPart m) (word m 7) ++ waiting (leaving o left))
+pub rest-some : (m x : List ℕ) (o : OpenOrder) (left : ℕ) → (left ≡ 0 → ⊥) → OrdersPut m x (ordersIn (ordersPart m) (word m ORDERS) ++ (leaving o left ∷ []))
+    → OrdersPut m x (ordersIn (ordersPart m) (word m ORDERS) ++ waiting (leaving o left))
 unfolding waiting
 rest-some m x o left n h = rw (ne-eqb left 0 n) h

@@ -20,8 +20,7 @@ use Rattle.matching.proofs.laws.orders.LaidLaws.{laid-length}
 use Rattle.matching.proofs.laws.rolling.RollingLaws.{Sides, row-sides, traded-and-left}
 use Rattle.book.specs.Book.{Book, numbered}
 use Rattle.book.specs.Trades.{rowsBooked}
-use Rattle.book.specs.Opening.{bookWords}
-use Rattle.book.specs.Layout.{word, decode, ordersPart}
+use Rattle.book.specs.Layout.{DAYS, GIVEN, UNITS, OFFERS, ORDERS, amountsStart, figurePlace, RAISED, LOWERED, VOLUME, word, ordersPart, decode, Aside}
 use Rattle.book.specs.Refusals.{firstOf}
 use Rattle.book.specs.inner.Readable.{Readable}
 use Rattle.book.specs.Contract.{soundIn}
@@ -39,8 +38,9 @@ use Rattle.book.proofs.laws.order.OrderingLaws.{OrderPassed, order-pass
 use Rattle.book.proofs.laws.order.LeftLaws.{TwoUnits}
 use Rattle.book.proofs.laws.order.RolledLaws.{rolled-two-units}
 use Rattle.book.proofs.laws.rows.SmallLaws.{sound-small, row-written, rows-written}
-use Rattle.book.proofs.laws.rows.BookingLaws.{kept-past}
-use Rattle.book.proofs.laws.order.WaitLaws.{put-decoded, put-past, new-order}
+use Rattle.book.proofs.laws.rows.BookingLaws.{kept-aside}
+use Rattle.book.proofs.laws.memory.WordLaws.{aside-then}
+use Rattle.book.proofs.laws.order.WaitLaws.{put-decoded, put-aside, new-order}
 
 abbrev noRow : Row
 noRow = record { way = 0; period = 0; seller = 0; buyer = 0; quantity = 0; price = 0 }
@@ -88,11 +88,11 @@ module _ (m rows : List ℕ) (u d p price q : ℕ) (e : soundIn m ≡ true) (z :
   passed = order-passed (decode m) u d p price q (length rows) facts
       (chain-sound (decode m) (orderChecks (decode m) u d p price q (length rows)) (sound-book m e) ∙ sym z)
 
-  days-held : decode m .rules .days ≡ word m 0
+  days-held : decode m .rules .days ≡ word m DAYS
   unfolding decode
   days-held = refl
 
-  given-held : decode m .given ≡ word m 4
+  given-held : decode m .given ≡ word m GIVEN
   unfolding decode
   given-held = refl
 
@@ -114,10 +114,10 @@ module _ (m rows : List ℕ) (u d p price q : ℕ) (e : soundIn m ≡ true) (z :
       )
       (sym z) .1 .0)
 
-  pub number-left : word m 4 < 65535
+  pub number-left : word m GIVEN < 65535
   number-left = let t = passed .left in omega (arith, given-held)
 
-  pub orders-left : word m 7 < 256
+  pub orders-left : word m ORDERS < 256
   orders-left = let t = passed .room in omega (arith, orders-held m)
 
   each-fits : Each (RowFits m) (met .rows)
@@ -135,10 +135,10 @@ module _ (m rows : List ℕ) (u d p price q : ℕ) (e : soundIn m ≡ true) (z :
           let v = days-held in
           record { period = omega arith; sellerFrom = t .0 .0; sellerTo = omega arith; buyerFrom = t .1 .0; buyerTo = omega arith; quantity = omega arith }
 
-  module _ (x rows′ : List ℕ) (left count : ℕ) (h : Rolled m x rows rows′ (orderWith (word m 4 + 1) u d p price q) left count) where
-    met-is : meet (orderWith (word m 4 + 1) u d p price q) (ordersIn (ordersPart m) (word m 7)) ≡ met
+  module _ (x rows′ : List ℕ) (left count : ℕ) (h : Rolled m x rows rows′ (orderWith (word m GIVEN + 1) u d p price q) left count) where
+    met-is : meet (orderWith (word m GIVEN + 1) u d p price q) (ordersIn (ordersPart m) (word m ORDERS)) ≡ met
     met-is =
-        ap (λ (o : OpenOrder). meet o (ordersIn (ordersPart m) (word m 7))) (sym (new-order m u d p price q))
+        ap (λ (o : OpenOrder). meet o (ordersIn (ordersPart m) (word m ORDERS))) (sym (new-order m u d p price q))
         ∙ ap (meet arrived) (sym (orders-from m))
 
     pub handed-is : rows′ ≡ written rows (met .rows)
@@ -147,20 +147,21 @@ module _ (m rows : List ℕ) (u d p price q : ℕ) (e : soundIn m ≡ true) (z :
     pub count-is : count ≡ length (met .rows)
     count-is = h .count ∙ ap (λ (t : Met). length (t .rows)) met-is
 
-    orders-is : ordersIn (ordersPart x) (word x 7) ≡ met .orders
+    orders-is : ordersIn (ordersPart x) (word x ORDERS) ≡ met .orders
     orders-is = h .orders .orders ∙ ap (λ (t : Met). t .orders) met-is
 
-    pub rest-room : (1776 ≤ length x) × (word x 7 < 256)
+    pub rest-room : (amountsStart ≤ length x) × (word x ORDERS < 256)
     rest-room =
         let r = sound-readable m e in
         let l = h .orders .long in
-        let a = orders-length (ordersPart x) (word x 7) in
+        let a = orders-length (ordersPart x) (word x ORDERS) in
         let b = ap (λ (t : List OpenOrder). length t) orders-is in
         let c = remains-length LessOrder (met-remain arrived (decode m .orders)) in
         let k = passed .room in
         (omega arith, omega arith)
 
-    module _ (y : List ℕ) (w : OrdersPut x y (ordersIn (ordersPart x) (word x 7) ++ waiting (leaving (orderWith (word m 4 + 1) u d p price q) left))) where
+    module _ (y : List ℕ) (w : OrdersPut x y (ordersIn (ordersPart x) (word x ORDERS) ++ waiting
+        (leaving (orderWith (word m GIVEN + 1) u d p price q) left))) where
       pub both-put : OrdersPut m y (met .orders ++ waiting (leaving arrived (met .left)))
       both-put =
           record {
@@ -169,8 +170,8 @@ module _ (m rows : List ℕ) (u d p price q : ℕ) (e : soundIn m ≡ true) (z :
             high = λ i l. w .high i l ∙ h .orders .high i l;
             orders =
                 w .orders
-                ∙ ap (λ (t : List OpenOrder). t ++ waiting (leaving (orderWith (word m 4 + 1) u d p price q) left)) orders-is
-                ∙ ap (λ (t : ℕ). met .orders ++ waiting (leaving (orderWith (word m 4 + 1) u d p price q) t)) (h .left ∙ ap (λ (t : Met). t .left) met-is)
+                ∙ ap (λ (t : List OpenOrder). t ++ waiting (leaving (orderWith (word m GIVEN + 1) u d p price q) left)) orders-is
+                ∙ ap (λ (t : ℕ). met .orders ++ waiting (leaving (orderWith (word m GIVEN + 1) u d p price q) t)) (h .left ∙ ap (λ (t : Met). t .left) met-is)
                 ∙ ap (λ (o : OpenOrder). met .orders ++ waiting (leaving o (met .left))) (sym (new-order m u d p price q));
           }
 
@@ -181,25 +182,25 @@ module _ (m rows : List ℕ) (u d p price q : ℕ) (e : soundIn m ≡ true) (z :
       waits-readable =
           let r = sound-readable m e in
           let l = both-put .long in
-          let a = orders-length (ordersPart y) (word y 7) in
+          let a = orders-length (ordersPart y) (word y ORDERS) in
           let b = ap (λ (t : List OpenOrder). length t) (both-put .orders) in
           let c = remains-length LessOrder (met-remain arrived (decode m .orders)) in
           let k = passed .room in
           let f = length-append (met .orders) (waiting (leaving arrived (met .left))) in
           let g = waiting-few (leaving arrived (met .left)) in
-          let h0 = head-same 0 (omega arith) in
-          let h5 = head-same 5 (omega arith) in
-          let h6 = head-same 6 (omega arith) in
+          let h0 = head-same DAYS (omega arith) in
+          let h5 = head-same UNITS (omega arith) in
+          let h6 = head-same OFFERS (omega arith) in
           record { daysFrom = omega arith; daysTo = omega arith; unitsTo = omega arith; offersTo = omega arith; ordersTo = omega arith; long = omega arith }
 
       pub waits-small : Small y smallFigures
       waits-small k i hk hi =
-          let h0 = head-same 0 (omega arith) in
-          let h5 = head-same 5 (omega arith) in
+          let h0 = head-same DAYS (omega arith) in
+          let h5 = head-same UNITS (omega arith) in
           let t = sound-small m e k i (omega arith) (omega arith) in
-          let a = both-put .high (1777 + 328 * i + 5 * k) (omega arith) in
-          let b = both-put .high (1778 + 328 * i + 5 * k) (omega arith) in
-          let c = both-put .high (1779 + 328 * i + 5 * k) (omega arith) in
+          let a = both-put .high (figurePlace k i + RAISED) (omega arith) in
+          let b = both-put .high (figurePlace k i + LOWERED) (omega arith) in
+          let c = both-put .high (figurePlace k i + VOLUME) (omega arith) in
           record { raised = omega arith; lowered = omega arith; volume = omega arith }
 
       pub waits-rows : RowsFit y rows′ count
@@ -211,8 +212,8 @@ module _ (m rows : List ℕ) (u d p price q : ℕ) (e : soundIn m ≡ true) (z :
           let b = ap (λ (r : Row). r .seller) g in
           let c = ap (λ (r : Row). r .buyer) g in
           let v = ap (λ (r : Row). r .quantity) g in
-          let h0 = head-same 0 (omega arith) in
-          let h5 = head-same 5 (omega arith) in
+          let h0 = head-same DAYS (omega arith) in
+          let h5 = head-same UNITS (omega arith) in
           record {
             period = omega arith;
             sellerFrom = omega arith;
@@ -234,17 +235,17 @@ module _ (m rows : List ℕ) (u d p price q : ℕ) (e : soundIn m ≡ true) (z :
           (omega arith, omega arith)
 
       module _ (v : List ℕ) (k : RowsTraded y v rows′ count) where
-        pub number-room : (1776 ≤ length v) × (word v 4 < 65535)
+        pub number-room : (amountsStart ≤ length v) × (word v GIVEN < 65535)
         number-room =
             let a = k .kept .long in
-            let b = k .kept .head 4 (omega arith) in
-            let c = head-same 4 (omega arith) in
+            let b = k .kept .head GIVEN (omega arith) in
+            let c = head-same GIVEN (omega arith) in
             let f = both-put .long in
             let g = sound-readable m e in
             let n = number-left in
             (omega arith, omega arith)
 
-        pub rolled-on : (t : List ℕ) → decode t ≡ numbered (decode v) → ((n : ℕ) → 1776 ≤ n → drop n t ≡ drop n v)
+        pub rolled-on : (t : List ℕ) → decode t ≡ numbered (decode v) → Aside v t
             → RolledOn m rows u d p price q count t rows′
         rolled-on t f g =
             let r = sound-readable m e in
@@ -258,11 +259,7 @@ module _ (m rows : List ℕ) (u d p price q : ℕ) (e : soundIn m ≡ true) (z :
                   ++ waiting (leaving arrived (met .left))) both-put (r .unitsTo) (r .offersTo));
               handed = handed-is;
               count = count-is;
-              past =
-                  g (bookWords (word m 0)) (omega arith)
-                  ∙ kept-from (bookWords (word m 0)) (ap (λ (i : ℕ). bookWords i) (sym (head-same 0 (omega arith))))
-                  ∙ put-past m y (met .orders ++ waiting (leaving arrived (met .left))) both-put (bookWords (word m 0)) (omega arith);
+              aside =
+                  aside-then m y t (head-same DAYS (omega arith)) (put-aside m y (met .orders ++ waiting (leaving arrived (met .left))) both-put)
+                  (aside-then y v t (k .kept .head DAYS (omega arith)) (kept-aside y v (k .kept)) g);
             }
-          where
-            kept-from : (n : ℕ) → n ≡ bookWords (word y 0) → drop n v ≡ drop n y
-            kept-from n w′ = rw w′ (kept-past y v (k .kept))

@@ -1,14 +1,13 @@
 -- Laws of booking rows in memory: one party, one row, and the rows so far.
-use Prim.Native.Nat.{ℕ, _+_, _-_, _*_, _≤_, _<_}
+use Prim.Native.Nat.{ℕ, _+_, _-_, _*_, _≤_, _<_, min}
 use mathlib.Core.Path.{_≡_, refl, sym, ap, _∙_}
-use mathlib.Core.Bool.{true, false, cond}
+use mathlib.Core.Bool.{Bool, true, false, cond}
 use mathlib.Core.List.{List, [], _∷_, _++_}
 use native.Mathlib.Omega.{arith}
 use borrow.Author.Tests.{eq-eqb, ne-eqb, le-leb, lt-leb}
 use lib.ListN.{length, getD, drop, set, length-drop}
-use lib.Seq.{ext-getD, getD-drop}
 use lib.Dec.{eqb, leb}
-use Rattle.measures.specs.Ranges.{mostEnergy}
+use Rattle.measures.specs.Ranges.{mostEnergy, mostNumber}
 use Rattle.measures.specs.Lists.{table}
 use Rattle.measures.proofs.ListLaws.{cond-true, cond-false, table-at, table-is, table-more}
 use Rattle.limits.specs.Units.{periods, generator}
@@ -16,10 +15,28 @@ use Rattle.matching.specs.Orders.{Row}
 use Rattle.matching.specs.Memory.{rowAt, rowsIn}
 use Rattle.book.specs.Book.{Figures, noFigures, EnrolledUnit, Book, unitOf, withUnits}
 use Rattle.book.specs.Trades.{raises, markWith, markAfter, traded, unitTraded, booked, rowBooked, rowsBooked}
-use Rattle.book.specs.Opening.{bookWords}
-use Rattle.book.specs.Layout.{word, figuresAt, decode}
+use Rattle.book.specs.Layout.{
+  DAYS,
+  UNITS,
+  OFFERS,
+  ORDERS,
+  LAYOUT,
+  unitPlace,
+  CAPACITY,
+  ASSET,
+  figurePlace,
+  RAISED,
+  LOWERED,
+  MARK,
+  VOLUME,
+  word,
+  figuresAt,
+  decode,
+  Aside,
+}
 use Rattle.book.specs.inner.Readable.{Readable}
 use Rattle.book.specs.inner.RowsIn.{SmallAt, Small, FiguresPut, Kept, Traded, RowTraded, RowFits, RowsFit, smallFigures, RowsTraded}
+use Rattle.book.proofs.laws.memory.WordLaws.{aside-by}
 use Rattle.book.proofs.laws.memory.RangeFacts.{unit-at, kind-at}
 use Rattle.book.proofs.laws.rows.FigureLaws.{unit-same, put-kept, put-book, put-small}
 
@@ -51,22 +68,22 @@ kept-none m = record { long = refl; head = λ i h. refl; past = λ i h. refl }
 
 pub kept-both : (m x y : List ℕ) → Kept m x → Kept x y → Kept m y
 kept-both m x y a b =
-    let e = a .head 0 (omega arith) in
+    let e = a .head DAYS (omega arith) in
     record { long = b .long ∙ a .long; head = λ i h. b .head i h ∙ a .head i h; past = λ i h. b .past i (omega arith) ∙ a .past i h }
 
 pub kept-readable : (m x : List ℕ) → Kept m x → Readable m → Readable x
 kept-readable m x k r =
-    let a = k .head 0 (omega arith) in
-    let b = k .head 5 (omega arith) in
-    let c = k .head 6 (omega arith) in
-    let d = k .head 7 (omega arith) in
+    let a = k .head DAYS (omega arith) in
+    let b = k .head UNITS (omega arith) in
+    let c = k .head OFFERS (omega arith) in
+    let d = k .head ORDERS (omega arith) in
     let l = k .long in
     record { daysFrom = omega arith; daysTo = omega arith; unitsTo = omega arith; offersTo = omega arith; ordersTo = omega arith; long = omega arith }
 
 pub kept-fits : (m x : List ℕ) (r : Row) → Kept m x → RowFits m r → RowFits x r
 kept-fits m x r k f =
-    let a = k .head 0 (omega arith) in
-    let b = k .head 5 (omega arith) in
+    let a = k .head DAYS (omega arith) in
+    let b = k .head UNITS (omega arith) in
     record {
       period = omega arith;
       sellerFrom = f .sellerFrom;
@@ -77,69 +94,82 @@ kept-fits m x r k f =
           f .quantity;
     }
 
--- memory with the same words from a place on
-pub past-dropped : (n : ℕ) (m x : List ℕ) → length x ≡ length m → ((i : ℕ) → n ≤ i → word x i ≡ word m i) → drop n x ≡ drop n m
-past-dropped n m x l h = ext-getD 0 (drop n x) (drop n m) (simp length-drop (rw l refl)) at
-  where
-    at : (i : ℕ) → i < length (drop n x) → getD (drop n x) i 0 ≡ getD (drop n m) i 0
-    at i k = getD-drop n x i 0 ∙ h (n + i) (omega arith) ∙ sym (getD-drop n m i 0)
-
-pub kept-past : (m x : List ℕ) → Kept m x → drop (bookWords (word m 0)) x ≡ drop (bookWords (word m 0)) m
-kept-past m x k = past-dropped (bookWords (word m 0)) m x (k .long) (k .past)
+pub kept-aside : (m x : List ℕ) → Kept m x → Aside m x
+kept-aside m x k = aside-by x m (k .long) (k .head LAYOUT (omega arith)) (k .past)
 
 pub small-more : (m : List ℕ) (a b : ℕ) → a ≤ b → Small m a → Small m b
 small-more m a b h s k p hk hp = let t = s k p hk hp in record { raised = omega arith; lowered = omega arith; volume = omega arith }
 
 -- one party: the unit as memory has it, with its new figures, is the unit after the trade
-module _ (m x : List ℕ) (way direction p q u w : ℕ) (g : Readable m) (hp : p < 24 * word m 0) (one : 1 ≤ u) (most : u ≤ word m 5) (hw : w
-    ≡ markAfter way direction (word m (1780 + 328 * p + 5 * (u - 1)))) where
-  figures-of : (k : ℕ) → getD (table (periods (word m 0)) (figuresAt m k)) p noFigures ≡ figuresAt m k p
-  figures-of k = table-at (periods (word m 0)) (figuresAt m k) p noFigures hp
+module _ (m x : List ℕ) (way direction p q u w : ℕ) (g : Readable m) (hp : p < 24 * word m DAYS) (one : 1 ≤ u) (most : u ≤ word m UNITS) (hw : w
+    ≡ markAfter way direction (word m (figurePlace (u - 1) p + MARK))) where
+  figures-of : (k : ℕ) → getD (table (periods (word m DAYS)) (figuresAt m k)) p noFigures ≡ figuresAt m k p
+  figures-of k = table-at (periods (word m DAYS)) (figuresAt m k) p noFigures hp
 
   traded-unit : unitTraded way direction p q (unitOf (decode m) u)
       ≡ record {
-        kind = word m (8 + 3 * (u - 1));
-        capacity = word m (9 + 3 * (u - 1));
-        asset = word m (10 + 3 * (u - 1));
+        kind = word m (unitPlace (u - 1));
+        capacity = word m (unitPlace (u - 1) + CAPACITY);
+        asset = word m (unitPlace (u - 1) + ASSET);
         figures = set
-            (table (periods (word m 0)) (figuresAt m (u - 1))) p (traded (word m (8 + 3 * (u - 1))) way direction q (figuresAt m (u - 1) p));
+            (table (periods (word m DAYS)) (figuresAt m (u - 1))) p (traded (word m (unitPlace (u - 1))) way direction q (figuresAt m (u - 1) p));
       }
   traded-unit =
       ap (λ (t : EnrolledUnit). unitTraded way direction p q t) (unit-at m u (one, most))
-      ∙ unit-same refl refl refl (ap (λ (f : Figures). set (table (periods (word m 0)) (figuresAt m (u - 1))) p
-      (traded (word m (8 + 3 * (u - 1))) way direction q f)) (figures-of (u - 1)))
+      ∙ unit-same refl refl refl (ap (λ (f : Figures). set (table (periods (word m DAYS)) (figuresAt m (u - 1))) p
+      (traded (word m (unitPlace (u - 1))) way direction q f)) (figures-of (u - 1)))
 
   booked-by : (r l v : ℕ) → FiguresPut m x (u - 1) p r l v w
-      → traded (word m (8 + 3 * (u - 1))) way direction q (figuresAt m (u - 1) p)
-      ≡ record { held = word m (1776 + 328 * p + 5 * (u - 1)); raised = r; lowered = l; volume = v; mark = w }
+      → traded (word m (unitPlace (u - 1))) way direction q (figuresAt m (u - 1) p)
+      ≡ record { held = word m (figurePlace (u - 1) p); raised = r; lowered = l; volume = v; mark = w }
       → decode x ≡ booked way direction p q u (decode m)
   unfolding booked
   booked-by r l v f e =
       put-book m x (u - 1) p r l v w f (omega arith) g (omega arith) hp
       ∙ ap (λ (t : EnrolledUnit). withUnits (decode m) (set (decode m .units) (u - 1) t))
-      (sym (traded-unit ∙ unit-same refl refl refl (ap (λ (t : Figures). set (table (periods (word m 0)) (figuresAt m (u - 1))) p t) e)))
+      (sym (traded-unit ∙ unit-same refl refl refl (ap (λ (t : Figures). set (table (periods (word m DAYS)) (figuresAt m (u - 1))) p t) e)))
 
-  pub trade-raised : raises (unitOf (decode m) u .kind) direction ≡ true
-      → FiguresPut m x (u - 1) p (word m (1777 + 328 * p + 5 * (u - 1)) + q) (word m (1778 + 328 * p + 5 * (u - 1)))
-      (word m (1779 + 328 * p + 5 * (u - 1)) + q) w
+  trade-raised : raises (unitOf (decode m) u .kind) direction ≡ true
+      → FiguresPut m x (u - 1) p (word m (figurePlace (u - 1) p + RAISED) + q) (word m (figurePlace (u - 1) p + LOWERED))
+      (word m (figurePlace (u - 1) p + VOLUME) + q) w
       → Traded m x way direction p q u
   unfolding traded
   trade-raised e f = record {
-    book = booked-by _ _ _ f (cond-true (raises (word m (8 + 3 * (u - 1))) direction) _ _ (rw (kind-at m u (one, most)) at e) (rw hw refl));
+    book = booked-by _ _ _ f (cond-true (raises (word m (unitPlace (u - 1))) direction) _ _ (rw (kind-at m u (one, most)) at e) (rw hw refl));
     kept = put-kept m x (u - 1) p _ _ _ _ f (omega arith) hp;
     small = λ t s. put-small m x (u - 1) p _ _ _ _ f (omega arith) q t (omega arith) (omega arith) (omega arith) (omega arith) hp (g .unitsTo) s;
   }
 
-  pub trade-lowered : raises (unitOf (decode m) u .kind) direction ≡ false
-      → FiguresPut m x (u - 1) p (word m (1777 + 328 * p + 5 * (u - 1))) (word m (1778 + 328 * p + 5 * (u - 1)) + q)
-      (word m (1779 + 328 * p + 5 * (u - 1)) + q) w
+  trade-lowered : raises (unitOf (decode m) u .kind) direction ≡ false
+      → FiguresPut m x (u - 1) p (word m (figurePlace (u - 1) p + RAISED)) (word m (figurePlace (u - 1) p + LOWERED) + q)
+      (word m (figurePlace (u - 1) p + VOLUME) + q) w
       → Traded m x way direction p q u
   unfolding traded
   trade-lowered e f = record {
-    book = booked-by _ _ _ f (cond-false (raises (word m (8 + 3 * (u - 1))) direction) _ _ (rw (kind-at m u (one, most)) at e) (rw hw refl));
+    book = booked-by _ _ _ f (cond-false (raises (word m (unitPlace (u - 1))) direction) _ _ (rw (kind-at m u (one, most)) at e) (rw hw refl));
     kept = put-kept m x (u - 1) p _ _ _ _ f (omega arith) hp;
     small = λ t s. put-small m x (u - 1) p _ _ _ _ f (omega arith) q t (omega arith) (omega arith) (omega arith) (omega arith) hp (g .unitsTo) s;
   }
+
+  -- the same of figures that a sum made, which no word is too small for
+  pub trade-booked : (b : Bool) (f : Figures) (r l v : ℕ) → f ≡ figuresAt m (u - 1) p → b ≡ raises (unitOf (decode m) u .kind) direction
+      → r ≡ cond b (min (f .raised + q) mostNumber) (f .raised) → l ≡ cond b (f .lowered) (min (f .lowered + q) mostNumber)
+      → v ≡ min (f .volume + q) mostNumber → SmallAt m (u - 1) p 2_000_000_000_000_000_000 → q ≤ mostEnergy → FiguresPut m x (u - 1) p r l v w
+      → Traded m x way direction p q u
+  trade-booked true f r l v ef eb er el ev s hq h =
+      let a = ap (λ (t : Figures). t .raised) ef in
+      let c = ap (λ (t : Figures). t .volume) ef in
+      let e1 : r ≡ word m (figurePlace (u - 1) p + RAISED) + q = omega (arith, er, a, s .raised, hq) in
+      let e2 : l ≡ word m (figurePlace (u - 1) p + LOWERED) = el ∙ ap (λ (t : Figures). t .lowered) ef in
+      let e3 : v ≡ word m (figurePlace (u - 1) p + VOLUME) + q = omega (arith, ev, c, s .volume, hq) in
+      trade-raised (sym eb) (rw (e1, e2, e3) at h)
+  trade-booked false f r l v ef eb er el ev s hq h =
+      let a = ap (λ (t : Figures). t .lowered) ef in
+      let c = ap (λ (t : Figures). t .volume) ef in
+      let e1 : r ≡ word m (figurePlace (u - 1) p + RAISED) = er ∙ ap (λ (t : Figures). t .raised) ef in
+      let e2 : l ≡ word m (figurePlace (u - 1) p + LOWERED) + q = omega (arith, el, a, s .lowered, hq) in
+      let e3 : v ≡ word m (figurePlace (u - 1) p + VOLUME) + q = omega (arith, ev, c, s .volume, hq) in
+      trade-lowered (sym eb) (rw (e1, e2, e3) at h)
 
 -- both parties of a row
 pub row-traded : (m x y : List ℕ) (r : Row) → RowFits m r → Traded m x (r .way) 0 (r .period) (r .quantity) (r .seller)
@@ -207,7 +237,7 @@ row-asks m x rows n i g l t f h b = (
 )
 
 pub seller-asks : (m : List ℕ) (r : Row) → Readable m → RowFits m r → Small m 1_900_000_000_000_000_000
-    → (Readable m) × (r .period < 24 * word m 0) × (1 ≤ r .seller) × (r .seller ≤ word m 5) × (0 ≤ 1) × (r .quantity ≤ mostEnergy)
+    → (Readable m) × (r .period < 24 * word m DAYS) × (1 ≤ r .seller) × (r .seller ≤ word m UNITS) × (0 ≤ 1) × (r .quantity ≤ mostEnergy)
     × (SmallAt m (r .seller - 1) (r .period) 2_000_000_000_000_000_000)
 seller-asks m r g f s =
     let a = f .sellerFrom in
@@ -224,7 +254,7 @@ seller-asks m r g f s =
 
 pub buyer-asks : (m x : List ℕ) (r : Row) → Readable m → RowFits m r → Small m 1_900_000_000_000_000_000
     → Traded m x (r .way) 0 (r .period) (r .quantity) (r .seller)
-    → (Readable x) × (r .period < 24 * word x 0) × (1 ≤ r .buyer) × (r .buyer ≤ word x 5) × (1 ≤ 1) × (r .quantity ≤ mostEnergy)
+    → (Readable x) × (r .period < 24 * word x DAYS) × (1 ≤ r .buyer) × (r .buyer ≤ word x UNITS) × (1 ≤ 1) × (r .quantity ≤ mostEnergy)
     × (SmallAt x (r .buyer - 1) (r .period) 2_000_000_000_000_000_000)
 buyer-asks m x r g f s t =
     let k = kept-fits m x r (t .kept) f in

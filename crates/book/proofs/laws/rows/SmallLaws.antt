@@ -19,16 +19,16 @@ use Rattle.matching.specs.Memory.{flatRow, flat, written, rowAt, rowsIn}
 use Rattle.book.specs.Book.{Figures, noFigures, EnrolledUnit, noUnit, Book, unitOf, figuresOf}
 use Rattle.book.specs.Fit.{nothing, raisingToday, loweringToday, openRaising, openLowering, hourFits, termOf, volumeFits, unitFits}
 use Rattle.book.specs.Sound.{sound, unitIn}
-use Rattle.book.specs.Layout.{word, figuresAt, decode}
+use Rattle.book.specs.Layout.{DAYS, UNITS, figurePlace, RAISED, LOWERED, VOLUME, word, figuresAt, decode}
 use Rattle.book.specs.Contract.{soundIn}
 use Rattle.book.specs.inner.RowsIn.{Small, smallFigures}
 use Rattle.book.proofs.laws.memory.RangeFacts.{units-held, unit-at}
 use Rattle.book.proofs.laws.answer.MadeLaws.{sound-book, sound-head}
 
 -- the figures of a unit in memory
-pub figures-at : (m : List ℕ) (u p : ℕ) → In 1 (word m 5) u → p < 24 * word m 0 → figuresOf (decode m) u p ≡ figuresAt m (u - 1) p
+pub figures-at : (m : List ℕ) (u p : ℕ) → In 1 (word m UNITS) u → p < 24 * word m DAYS → figuresOf (decode m) u p ≡ figuresAt m (u - 1) p
 figures-at m u p h hp =
-    ap (λ (t : EnrolledUnit). getD (t .figures) p noFigures) (unit-at m u h) ∙ table-at (periods (word m 0)) (figuresAt m (u - 1)) p noFigures hp
+    ap (λ (t : EnrolledUnit). getD (t .figures) p noFigures) (unit-at m u h) ∙ table-at (periods (word m DAYS)) (figuresAt m (u - 1)) p noFigures hp
 
 -- what one unit's fit says of its figures
 module _ (b : Book) (u : ℕ) (fit : unitFits b u ≡ true) where
@@ -61,27 +61,27 @@ module _ (b : Book) (u : ℕ) (fit : unitFits b u ≡ true) where
 
 -- each unit of a sound book fits, and its capacity is in range
 module _ (m : List ℕ) (e : soundIn m ≡ true) where
-  pub unit-fits : (u : ℕ) → In 1 (word m 5) u → unitFits (decode m) u ≡ true
+  pub unit-fits : (u : ℕ) → In 1 (word m UNITS) u → unitFits (decode m) u ≡ true
   unfolding sound
   unit-fits u h =
       let t = all-true _ (sound-book m e) in
       let k : u - 1 + 1 ≡ u = omega arith in
       rw k at (all-at (length (decode m .units)) (λ i. unitFits (decode m) (i + 1)) (u - 1) (t .1 .1 .1 .1 .1 .1 .1 .0) (omega (arith, units-held m)))
 
-  capacity-most : (u : ℕ) → In 1 (word m 5) u → unitOf (decode m) u .capacity ≤ mostCapacity
+  capacity-most : (u : ℕ) → In 1 (word m UNITS) u → unitOf (decode m) u .capacity ≤ mostCapacity
   unfolding sound unitIn
   capacity-most u h =
       let t = all-true _ (sound-book m e) in
       let i = all-true _ (every-at (unitIn (decode m .rules .days)) (decode m .units) (u - 1) noUnit (t .1 .0) (omega (arith, units-held m))) in
       within 1 mostCapacity (unitOf (decode m) u .capacity) (i .1 .0) .1
 
-  days-are : decode m .rules .days ≡ word m 0
+  days-are : decode m .rules .days ≡ word m DAYS
   unfolding decode
   days-are = refl
 
   pub sound-small : Small m smallFigures
   sound-small k p hk hp =
-      let h : In 1 (word m 5) (k + 1) = omega arith in
+      let h : In 1 (word m UNITS) (k + 1) = omega arith in
       let d = days-are in
       let hd = sound-head m e .days in
       let c = capacity-most (k + 1) h in
@@ -89,9 +89,9 @@ module _ (m : List ℕ) (e : soundIn m ≡ true) where
       let v = volume-small (decode m) (k + 1) (unit-fits (k + 1) h) p (omega arith) c (omega arith) in
       let q : k + 1 - 1 ≡ k = omega arith in
       let f : figuresOf (decode m) (k + 1) p ≡ figuresAt m k p = figures-at m (k + 1) p h hp ∙ ap (λ (t : ℕ). figuresAt m t p) q in
-      let x : figuresOf (decode m) (k + 1) p .raised ≡ word m (1777 + 328 * p + 5 * k) = ap (λ (z : Figures). z .raised) f in
-      let y : figuresOf (decode m) (k + 1) p .lowered ≡ word m (1778 + 328 * p + 5 * k) = ap (λ (z : Figures). z .lowered) f in
-      let z : figuresOf (decode m) (k + 1) p .volume ≡ word m (1779 + 328 * p + 5 * k) = ap (λ (z : Figures). z .volume) f in
+      let x : figuresOf (decode m) (k + 1) p .raised ≡ word m (figurePlace k p + RAISED) = ap (λ (z : Figures). z .raised) f in
+      let y : figuresOf (decode m) (k + 1) p .lowered ≡ word m (figurePlace k p + LOWERED) = ap (λ (z : Figures). z .lowered) f in
+      let z : figuresOf (decode m) (k + 1) p .volume ≡ word m (figurePlace k p + VOLUME) = ap (λ (z : Figures). z .volume) f in
       record { raised = omega arith; lowered = omega arith; volume = omega arith }
 
 -- rows that were written, read back

@@ -19,7 +19,7 @@ use Rattle.book.specs.Sound.{energyIn}
 use Rattle.book.specs.Refusals.{firstOf, sameSide, canTake}
 use Rattle.book.specs.Offer.{raisingAmounts}
 use Rattle.book.specs.Take.{takenParts}
-use Rattle.book.specs.Layout.{word, amountAt, decode}
+use Rattle.book.specs.Layout.{DAYS, UNITS, OFFERS, offerPlace, UNIT, PARTNER, word, amountAt, decode}
 use Rattle.book.specs.Contract.{soundIn}
 use Rattle.book.specs.inner.RowsIn.{Found, takes, partyChecks, fitChecks, partsAt, TakeFit, TakeChecked}
 use Rattle.book.proofs.laws.memory.RangeFacts.{units-held}
@@ -28,19 +28,19 @@ use Rattle.book.proofs.laws.take.FoundLaws.{found-offer, found-none}
 use Rattle.book.proofs.laws.take.PartyLaws.{AllFalse, all-false, first-after, first-before}
 
 -- what can be taken is there
-pub takes-most : (m : List ℕ) (j u q : ℕ) → takes m j u q ≡ true → q ≤ total (table (periods (word m 0)) (amountAt m j))
+pub takes-most : (m : List ℕ) (j u q : ℕ) → takes m j u q ≡ true → q ≤ total (table (periods (word m DAYS)) (amountAt m j))
 unfolding takes
-takes-most m j u q e = go (eqb (word m (202 + 5 * j)) 0) e
+takes-most m j u q e = go (eqb (word m (offerPlace j + PARTNER)) 0) e
   where
-    go : (b : Bool) → cond b (not (sameSide (decode m) (word m (201 + 5 * j)) u)
-        && leb q (total (table (periods (word m 0)) (amountAt m j)))) (eqb (word m (202 + 5 * j)) u
-        && eqb q (total (table (periods (word m 0)) (amountAt m j)))) ≡ true
-        → q ≤ total (table (periods (word m 0)) (amountAt m j))
-    go true f = leb-true q (total (table (periods (word m 0)) (amountAt m j)))
-        (and-right (not (sameSide (decode m) (word m (201 + 5 * j)) u)) (leb q (total (table (periods (word m 0)) (amountAt m j)))) f)
+    go : (b : Bool) → cond b (not (sameSide (decode m) (word m (offerPlace j + UNIT)) u)
+        && leb q (total (table (periods (word m DAYS)) (amountAt m j)))) (eqb (word m (offerPlace j + PARTNER)) u
+        && eqb q (total (table (periods (word m DAYS)) (amountAt m j)))) ≡ true
+        → q ≤ total (table (periods (word m DAYS)) (amountAt m j))
+    go true f = leb-true q (total (table (periods (word m DAYS)) (amountAt m j)))
+        (and-right (not (sameSide (decode m) (word m (offerPlace j + UNIT)) u)) (leb q (total (table (periods (word m DAYS)) (amountAt m j)))) f)
     go false f =
-        let t = eqb-true q (total (table (periods (word m 0)) (amountAt m j)))
-        (and-right (eqb (word m (202 + 5 * j)) u) (eqb q (total (table (periods (word m 0)) (amountAt m j)))) f) in
+        let t = eqb-true q (total (table (periods (word m DAYS)) (amountAt m j)))
+        (and-right (eqb (word m (offerPlace j + PARTNER)) u) (eqb q (total (table (periods (word m DAYS)) (amountAt m j)))) f) in
         omega arith
 
 module _ (m : List ℕ) (u n q lent : ℕ) (s : soundIn m ≡ true) where
@@ -74,9 +74,9 @@ module _ (m : List ℕ) (u n q lent : ℕ) (s : soundIn m ≡ true) where
         go (no h) = absurd (not-both (offerOpen (decode m) n) (not-false _ (passed .1 .1 .1 .0))
             (found-none m n j f (sound-readable m s .offersTo) (omega arith)))
 
-    known-unit : In 1 (word m 5) u
+    known-unit : In 1 (word m UNITS) u
     unfolding partyChecks
-    known-unit = within 1 (word m 5) u (rw (units-held m) at (not-false (known (decode m) u) (passed .0)))
+    known-unit = within 1 (word m UNITS) u (rw (units-held m) at (not-false (known (decode m) u) (passed .0)))
 
     energy-in : In 1 mostEnergy q
     unfolding partyChecks
@@ -89,7 +89,7 @@ module _ (m : List ℕ) (u n q lent : ℕ) (s : soundIn m ≡ true) where
         ∙ not-false (canTake (decode m) (offerOf (decode m) n) u q) (passed .1 .1 .1 .1 .0)
 
     pub fit-asks : (l : List ℕ) → length l ≡ 744
-        → (soundIn m ≡ true) × (j < word m 6) × (1 ≤ u) × (u ≤ word m 5) × (1 ≤ q) × (q ≤ total (table (periods (word m 0)) (amountAt m j)))
+        → (soundIn m ≡ true) × (j < word m OFFERS) × (1 ≤ u) × (u ≤ word m UNITS) × (1 ≤ q) × (q ≤ total (table (periods (word m DAYS)) (amountAt m j)))
         × (length l ≡ 744)
     fit-asks l h = (s, f .there found-open, known-unit .0, known-unit .1, energy-in .0, takes-most m j u q can-take, h)
 
@@ -103,5 +103,5 @@ module _ (m : List ℕ) (u n q lent : ℕ) (s : soundIn m ≡ true) where
       answer =
           g .answer ∙ ap (λ (ps : List ℕ). firstOf (fitChecks (decode m) u (raisingAmounts ps))) parts-are
           ∙ first-after (partyChecks (decode m) u n q lent) (fitChecks (decode m) u (raisingAmounts (takenParts (decode m) n q))) passed;
-      memory = λ z. g .memory ∙ ap (λ (ps : List ℕ). ps ++ drop (periods (word m 0)) l) parts-are;
+      memory = λ z. g .memory ∙ ap (λ (ps : List ℕ). ps ++ drop (periods (word m DAYS)) l) parts-are;
     }

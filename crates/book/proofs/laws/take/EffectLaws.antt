@@ -21,7 +21,7 @@ use Rattle.book.specs.Book.{OpenOffer, noOffer, offerOf, offerOpen, with
 use Rattle.book.specs.Trades.{rowsBooked}
 use Rattle.book.specs.Take.{takenParts, takeChecks, takeRefusal, takeRows, lessEach, offerLess, offersLess}
 use Rattle.book.specs.Refusals.{firstOf}
-use Rattle.book.specs.Layout.{word, amountAt, offerAt, decode}
+use Rattle.book.specs.Layout.{DAYS, UNITS, OFFERS, word, amountAt, offerAt, decode}
 use Rattle.book.specs.Contract.{soundIn}
 use Rattle.book.specs.inner.RowsIn.{Found, PartsThere, RowsPut, PartTaken, WholeTaken, PartsLent, TakeMade}
 use Rattle.book.proofs.laws.memory.RangeFacts.{units-held, offers-held}
@@ -65,66 +65,66 @@ left-none rs q some all =
     omega arith
 
 module _ (m : List ℕ) (n q j : ℕ) (f : Found m n j) (h : j < 8) where
-  amounts-are : takenParts (decode m) n q ≡ parts q (table (periods (word m 0)) (amountAt m j))
+  amounts-are : takenParts (decode m) n q ≡ parts q (table (periods (word m DAYS)) (amountAt m j))
   amounts-are = ap (λ (o : OpenOffer). parts q (o .amounts)) (found-offer m n j f h .0)
 
-  taken-long : length (takenParts (decode m) n q) ≡ 24 * word m 0
-  taken-long = ap (λ (t : List ℕ). length t) amounts-are ∙ parts-length q (table (periods (word m 0)) (amountAt m j))
-      ∙ table-length (periods (word m 0)) (amountAt m j)
+  taken-long : length (takenParts (decode m) n q) ≡ 24 * word m DAYS
+  taken-long = ap (λ (t : List ℕ). length t) amounts-are ∙ parts-length q (table (periods (word m DAYS)) (amountAt m j))
+      ∙ table-length (periods (word m DAYS)) (amountAt m j)
 
   -- the parts as the checks leave them
-  module _ (z l : List ℕ) (e : l ≡ takenParts (decode m) n q ++ drop (periods (word m 0)) z) where
-    pub parts-taken : take (24 * word m 0) l ≡ takenParts (decode m) n q
-    parts-taken = ap (λ (t : List ℕ). take (24 * word m 0) t) e
-        ∙ take-at (takenParts (decode m) n q) (drop (periods (word m 0)) z) (24 * word m 0) taken-long
+  module _ (z l : List ℕ) (e : l ≡ takenParts (decode m) n q ++ drop (periods (word m DAYS)) z) where
+    pub parts-taken : take (24 * word m DAYS) l ≡ takenParts (decode m) n q
+    parts-taken = ap (λ (t : List ℕ). take (24 * word m DAYS) t) e
+        ∙ take-at (takenParts (decode m) n q) (drop (periods (word m DAYS)) z) (24 * word m DAYS) taken-long
 
-    pub parts-there : 1 ≤ q → q ≤ total (table (periods (word m 0)) (amountAt m j)) → PartsThere m j l
+    pub parts-there : 1 ≤ q → q ≤ total (table (periods (word m DAYS)) (amountAt m j)) → PartsThere m j l
     parts-there some most p k =
         let a : getD l p 0 ≡ getD (takenParts (decode m) n q) p 0 =
-        ap (λ (t : List ℕ). getD t p 0) e ∙ List·getD-append (takenParts (decode m) n q) (drop (periods (word m 0)) z) 0 p (omega (arith, taken-long)) in
-        let b : getD (takenParts (decode m) n q) p 0 ≡ getD (parts q (table (periods (word m 0)) (amountAt m j))) p 0 = ap (λ (t : List ℕ). getD t p 0)
+        ap (λ (t : List ℕ). getD t p 0) e ∙ List·getD-append (takenParts (decode m) n q) (drop (periods (word m DAYS)) z) 0 p (omega (arith, taken-long)) in
+        let b : getD (takenParts (decode m) n q) p 0 ≡ getD (parts q (table (periods (word m DAYS)) (amountAt m j))) p 0 = ap (λ (t : List ℕ). getD t p 0)
         amounts-are in
-        let c = within-at (parts q (table (periods (word m 0)) (amountAt m j))) (table (periods (word m 0)) (amountAt m j))
-        (no-part-exceeds q (table (periods (word m 0)) (amountAt m j)) (omega arith) most) p
-        (omega (arith, table-length (periods (word m 0)) (amountAt m j))) in
-        let d = table-at (periods (word m 0)) (amountAt m j) p 0 k in
+        let c = within-at (parts q (table (periods (word m DAYS)) (amountAt m j))) (table (periods (word m DAYS)) (amountAt m j))
+        (no-part-exceeds q (table (periods (word m DAYS)) (amountAt m j)) (omega arith) most) p
+        (omega (arith, table-length (periods (word m DAYS)) (amountAt m j))) in
+        let d = table-at (periods (word m DAYS)) (amountAt m j) p 0 k in
         omega arith
 
-    rows-are : (u : ℕ) → takeRows (decode m) (offerAt m (word m 0) j) u (take (24 * word m 0) l)
+    rows-are : (u : ℕ) → takeRows (decode m) (offerAt m (word m DAYS) j) u (take (24 * word m DAYS) l)
         ≡ takeRows (decode m) (offerOf (decode m) n) u (takenParts (decode m) n q)
     rows-are u =
-        ap (λ (s : List ℕ). takeRows (decode m) (offerAt m (word m 0) j) u s) parts-taken
+        ap (λ (s : List ℕ). takeRows (decode m) (offerAt m (word m DAYS) j) u s) parts-taken
         ∙ ap (λ (o : OpenOffer). takeRows (decode m) o u (takenParts (decode m) n q)) (sym (found-offer m n j f h .0))
 
     -- the offer as the definition leaves it: with less, or gone
     left-of : total (lessEach (getD (decode m .offers) j noOffer .amounts) (takenParts (decode m) n q))
-        ≡ total (lessEach (table (periods (word m 0)) (amountAt m j)) (parts q (table (periods (word m 0)) (amountAt m j))))
+        ≡ total (lessEach (table (periods (word m DAYS)) (amountAt m j)) (parts q (table (periods (word m DAYS)) (amountAt m j))))
     left-of =
         ap (λ (o : OpenOffer). total (lessEach (o .amounts) (takenParts (decode m) n q))) (offer-at m j (f .there h))
-        ∙ ap (λ (ps : List ℕ). total (lessEach (table (periods (word m 0)) (amountAt m j)) ps)) amounts-are
+        ∙ ap (λ (ps : List ℕ). total (lessEach (table (periods (word m DAYS)) (amountAt m j)) ps)) amounts-are
 
-    less-are : 1 ≤ q → q < total (table (periods (word m 0)) (amountAt m j))
-        → set (decode m .offers) j (offerLess (offerAt m (word m 0) j) (take (24 * word m 0) l))
+    less-are : 1 ≤ q → q < total (table (periods (word m DAYS)) (amountAt m j))
+        → set (decode m .offers) j (offerLess (offerAt m (word m DAYS) j) (take (24 * word m DAYS) l))
         ≡ offersLess n (takenParts (decode m) n q) (decode m .offers)
     less-are some less =
         let hj = f .there h in
-        ap (λ (s : List ℕ). set (decode m .offers) j (offerLess (offerAt m (word m 0) j) s)) parts-taken
+        ap (λ (s : List ℕ). set (decode m .offers) j (offerLess (offerAt m (word m DAYS) j) s)) parts-taken
         ∙ ap (λ (o : OpenOffer). set (decode m .offers) j (offerLess o (takenParts (decode m) n q))) (sym (offer-at m j hj))
         ∙ sym (less-stays n (takenParts (decode m) n q) (decode m .offers) j (omega (arith, offers-held m)) (met-there m n j f h) (unmet-before m n j f h)
-        (λ y. left-some (table (periods (word m 0)) (amountAt m j)) q some less (sym left-of ∙ y)))
+        (λ y. left-some (table (periods (word m DAYS)) (amountAt m j)) q some less (sym left-of ∙ y)))
 
-    gone-are : soundIn m ≡ true → 1 ≤ q → q ≡ total (table (periods (word m 0)) (amountAt m j))
+    gone-are : soundIn m ≡ true → 1 ≤ q → q ≡ total (table (periods (word m DAYS)) (amountAt m j))
         → keep (λ (o : OpenOffer). not (eqb (o .number) n)) (decode m .offers) ≡ offersLess n (takenParts (decode m) n q) (decode m .offers)
     gone-are s some all =
         let hj = f .there h in
         sym (less-goes n (takenParts (decode m) n q) (decode m .offers) j (omega (arith, offers-held m)) (met-there m n j f h)
         (number-apart (λ (o : OpenOffer). o .number) (decode m .offers) noOffer refl (sound-rises m s .0) n j (omega (arith, offers-held m))
         (eqb-true _ _ (met-there m n j f h)))
-        (left-of ∙ left-none (table (periods (word m 0)) (amountAt m j)) q some all))
+        (left-of ∙ left-none (table (periods (word m DAYS)) (amountAt m j)) q some all))
 
     -- a take of some or of all that is left is the take of the definition
     module _ (x : List ℕ) (u : ℕ) (lent out : List ℕ) (k : ℕ) where
-      taken-rows : RowsPut lent out k (takeRows (decode m) (offerAt m (word m 0) j) u (take (24 * word m 0) l))
+      taken-rows : RowsPut lent out k (takeRows (decode m) (offerAt m (word m DAYS) j) u (take (24 * word m DAYS) l))
           → RowsPut lent out k (takeRows (decode m) (offerOf (decode m) n) u (takenParts (decode m) n q))
       taken-rows r = record {
         count = r .count ∙ ap (λ (rs : List Row). length rs) (rows-are u);
@@ -132,7 +132,7 @@ module _ (m : List ℕ) (n q j : ℕ) (f : Found m n j) (h : j < 8) where
             ∙ ap (λ (rs : List Row). written lent rs) (rows-are u);
       }
 
-      taken-book : (os : List OpenOffer) → decode x ≡ rowsBooked (takeRows (decode m) (offerAt m (word m 0) j) u (take (24 * word m 0) l))
+      taken-book : (os : List OpenOffer) → decode x ≡ rowsBooked (takeRows (decode m) (offerAt m (word m DAYS) j) u (take (24 * word m DAYS) l))
           (withOffers (decode m) os)
           → os ≡ offersLess n (takenParts (decode m) n q) (decode m .offers)
           → decode x ≡ rowsBooked (takeRows (decode m) (offerOf (decode m) n) u (takenParts (decode m) n q))
@@ -141,19 +141,19 @@ module _ (m : List ℕ) (n q j : ℕ) (f : Found m n j) (h : j < 8) where
           e ∙ ap (λ (rs : List Row). rowsBooked rs (withOffers (decode m) os)) (rows-are u)
           ∙ ap (λ (z : List OpenOffer). rowsBooked (takeRows (decode m) (offerOf (decode m) n) u (takenParts (decode m) n q)) (withOffers (decode m) z)) g
 
-      pub part-made : PartTaken m x u j l lent out k → 1 ≤ q → q < total (table (periods (word m 0)) (amountAt m j)) → TakeMade m x u n q lent out k
+      pub part-made : PartTaken m x u j l lent out k → 1 ≤ q → q < total (table (periods (word m DAYS)) (amountAt m j)) → TakeMade m x u n q lent out k
       part-made t some less = record {
-        book = taken-book (set (decode m .offers) j (offerLess (offerAt m (word m 0) j) (take (24 * word m 0) l))) (t .book) (less-are some less);
+        book = taken-book (set (decode m .offers) j (offerLess (offerAt m (word m DAYS) j) (take (24 * word m DAYS) l))) (t .book) (less-are some less);
         rows = taken-rows (t .rows);
-        past = t .past;
+        aside = t .aside;
       }
 
-      pub whole-made : WholeTaken m x u n j l lent out k → soundIn m ≡ true → 1 ≤ q → q ≡ total (table (periods (word m 0)) (amountAt m j))
+      pub whole-made : WholeTaken m x u n j l lent out k → soundIn m ≡ true → 1 ≤ q → q ≡ total (table (periods (word m DAYS)) (amountAt m j))
           → TakeMade m x u n q lent out k
       whole-made t s some all = record {
         book = taken-book (keep (λ (o : OpenOffer). not (eqb (o .number) n)) (decode m .offers)) (t .book) (gone-are s some all);
         rows = taken-rows (t .rows);
-        past = t .past;
+        aside = t .aside;
       }
 
 -- what a passed take asks of its effect
@@ -179,23 +179,23 @@ module _ (m : List ℕ) (u n q lent : ℕ) (s : soundIn m ≡ true) (e : 0 ≡ f
   pub take-some : 1 ≤ q
   take-some = passed .some
 
-  pub take-most : q ≤ total (table (periods (word m 0)) (amountAt m j))
+  pub take-most : q ≤ total (table (periods (word m DAYS)) (amountAt m j))
   take-most = let a = passed .enough in let b = ap (λ (o : OpenOffer). total (o .amounts)) (found-offer m n j f there .0) in omega arith
 
   -- all that is left, as the code sums it
-  pub take-all : (w : ℕ) → w ≡ min (total (table (periods (word m 0)) (amountAt m j))) (mostEnergy + 1) → w
-      ≡ total (table (periods (word m 0)) (amountAt m j))
+  take-all : (w : ℕ) → w ≡ min (total (table (periods (word m DAYS)) (amountAt m j))) (mostEnergy + 1) → w
+      ≡ total (table (periods (word m DAYS)) (amountAt m j))
   take-all w h = let a = offer-sound m j s (f .there there) .whole in omega arith
 
-  pub take-less : (w : ℕ) → w ≡ min (total (table (periods (word m 0)) (amountAt m j))) (mostEnergy + 1) → (q ≡ w → ⊥) → q
-      < total (table (periods (word m 0)) (amountAt m j))
-  take-less w h n = go (decLt q (total (table (periods (word m 0)) (amountAt m j))))
-    where
-      go : Dec (q < total (table (periods (word m 0)) (amountAt m j))) → q < total (table (periods (word m 0)) (amountAt m j))
-      go (yes y) = y
-      go (no y) = absurd (n (omega (arith, take-most, take-all w h)))
+  pub take-whole : (w : ℕ) → w ≡ min (total (table (periods (word m DAYS)) (amountAt m j))) (mostEnergy + 1) → w ≤ q → q
+      ≡ total (table (periods (word m DAYS)) (amountAt m j))
+  take-whole w h l = omega (arith, take-most, take-all w h, l)
 
-  pub part-asks : (l : List ℕ) → PartsLent m n q l → (soundIn m ≡ true) × (j < word m 6) × (1 ≤ u) × (u ≤ word m 5) × (744 ≤ length l) × (4464 ≤ lent)
+  pub take-less : (w : ℕ) → w ≡ min (total (table (periods (word m DAYS)) (amountAt m j))) (mostEnergy + 1) → q < w → q
+      < total (table (periods (word m DAYS)) (amountAt m j))
+  take-less w h l = omega (arith, take-all w h, l)
+
+  pub part-asks : (l : List ℕ) → PartsLent m n q l → (soundIn m ≡ true) × (j < word m OFFERS) × (1 ≤ u) × (u ≤ word m UNITS) × (744 ≤ length l) × (4464 ≤ lent)
       × (PartsThere m j l)
   part-asks l p =
       let t = passed .taker in
@@ -203,7 +203,7 @@ module _ (m : List ℕ) (u n q lent : ℕ) (s : soundIn m ≡ true) (e : 0 ≡ f
       (s, f .there there, omega arith, omega arith, p .room, lent-enough, parts-there m n q j f there (p .behind) l (p .parts) take-some take-most)
 
   pub all-asks : (l : List ℕ) → PartsLent m n q l
-      → (soundIn m ≡ true) × (j < word m 6) × (1 ≤ u) × (u ≤ word m 5) × (744 ≤ length l) × (4464 ≤ lent) × (PartsThere m j l)
+      → (soundIn m ≡ true) × (j < word m OFFERS) × (1 ≤ u) × (u ≤ word m UNITS) × (744 ≤ length l) × (4464 ≤ lent) × (PartsThere m j l)
       × (offerOpen (decode m) n ≡ true)
   all-asks l p =
       let t = passed .taker in

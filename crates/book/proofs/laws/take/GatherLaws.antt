@@ -18,7 +18,7 @@ use Rattle.limits.specs.Units.{periods}
 use Rattle.book.specs.Book.{Figures, EnrolledUnit, noUnit}
 use Rattle.book.specs.Sound.{sound, unitIn}
 use Rattle.book.specs.Offer.{raisingAmounts}
-use Rattle.book.specs.Layout.{word, amountAt, unitAt, decode}
+use Rattle.book.specs.Layout.{DAYS, UNITS, OFFERS, word, unitAt, amountAt, decode}
 use Rattle.book.specs.Contract.{soundIn}
 use Rattle.book.specs.inner.Readable.{Ranged, unitFieldsIn, marksIn, declared, Fitted, small}
 use Rattle.book.specs.inner.RowsIn.{fitChecks, partsAt, TakeFit}
@@ -59,14 +59,14 @@ at-most-total (y ∷ l) (suc i) = let t = at-most-total l i in omega arith
 
 -- a sound book in memory has every word in range, and each unit's directions
 module _ (m : List ℕ) (s : soundIn m ≡ true) where
-  unit-in-at : (k : ℕ) → k < word m 5 → unitIn (word m 0) (unitAt m (word m 0) k) ≡ true
+  unit-in-at : (k : ℕ) → k < word m UNITS → unitIn (word m DAYS) (unitAt m (word m DAYS) k) ≡ true
   unfolding sound decode
   unit-in-at k h =
       let t = all-true _ (sound-book m s) in
-      ap (unitIn (word m 0)) (sym (table-at (word m 5) (unitAt m (word m 0)) k noUnit h))
+      ap (unitIn (word m DAYS)) (sym (table-at (word m UNITS) (unitAt m (word m DAYS)) k noUnit h))
       ∙ every-at (unitIn (decode m .rules .days)) (decode m .units) k noUnit (t .1 .0) (omega (arith, units-held m))
 
-  fields-in : (k : ℕ) → k < word m 5 → unitFieldsIn m k ≡ true
+  fields-in : (k : ℕ) → k < word m UNITS → unitFieldsIn m k ≡ true
   unfolding unitFieldsIn unitIn
   fields-in k h = let t = all-true _ (unit-in-at k h) in holds-all _ (t .0, (t .1 .0, (t .1 .1 .0, tt)))
 
@@ -74,72 +74,74 @@ module _ (m : List ℕ) (s : soundIn m ≡ true) where
   unfolding sound
   sound-ranged =
       let t = all-true _ (sound-book m s) in
-      record { readable = sound-readable m s; units = all-by (word m 5) (unitFieldsIn m) fields-in; offers = t .1 .1 .0; orders = t .1 .1 .1 .0 }
+      record { readable = sound-readable m s; units = all-by (word m UNITS) (unitFieldsIn m) fields-in; offers = t .1 .1 .0; orders = t .1 .1 .1 .0 }
 
-  pub sound-marks : (u : ℕ) → In 1 (word m 5) u → marksIn (decode m) u ≡ true
+  pub sound-marks : (u : ℕ) → In 1 (word m UNITS) u → marksIn (decode m) u ≡ true
   unfolding marksIn unitIn
   sound-marks u h =
       let t = all-true _ (unit-in-at (u - 1) (omega arith)) in
       ap (λ (x : EnrolledUnit). every (λ (g : Figures). leb (g .mark) 3) (x .figures)) (unit-at m u h) ∙ t .1 .1 .1 .1 .0
 
 -- the parts of a take, as they are shared and as they fit
-module _ (m : List ℕ) (u j q : ℕ) (s : soundIn m ≡ true) (hj : j < word m 6) (hu : In 1 (word m 5) u) (some : 1 ≤ q) (most : q
-    ≤ total (table (periods (word m 0)) (amountAt m j))) where
-  whole-small : total (table (periods (word m 0)) (amountAt m j)) ≤ mostEnergy
+module _ (m : List ℕ) (u j q : ℕ) (s : soundIn m ≡ true) (hj : j < word m OFFERS) (hu : In 1 (word m UNITS) u) (some : 1 ≤ q) (most : q
+    ≤ total (table (periods (word m DAYS)) (amountAt m j))) where
+  whole-small : total (table (periods (word m DAYS)) (amountAt m j)) ≤ mostEnergy
   whole-small = offer-sound m j s hj .whole .1
 
-  gathered : (x₀ x : List ℕ) (n : ℕ) → n ≡ periods (word m 0) → x ≡ table (periods (word m 0)) (amountAt m j) ++ drop (periods (word m 0)) x₀
-      → take (n - 0) (drop 0 x) ≡ table (periods (word m 0)) (amountAt m j)
+  gathered : (x₀ x : List ℕ) (n : ℕ) → n ≡ periods (word m DAYS) → x ≡ table (periods (word m DAYS)) (amountAt m j) ++ drop (periods (word m DAYS)) x₀
+      → take (n - 0) (drop 0 x) ≡ table (periods (word m DAYS)) (amountAt m j)
   gathered x₀ x n en e =
       ap (λ (l : List ℕ). take (n - 0) l) e
-      ∙ take-at (table (periods (word m 0)) (amountAt m j)) (drop (periods (word m 0)) x₀) (n - 0) (table-length (periods (word m 0)) (amountAt m j)
+      ∙ take-at (table (periods (word m DAYS)) (amountAt m j)) (drop (periods (word m DAYS)) x₀) (n - 0) (table-length (periods (word m DAYS)) (amountAt m j)
       ∙ omega arith)
 
-  shared-as : (l : List ℕ) → 744 ≤ length l → Is (sharing q (table (periods (word m 0)) (amountAt m j)) l) 0 (partsAt m j q ++ drop (periods (word m 0)) l)
+  shared-as : (l : List ℕ) → 744 ≤ length l
+      → Is (sharing q (table (periods (word m DAYS)) (amountAt m j)) l) 0 (partsAt m j q ++ drop (periods (word m DAYS)) l)
   unfolding partsAt
   shared-as l room =
       let w = whole-small in
       let g = sound-readable m s in
-      let n = table-length (periods (word m 0)) (amountAt m j) in
-      is-shared q (table (periods (word m 0)) (amountAt m j)) l (omega arith) (omega arith) w most
-      (ap (λ (k : ℕ). parts q (table (periods (word m 0)) (amountAt m j)) ++ drop k l) (sym n))
+      let n = table-length (periods (word m DAYS)) (amountAt m j) in
+      is-shared q (table (periods (word m DAYS)) (amountAt m j)) l (omega arith) (omega arith) w most
+      (ap (λ (k : ℕ). parts q (table (periods (word m DAYS)) (amountAt m j)) ++ drop k l) (sym n))
 
-  pub shared-parts : (x₀ x l y : List ℕ) (r n : ℕ) → n ≡ periods (word m 0) → x ≡ table (periods (word m 0)) (amountAt m j) ++ drop (periods (word m 0)) x₀
+  pub shared-parts : (x₀ x l y : List ℕ) (r n : ℕ) → n ≡ periods (word m DAYS)
+      → x ≡ table (periods (word m DAYS)) (amountAt m j) ++ drop (periods (word m DAYS)) x₀
       → 744 ≤ length l → Is (sharing q (take (n - 0) (drop 0 x)) l) r y
-      → y ≡ partsAt m j q ++ drop (periods (word m 0)) l
+      → y ≡ partsAt m j q ++ drop (periods (word m DAYS)) l
   shared-parts x₀ x l y r n en e room i =
       i .memory ∙ ap (λ (rs : List ℕ). sharing q rs l .memory) (gathered x₀ x n en e) ∙ sym (shared-as l room .memory)
 
   part-most : (i : ℕ) → getD (partsAt m j q) i 0 ≤ mostEnergy
   unfolding partsAt
   part-most i =
-      let a = at-most-total (parts q (table (periods (word m 0)) (amountAt m j))) i in
-      let b = parts-sum q (table (periods (word m 0)) (amountAt m j)) (omega arith) in
+      let a = at-most-total (parts q (table (periods (word m DAYS)) (amountAt m j))) i in
+      let b = parts-sum q (table (periods (word m DAYS)) (amountAt m j)) (omega arith) in
       let c = whole-small in
       omega arith
 
-  zeros-behind : (i : ℕ) → getD (drop (periods (word m 0)) (replicate {A = ℕ} 744 0)) i 0 ≡ 0
-  zeros-behind i = getD-drop (periods (word m 0)) (replicate 744 0) i 0 ∙ zeros-at 744 (periods (word m 0) + i)
+  zeros-behind : (i : ℕ) → getD (drop (periods (word m DAYS)) (replicate {A = ℕ} 744 0)) i 0 ≡ 0
+  zeros-behind i = getD-drop (periods (word m DAYS)) (replicate 744 0) i 0 ∙ zeros-at 744 (periods (word m DAYS) + i)
 
-  pub raising-small : (y : List ℕ) → y ≡ partsAt m j q ++ drop (periods (word m 0)) (replicate 744 0) → small y
+  pub raising-small : (y : List ℕ) → y ≡ partsAt m j q ++ drop (periods (word m DAYS)) (replicate 744 0) → small y
   raising-small y e i =
       let a : getD y i 0 ≡ getD (partsAt m j q) i 0 = ap (λ (l : List ℕ). getD l i 0) e
-      ∙ padded-at (partsAt m j q) (drop (periods (word m 0)) (replicate 744 0)) zeros-behind i in
+      ∙ padded-at (partsAt m j q) (drop (periods (word m DAYS)) (replicate 744 0)) zeros-behind i in
       let b = part-most i in
       omega arith
 
   pub lowering-small : small (replicate 744 0)
   lowering-small i = let a = zeros-at 744 i in omega arith
 
-  pub take-fitted : (y l x : List ℕ) (r : ℕ) → y ≡ partsAt m j q ++ drop (periods (word m 0)) (replicate 744 0) → x ≡ partsAt m j q
-      ++ drop (periods (word m 0)) l
+  pub take-fitted : (y l x : List ℕ) (r : ℕ) → y ≡ partsAt m j q ++ drop (periods (word m DAYS)) (replicate 744 0) → x ≡ partsAt m j q
+      ++ drop (periods (word m DAYS)) l
       → Fitted (decode m) u (declared y (replicate 744 0)) r → TakeFit m u j q r l x
   unfolding fitChecks
   take-fitted y l x r ey ex f = record {
     answer =
         f .clean (sound-marks m s u hu)
         ∙ misfit-ext (decode m) u (declared y (replicate 744 0)) (raisingAmounts (partsAt m j q))
-        (λ i. ap (λ (t : List ℕ). getD t i 0) ey ∙ padded-at (partsAt m j q) (drop (periods (word m 0)) (replicate 744 0)) zeros-behind i)
+        (λ i. ap (λ (t : List ℕ). getD t i 0) ey ∙ padded-at (partsAt m j q) (drop (periods (word m DAYS)) (replicate 744 0)) zeros-behind i)
         (λ i. zeros-at 744 i)
         ∙ misfit-declared (decode m) u (raisingAmounts (partsAt m j q)) (unit-fits m s u hu);
     memory = ex;

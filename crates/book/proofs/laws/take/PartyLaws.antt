@@ -12,7 +12,7 @@ use Rattle.measures.proofs.ListLaws.{all-true, all-at}
 use Rattle.book.specs.Book.{OpenOffer, known, offerOf, offerOpen}
 use Rattle.book.specs.Sound.{sound, energyIn, offerIn}
 use Rattle.book.specs.Refusals.{Check, check, firstOf, canTake}
-use Rattle.book.specs.Layout.{word, offerAt, decode}
+use Rattle.book.specs.Layout.{DAYS, UNITS, OFFERS, offerPlace, UNIT, word, offerAt, decode}
 use Rattle.book.specs.Contract.{soundIn}
 use Rattle.book.specs.inner.Readable.{Readable}
 use Rattle.book.specs.inner.RowsIn.{Found, takes, partyChecks}
@@ -58,18 +58,18 @@ first-before (c ∷ cs) ds n = go (λ g. first-before cs ds g) (c .applies) refl
     go ih false f g = rw f (ih g)
 
 -- the offer at a place of a sound book
-pub offer-sound : (m : List ℕ) (j : ℕ) → soundIn m ≡ true → j < word m 6 → OfferWords m j
+pub offer-sound : (m : List ℕ) (j : ℕ) → soundIn m ≡ true → j < word m OFFERS → OfferWords m j
 unfolding sound
 offer-sound m j s h =
     let t = all-true _ (sound-book m s) in
-    offer-facts m j (all-at (word m 6) (λ i. offerIn (decode m) (offerAt m (word m 0) i)) j (sym (offers-every m) ∙ t .1 .1 .0) h)
+    offer-facts m j (all-at (word m OFFERS) (λ i. offerIn (decode m) (offerAt m (word m DAYS) i)) j (sym (offers-every m) ∙ t .1 .1 .0) h)
 
 module _ (m : List ℕ) (u n q lent : ℕ) where
-  is-known : In 1 (word m 5) u → not (known (decode m) u) ≡ false
-  is-known h = rw (units-held m) (rw (inside 1 (word m 5) u h) refl)
+  is-known : In 1 (word m UNITS) u → not (known (decode m) u) ≡ false
+  is-known h = rw (units-held m) (rw (inside 1 (word m UNITS) u h) refl)
 
-  is-unknown : (In 1 (word m 5) u → ⊥) → not (known (decode m) u) ≡ true
-  is-unknown h = rw (units-held m) (rw (outside 1 (word m 5) u h) refl)
+  is-unknown : (In 1 (word m UNITS) u → ⊥) → not (known (decode m) u) ≡ true
+  is-unknown h = rw (units-held m) (rw (outside 1 (word m UNITS) u h) refl)
 
   is-energy : In 1 mostEnergy q → not (energyIn q) ≡ false
   is-energy h = rw (inside 1 mostEnergy q h) refl
@@ -77,11 +77,11 @@ module _ (m : List ℕ) (u n q lent : ℕ) where
   no-energy : (In 1 mostEnergy q → ⊥) → not (energyIn q) ≡ true
   no-energy h = rw (outside 1 mostEnergy q h) refl
 
-  pub party-unknown : (In 1 (word m 5) u → ⊥) → 6 ≡ firstOf (partyChecks (decode m) u n q lent)
+  pub party-unknown : (In 1 (word m UNITS) u → ⊥) → 6 ≡ firstOf (partyChecks (decode m) u n q lent)
   unfolding partyChecks
   party-unknown h = first-hit 6 (not (known (decode m) u)) _ (is-unknown h)
 
-  module _ (hu : In 1 (word m 5) u) where
+  module _ (hu : In 1 (word m UNITS) u) where
     pub party-few : lent < 4464 → 7 ≡ firstOf (partyChecks (decode m) u n q lent)
     unfolding partyChecks
     party-few h = first-skip 6 (not (known (decode m) u)) _ (is-known hu) (first-hit 7 (ltb lent 4464) _ (lt-ltb lent 4464 h))
@@ -124,8 +124,9 @@ module _ (m : List ℕ) (u n q lent : ℕ) where
           ∷ []) (first-skip 12 (not (canTake (decode m) (offerOf (decode m) n) u q)) [] (ap not (can-take h ∙ e)) refl)
 
 -- what asking whether a unit can take needs
-pub can-asks : (m : List ℕ) (u q n r : ℕ) → soundIn m ≡ true → Found m n r → r < 8 → In 1 (word m 5) u → q ≤ mostEnergy
-    → (Readable m) × (r < 8) × (1 ≤ word m (201 + 5 * r)) × (word m (201 + 5 * r) ≤ word m 5) × (1 ≤ u) × (u ≤ word m 5) × (q ≤ mostEnergy)
+pub can-asks : (m : List ℕ) (u q n r : ℕ) → soundIn m ≡ true → Found m n r → r < 8 → In 1 (word m UNITS) u → q ≤ mostEnergy
+    → (Readable m) × (r < 8) × (1 ≤ word m (offerPlace r + UNIT)) × (word m (offerPlace r + UNIT) ≤ word m UNITS)
+    × (1 ≤ u) × (u ≤ word m UNITS) × (q ≤ mostEnergy)
 can-asks m u q n r s f h hu hq =
     let o = offer-sound m r s (f .there h) in
     (sound-readable m s, h, o .unit .0, o .unit .1, hu .0, hu .1, hq)

@@ -15,7 +15,7 @@ use Rattle.matching.specs.Orders.{Row}
 use Rattle.matching.specs.Memory.{written}
 use Rattle.book.specs.Book.{OpenOffer, noOffer, unitOf}
 use Rattle.book.specs.Take.{takeRowsFrom, takeRows, offerLess, offersLess}
-use Rattle.book.specs.Layout.{word, offerAt, decode}
+use Rattle.book.specs.Layout.{DAYS, offerPlace, UNIT, PARTNER, PRICE, word, offerAt, decode}
 use Rattle.book.specs.inner.RowsIn.{RowsPut}
 
 pub way-listing : (partner : ℕ) → partner ≡ 0 → _≡_ {A = ℕ} 2 (cond (eqb partner 0) 2 1)
@@ -25,25 +25,25 @@ pub way-bilateral : (partner : ℕ) → (partner ≡ 0 → ⊥) → _≡_ {A = �
 way-bilateral partner n = sym (cond-false (eqb partner 0) 2 1 (ne-eqb partner 0 n) refl)
 
 -- the generator sells
-module _ (m : List ℕ) (j u w k : ℕ) (ps l x : List ℕ) (hw : w ≡ cond (eqb (word m (202 + 5 * j)) 0) 2 1) where
-  pub rows-sold : generator (unitOf (decode m) (word m (201 + 5 * j)) .kind) ≡ true
-      → RowsPut l x k (takeRowsFrom 0 w (word m (201 + 5 * j)) u (word m (203 + 5 * j)) ps)
-      → RowsPut l x k (takeRows (decode m) (offerAt m (word m 0) j) u ps)
+module _ (m : List ℕ) (j u w k : ℕ) (ps l x : List ℕ) (hw : w ≡ cond (eqb (word m (offerPlace j + PARTNER)) 0) 2 1) where
+  pub rows-sold : generator (unitOf (decode m) (word m (offerPlace j + UNIT)) .kind) ≡ true
+      → RowsPut l x k (takeRowsFrom 0 w (word m (offerPlace j + UNIT)) u (word m (offerPlace j + PRICE)) ps)
+      → RowsPut l x k (takeRows (decode m) (offerAt m (word m DAYS) j) u ps)
   unfolding takeRows
   rows-sold e r =
-      let q : takeRowsFrom 0 w (word m (201 + 5 * j)) u (word m (203 + 5 * j)) ps ≡ takeRows (decode m) (offerAt m (word m 0) j) u ps =
-      ap (λ (t : ℕ). takeRowsFrom 0 t (word m (201 + 5 * j)) u (word m (203 + 5 * j)) ps) hw
-      ∙ sym (cond-true (generator (unitOf (decode m) (word m (201 + 5 * j)) .kind)) _ _ e refl) in
+      let q : takeRowsFrom 0 w (word m (offerPlace j + UNIT)) u (word m (offerPlace j + PRICE)) ps ≡ takeRows (decode m) (offerAt m (word m DAYS) j) u ps =
+      ap (λ (t : ℕ). takeRowsFrom 0 t (word m (offerPlace j + UNIT)) u (word m (offerPlace j + PRICE)) ps) hw
+      ∙ sym (cond-true (generator (unitOf (decode m) (word m (offerPlace j + UNIT)) .kind)) _ _ e refl) in
       record { count = r .count ∙ ap (λ (rs : List Row). length rs) q; rows = r .rows ∙ ap (λ (rs : List Row). written l rs) q }
 
-  pub rows-bought : generator (unitOf (decode m) (word m (201 + 5 * j)) .kind) ≡ false
-      → RowsPut l x k (takeRowsFrom 0 w u (word m (201 + 5 * j)) (word m (203 + 5 * j)) ps)
-      → RowsPut l x k (takeRows (decode m) (offerAt m (word m 0) j) u ps)
+  pub rows-bought : generator (unitOf (decode m) (word m (offerPlace j + UNIT)) .kind) ≡ false
+      → RowsPut l x k (takeRowsFrom 0 w u (word m (offerPlace j + UNIT)) (word m (offerPlace j + PRICE)) ps)
+      → RowsPut l x k (takeRows (decode m) (offerAt m (word m DAYS) j) u ps)
   unfolding takeRows
   rows-bought e r =
-      let q : takeRowsFrom 0 w u (word m (201 + 5 * j)) (word m (203 + 5 * j)) ps ≡ takeRows (decode m) (offerAt m (word m 0) j) u ps =
-      ap (λ (t : ℕ). takeRowsFrom 0 t u (word m (201 + 5 * j)) (word m (203 + 5 * j)) ps) hw
-      ∙ sym (cond-false (generator (unitOf (decode m) (word m (201 + 5 * j)) .kind)) _ _ e refl) in
+      let q : takeRowsFrom 0 w u (word m (offerPlace j + UNIT)) (word m (offerPlace j + PRICE)) ps ≡ takeRows (decode m) (offerAt m (word m DAYS) j) u ps =
+      ap (λ (t : ℕ). takeRowsFrom 0 t u (word m (offerPlace j + UNIT)) (word m (offerPlace j + PRICE)) ps) hw
+      ∙ sym (cond-false (generator (unitOf (decode m) (word m (offerPlace j + UNIT)) .kind)) _ _ e refl) in
       record { count = r .count ∙ ap (λ (rs : List Row). length rs) q; rows = r .rows ∙ ap (λ (rs : List Row). written l rs) q }
 
 -- the first offer of a number stays, with less, or goes

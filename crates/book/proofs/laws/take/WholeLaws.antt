@@ -15,15 +15,15 @@ use Rattle.matching.proofs.laws.orders.RowLaws.{written-length}
 use Rattle.book.specs.Book.{Figures, EnrolledUnit, OpenOffer, Book, unitOf, figuresOf, withOffers}
 use Rattle.book.specs.Trades.{rowsBooked}
 use Rattle.book.specs.Take.{takeRows}
-use Rattle.book.specs.Opening.{bookWords}
-use Rattle.book.specs.Layout.{word, figuresAt, offerAt, decode}
+use Rattle.book.specs.Layout.{DAYS, UNITS, OFFERS, ORDERS, word, figuresAt, offerAt, decode, Aside}
 use Rattle.book.specs.Contract.{soundIn}
 use Rattle.book.specs.inner.Readable.{Readable}
 use Rattle.book.specs.inner.RowsIn.{Small, RowFits, RowsFit, smallFigures, RowsTraded, RowsPut, PartsThere, WholeTaken}
 use Rattle.book.proofs.laws.memory.RangeFacts.{units-held, offers-held, orders-held}
 use Rattle.book.proofs.laws.answer.MadeLaws.{sound-readable}
 use Rattle.book.proofs.laws.rows.SmallLaws.{noRow, row-written, rows-written, sound-small, figures-at}
-use Rattle.book.proofs.laws.rows.BookingLaws.{kept-past}
+use Rattle.book.proofs.laws.memory.WordLaws.{aside-then}
+use Rattle.book.proofs.laws.rows.BookingLaws.{kept-aside}
 use Rattle.book.proofs.laws.take.EnterLaws.{take-fits, take-few}
 
 fewer-kept : (f : OpenOffer → Bool) (l : List OpenOffer) → length (keep f l) ≤ length l
@@ -31,32 +31,32 @@ fewer-kept f [] = omega arith
 fewer-kept f (o ∷ l) = let ih = fewer-kept f l in cond-case (λ (t : List OpenOffer). length t
     ≤ suc (length l)) (f o) _ _ (λ e. omega arith) (λ e. omega arith)
 
-days-of : (m : List ℕ) → decode m .rules .days ≡ word m 0
+days-of : (m : List ℕ) → decode m .rules .days ≡ word m DAYS
 unfolding decode
 days-of m = refl
 
-module _ (m : List ℕ) (u n j : ℕ) (l : List ℕ) (s : soundIn m ≡ true) (hj : j < word m 6) (hu : In 1 (word m 5) u) (room : 744
+module _ (m : List ℕ) (u n j : ℕ) (l : List ℕ) (s : soundIn m ≡ true) (hj : j < word m OFFERS) (hu : In 1 (word m UNITS) u) (room : 744
     ≤ length l) (pt : PartsThere m j l)
     (x : List ℕ) (dx : decode x ≡ withOffers (decode m) (keep (λ (o : OpenOffer). not (eqb (o .number) n)) (decode m .offers))) (lx : length x
     ≡ length m) where
   abbrev rs : List Row
-  rs = takeRows (decode m) (offerAt m (word m 0) j) u (take (24 * word m 0) l)
+  rs = takeRows (decode m) (offerAt m (word m DAYS) j) u (take (24 * word m DAYS) l)
 
-  w0 : word x 0 ≡ word m 0
+  w0 : word x DAYS ≡ word m DAYS
   w0 = sym (days-of x) ∙ ap (λ (b : Book). b .rules .days) dx ∙ days-of m
 
-  w5 : word x 5 ≡ word m 5
+  w5 : word x UNITS ≡ word m UNITS
   w5 = sym (units-held x) ∙ ap (λ (b : Book). length (b .units)) dx ∙ units-held m
 
-  w6 : word x 6 ≤ word m 6
+  w6 : word x OFFERS ≤ word m OFFERS
   w6 =
-      let a : word x 6 ≡ length (keep (λ (o : OpenOffer). not (eqb (o .number) n)) (decode m .offers)) = sym (offers-held x)
+      let a : word x OFFERS ≡ length (keep (λ (o : OpenOffer). not (eqb (o .number) n)) (decode m .offers)) = sym (offers-held x)
       ∙ ap (λ (b : Book). length (b .offers)) dx in
       let c = fewer-kept (λ (o : OpenOffer). not (eqb (o .number) n)) (decode m .offers) in
       let e = offers-held m in
       omega arith
 
-  w7 : word x 7 ≡ word m 7
+  w7 : word x ORDERS ≡ word m ORDERS
   w7 = sym (orders-held x) ∙ ap (λ (b : Book). length (b .orders)) dx ∙ orders-held m
 
   can-read : Readable x
@@ -79,7 +79,7 @@ module _ (m : List ℕ) (u n j : ℕ) (l : List ℕ) (s : soundIn m ≡ true) (h
       }
 
   -- the figures are as they were
-  figures-kept : (v p : ℕ) → v < word m 5 → p < 24 * word m 0 → figuresAt x v p ≡ figuresAt m v p
+  figures-kept : (v p : ℕ) → v < word m UNITS → p < 24 * word m DAYS → figuresAt x v p ≡ figuresAt m v p
   figures-kept v p hv hp =
       let i : v + 1 - 1 ≡ v = omega arith in
       ap (λ (k : ℕ). figuresAt x k p) (sym i) ∙ sym (figures-at x (v + 1) p (omega arith, omega (arith, w5)) (omega (arith, w0)))
@@ -88,8 +88,8 @@ module _ (m : List ℕ) (u n j : ℕ) (l : List ℕ) (s : soundIn m ≡ true) (h
 
   little : Small x smallFigures
   little v p hv hp =
-      let hv′ : v < word m 5 = omega (arith, w5) in
-      let hp′ : p < 24 * word m 0 = omega (arith, w0) in
+      let hv′ : v < word m UNITS = omega (arith, w5) in
+      let hp′ : p < 24 * word m DAYS = omega (arith, w0) in
       let t = sound-small m s v p hv′ hp′ in
       let f = figures-kept v p hv′ hp′ in
       let a = ap (λ (y : Figures). y .raised) f in
@@ -122,7 +122,7 @@ module _ (m : List ℕ) (u n j : ℕ) (l : List ℕ) (s : soundIn m ≡ true) (h
           } in
           subst (λ (z : Row). RowFits x z) (sym (ap (λ (z : List ℕ). rowAt z i) (r .rows) ∙ row-written lent rs i h′)) y
 
-  pub whole-taken : (y lent out : List ℕ) (k : ℕ) → drop (bookWords (word m 0)) x ≡ drop (bookWords (word m 0)) m → RowsPut lent out k rs
+  pub whole-taken : (y lent out : List ℕ) (k : ℕ) → Aside m x → RowsPut lent out k rs
       → RowsTraded x y out k → WholeTaken m y u n j l lent out k
   whole-taken y lent out k px r t =
       let q : rowsIn out k ≡ rs = ap (λ (z : List ℕ). rowsIn z k) (r .rows) ∙ ap (λ (z : ℕ). rowsIn (written lent rs) z) (r .count)
@@ -130,5 +130,5 @@ module _ (m : List ℕ) (u n j : ℕ) (l : List ℕ) (s : soundIn m ≡ true) (h
       record {
         rows = r;
         book = t .book ∙ ap (λ (z : List Row). rowsBooked z (decode x)) q ∙ ap (λ (z : Book). rowsBooked rs z) dx;
-        past = ap (λ (i : ℕ). drop (bookWords i) y) (sym w0) ∙ kept-past x y (t .kept) ∙ ap (λ (i : ℕ). drop (bookWords i) x) w0 ∙ px;
+        aside = aside-then m x y w0 px (kept-aside x y (t .kept));
       }

@@ -14,7 +14,7 @@ use Rattle.matching.specs.Orders.{Row}
 use Rattle.matching.specs.Memory.{written}
 use Rattle.matching.proofs.laws.orders.RowLaws.{written-none}
 use Rattle.book.specs.Take.{takeRowsFrom}
-use Rattle.book.specs.Layout.{word}
+use Rattle.book.specs.Layout.{amountPlace, word}
 use Rattle.book.specs.inner.RowsIn.{RowsPut, AmountsLess}
 
 abbrev rowAs : ℕ → ℕ → ℕ → ℕ → ℕ → ℕ → Row
@@ -95,24 +95,24 @@ module _ (m : List ℕ) (j : ℕ) (ps : List ℕ) where
   less-none = record { long = refl; own = λ p h. absurd (omega arith); other = λ i n. refl }
 
   module _ (x : List ℕ) (n : ℕ) (a : AmountsLess m x j ps n) where
-    pub amount-kept : word x (2096 + 328 * n + j) ≡ word m (2096 + 328 * n + j)
-    amount-kept = a .other (2096 + 328 * n + j) (λ p h e. absurd (omega arith))
+    amount-kept : word x (amountPlace j n) ≡ word m (amountPlace j n)
+    amount-kept = a .other (amountPlace j n) (λ p h e. absurd (omega arith))
 
-    pub less-more : (v : ℕ) → 2096 + 328 * n + j < length m → v ≡ word x (2096 + 328 * n + j) - getD ps n 0
-        → AmountsLess m (set x (2096 + 328 * n + j) v) j ps (n + 1)
+    pub less-more : (v : ℕ) → amountPlace j n < length m → v ≡ word x (amountPlace j n) - getD ps n 0
+        → AmountsLess m (set x (amountPlace j n) v) j ps (n + 1)
     less-more v fits e = record {
       long = simp length-set (a .long);
       own = own;
-      other = λ i f. getD-set-other x (2096 + 328 * n + j) i v 0 (f n (omega arith)) ∙ a .other i (λ p h. f p (omega arith));
+      other = λ i f. getD-set-other x (amountPlace j n) i v 0 (f n (omega arith)) ∙ a .other i (λ p h. f p (omega arith));
     }
       where
-        own : (p : ℕ) → p < n + 1 → word (set x (2096 + 328 * n + j) v) (2096 + 328 * p + j) ≡ word m (2096 + 328 * p + j) - getD ps p 0
+        own : (p : ℕ) → p < n + 1 → word (set x (amountPlace j n) v) (amountPlace j p) ≡ word m (amountPlace j p) - getD ps p 0
         own p h = go (ℕ-discrete p n)
           where
-            go : Dec (p ≡ n) → word (set x (2096 + 328 * n + j) v) (2096 + 328 * p + j) ≡ word m (2096 + 328 * p + j) - getD ps p 0
+            go : Dec (p ≡ n) → word (set x (amountPlace j n) v) (amountPlace j p) ≡ word m (amountPlace j p) - getD ps p 0
             go (yes q) =
-                rw q (getD-set-same x (2096 + 328 * n + j) v 0 (omega (arith, a .long)) ∙ e ∙ ap (λ (t : ℕ). t - getD ps n 0) amount-kept)
-            go (no q) = getD-set-other x (2096 + 328 * n + j) (2096 + 328 * p + j) v 0 (omega arith) ∙ a .own p (omega arith)
+                rw q (getD-set-same x (amountPlace j n) v 0 (omega (arith, a .long)) ∙ e ∙ ap (λ (t : ℕ). t - getD ps n 0) amount-kept)
+            go (no q) = getD-set-other x (amountPlace j n) (amountPlace j p) v 0 (omega arith) ∙ a .own p (omega arith)
 
   pub less-end : (x : List ℕ) (n t : ℕ) → n ≡ t → AmountsLess m x j ps n → AmountsLess m x j ps t
   less-end x n t e a = rw e at a

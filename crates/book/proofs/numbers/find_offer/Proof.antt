@@ -1,17 +1,17 @@
 -- `find_offer`: no offer passed has the number.
 use Prim.Native.Nat.{_≤_, _-_}
 use native.Mathlib.Omega.{arith}
-use Rattle.book.specs.Layout.{word}
+use Rattle.book.specs.Layout.{OFFERS, word}
 use Rattle.book.proofs.laws.take.FoundLaws.{Unmet, unmet-more, found-here, found-nowhere}
 use borrow.Author.Needs.{needs}
 use Rattle.book.proofs.numbers.find_offer.Statement.{statement}
 use Rattle.book.proofs.numbers.find_offer.Tie as tie
 
 abbrev Inv-loop : tie.InvT-loop
-Inv-loop book number n j₀ j = (j ≤ word book 6) × (Unmet book number j)
+Inv-loop book number n j₀ j = (j ≤ word book OFFERS) × (Unmet book number j)
 
 abbrev μ-loop : tie.MeasureT-loop
-μ-loop book number n j₀ j = word book 6 - j
+μ-loop book number n j₀ j = word book OFFERS - j
 
 shared-slice-read-n : tie.Need-shared-slice-read-n Inv-loop μ-loop
 shared-slice-read-n c = search needs

@@ -7,17 +7,17 @@ use borrow.Author.Tests.{eq-eqb, ne-eqb}
 use lib.Dec.{eqb}
 use Rattle.measures.specs.Lists.{all}
 use Rattle.measures.proofs.ListLaws.{all-none, all-more, all-fails}
-use Rattle.book.specs.Layout.{word}
+use Rattle.book.specs.Layout.{ORDERS, orderPlace, word}
 use Rattle.book.proofs.laws.check.NumberLaws.{number-by-places}
 use borrow.Author.Needs.{needs}
 use Rattle.book.proofs.numbers.number_free.Statement.{statement}
 use Rattle.book.proofs.numbers.number_free.Tie as tie
 
 abbrev Inv-loop : tie.InvT-loop
-Inv-loop book number n k₀ k = (k ≤ word book 7) × (all k (λ i. not (eqb number (word book (240 + 6 * i)))) ≡ true)
+Inv-loop book number n k₀ k = (k ≤ word book ORDERS) × (all k (λ i. not (eqb number (word book (orderPlace i)))) ≡ true)
 
 abbrev μ-loop : tie.MeasureT-loop
-μ-loop book number n k₀ k = word book 7 - k
+μ-loop book number n k₀ k = word book ORDERS - k
 
 shared-slice-read-n : tie.Need-shared-slice-read-n Inv-loop μ-loop
 shared-slice-read-n c = search needs
@@ -56,7 +56,7 @@ loop-again c =
 returns-2 : tie.Need-returns-2 Inv-loop μ-loop
 returns-2 c =
     let l = c .before in
-    let e : l .loop .k ≡ word (l .before .before .args .book .now) 7 = omega arith in
+    let e : l .loop .k ≡ word (l .before .before .args .book .now) ORDERS = omega arith in
     sym (number-by-places _ _ (omega arith) ∙ (rw e at (l .loop .inv .1)))
 
 pub number-free-spec : {M : Type 1} → statement M

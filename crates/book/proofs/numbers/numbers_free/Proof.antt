@@ -6,7 +6,7 @@ use native.Mathlib.Omega.{arith}
 use borrow.Author.Tests.{not-true, not-false}
 use Rattle.measures.specs.Lists.{all}
 use Rattle.measures.proofs.ListLaws.{all-none, all-more, all-fails}
-use Rattle.book.specs.Layout.{word, decode}
+use Rattle.book.specs.Layout.{OFFERS, offerPlace, word, decode}
 use Rattle.book.specs.inner.Readable.{numberFree}
 use Rattle.book.proofs.laws.check.NumberLaws.{numbers-by-places}
 use borrow.Author.Needs.{needs}
@@ -14,10 +14,10 @@ use Rattle.book.proofs.numbers.numbers_free.Statement.{statement}
 use Rattle.book.proofs.numbers.numbers_free.Tie as tie
 
 abbrev Inv-loop : tie.InvT-loop
-Inv-loop book n j₀ j = (j ≤ word book 6) × (all j (λ i. numberFree (decode book) (word book (200 + 5 * i))) ≡ true)
+Inv-loop book n j₀ j = (j ≤ word book OFFERS) × (all j (λ i. numberFree (decode book) (word book (offerPlace i))) ≡ true)
 
 abbrev μ-loop : tie.MeasureT-loop
-μ-loop book n j₀ j = word book 6 - j
+μ-loop book n j₀ j = word book OFFERS - j
 
 shared-slice-read-n : tie.Need-shared-slice-read-n Inv-loop μ-loop
 shared-slice-read-n c = search needs
@@ -59,7 +59,7 @@ loop-again c =
 returns-2 : tie.Need-returns-2 Inv-loop μ-loop
 returns-2 c =
     let l = c .before in
-    let e : l .loop .j ≡ word (l .before .before .before .args .book .now) 6 = omega arith in
+    let e : l .loop .j ≡ word (l .before .before .before .args .book .now) OFFERS = omega arith in
     sym (numbers-by-places _ ∙ (rw e at (l .loop .inv .1)))
 
 pub numbers-free-spec : {M : Type 1} → statement M

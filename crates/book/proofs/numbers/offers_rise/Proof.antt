@@ -2,7 +2,7 @@
 use Prim.Native.Nat.{ℕ, _≤_, _-_}
 use mathlib.Core.Path.{_≡_, sym, _∙_}
 use native.Mathlib.Omega.{arith}
-use Rattle.book.specs.Layout.{word}
+use Rattle.book.specs.Layout.{OFFERS, word}
 use Rattle.book.proofs.laws.check.NumberLaws.{Climbing, climbing-more, climbing-rises, climbing-fails}
 use borrow.Author.Needs.{needs}
 use Rattle.book.proofs.numbers.offers_rise.Statement.{statement}
@@ -12,7 +12,7 @@ abbrev Inv-loop : tie.InvT-loop
 Inv-loop book n j₀ j = (1 ≤ j) × Climbing book j
 
 abbrev μ-loop : tie.MeasureT-loop
-μ-loop book n j₀ j = word book 6 - j
+μ-loop book n j₀ j = word book OFFERS - j
 
 shared-slice-read-n : tie.Need-shared-slice-read-n Inv-loop μ-loop
 shared-slice-read-n c = search needs

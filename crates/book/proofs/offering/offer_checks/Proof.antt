@@ -5,12 +5,12 @@ use Rattle.book.proofs.laws.offer.OfferChainLaws.{Terms, terms-left, of
 use Rattle.book.proofs.offering.offer_checks.Statement.{statement}
 use Rattle.book.proofs.offering.offer_checks.Tie as tie
 
-left : (c : tie.Else1) → Terms (c .before .before .before .before .args .book .now) (c .before .before .before .before .args .unit)
-    (c .before .before .before .before .args .partner) (c .before .before .before .before .args .amounts .now)
+left : (c : tie.Else1) → Terms (c .before .before .before .before .args .book .now) (c .before .before .before .before .args .terms .unit)
+    (c .before .before .before .before .args .terms .partner) (c .before .before .before .before .args .amounts .now)
 left c =
     let a = c .before .before .before .before .args in
     let t = c .before .offer-terms in
-    terms-left (a .book .now) (a .unit) (a .partner) (a .price) (a .amounts .now) (t .result) (t .ensures) (c .if1 .left)
+    terms-left (a .book .now) (a .terms .unit) (a .terms .partner) (a .terms .price .0) (a .amounts .now) (t .result) (t .ensures) (c .if1 .left)
 
 offer-terms-requires : tie.Need-offer-terms-requires
 offer-terms-requires c κs = sound-readable _ (c .before .before .pre)
@@ -19,7 +19,7 @@ returns : tie.Need-returns
 returns c =
     let c4 = c .before .before .before .before in
     let a = c4 .args in
-    offer-terms (decode (a .book .now)) (a .unit) (a .partner) (a .price) (a .amounts .now) (c .before .offer-terms .result)
+    offer-terms (decode (a .book .now)) (a .terms .unit) (a .terms .partner) (a .terms .price .0) (a .amounts .now) (c .before .offer-terms .result)
     (c .before .offer-terms .ensures) (c .if1 .taken)
 
 offer-room-requires : tie.Need-offer-room-requires
@@ -32,8 +32,8 @@ returns-2 c =
     let a = c6 .args in
     let t = c3 .offer-terms in
     let r = c .before .offer-room in
-    offer-room (decode (a .book .now)) (a .unit) (a .partner) (a .price) (a .amounts .now) (t .result) (t .ensures) (c .before .before .if1 .left)
-    (r .result) (r .ensures) (c .if2 .taken)
+    offer-room (decode (a .book .now)) (a .terms .unit) (a .terms .partner) (a .terms .price .0) (a .amounts .now) (t .result) (t .ensures)
+    (c .before .before .if1 .left) (r .result) (r .ensures) (c .if2 .taken)
 
 offer-fit-requires : tie.Need-offer-fit-requires
 offer-fit-requires c κs =
@@ -49,8 +49,8 @@ returns-3 c =
     let t = c4 .offer-terms in
     let r = c .before .before .offer-room in
     let f = c .offer-fit in
-    offer-fit (decode (a .book .now)) (a .unit) (a .partner) (a .price) (a .amounts .now) (t .result) (t .ensures) (c3 .if1 .left) (r .result) (r .ensures)
-    (c .before .if2 .left) (f .result) (f .ensures)
+    offer-fit (decode (a .book .now)) (a .terms .unit) (a .terms .partner) (a .terms .price .0) (a .amounts .now) (t .result) (t .ensures)
+    (c3 .if1 .left) (r .result) (r .ensures) (c .before .if2 .left) (f .result) (f .ensures)
 
 pub offer-checks-spec : {M : Type 1} → statement M
 offer-checks-spec =

@@ -3,8 +3,7 @@ use native.Mathlib.Omega.{arith}
 use lib.ListN.{length-set}
 use Rattle.book.specs.inner.Readable.{Readable}
 use Rattle.book.proofs.laws.answer.MadeLaws.{sound-head, sound-readable}
-use Rattle.book.proofs.laws.offer.OfferedLaws.{offered-in, offered-past}
-use Rattle.book.proofs.laws.memory.PlaceFacts.{offer-unit-place, partner-place, price-place, taken-place}
+use Rattle.book.proofs.laws.offer.OfferedLaws.{offered-in, offered-aside}
 use borrow.Author.Needs.{needs}
 use Rattle.book.proofs.offering.offer_effect.Statement.{statement}
 use Rattle.book.proofs.offering.offer_effect.Tie as tie
@@ -110,11 +109,11 @@ returns c =
     let a = s .args in
     let e = c4 .fresh .ensures in
     let w = c .before .before .put-amounts in
-    rw (e .0, e .1, e .2, e .3, e .4, offer-unit-place, partner-place, price-place, taken-place) (
-      offered-in (a .book .now) (w .last .0) (a .unit) (a .partner) (a .price) (a .amounts .now) (ok s) (s .pre .1) (s .pre .2) (w .kept .0) (w .ensures .0)
-          (w .ensures .1) (w .ensures .2),
-      offered-past (a .book .now) (w .last .0) (a .unit) (a .partner) (a .price) (a .amounts .now) (ok s) (s .pre .1) (s .pre .2) (w .kept .0)
-          (w .ensures .0) (w .ensures .1) (w .ensures .2),
+    rw (e .0, e .1, e .2, e .3, e .4) (
+      offered-in (a .book .now) (w .last .0) (a .terms .unit) (a .terms .partner) (a .terms .price .0) (a .amounts .now) (ok s) (s .pre .1) (s .pre .2)
+          (w .kept .0) (w .ensures .0) (w .ensures .1),
+      offered-aside (a .book .now) (w .last .0) (a .terms .unit) (a .terms .partner) (a .terms .price .0) (a .amounts .now) (ok s) (s .pre .1) (s .pre .2)
+          (w .kept .0) (w .ensures .0) (w .ensures .1),
     )
 
 pub offer-effect-spec : {M : Type 1} → statement M

@@ -34,7 +34,7 @@ slice-aggregate-misfit-2 c = search needs
 misfit-requires : tie.Need-misfit-requires
 misfit-requires c κs =
     let s = c .before .before .before .before .before .before .before in (
-      (sound-ranged (s .args .book .now) (s .pre .0), s .pre .1, s .pre .2),
+      (s .pre .0, sound-ranged (s .args .book .now) (s .pre .0), s .pre .1, s .pre .2),
       (
         c .before .before .before .copy-amounts .kept .1 .0,
         refl,

@@ -14,7 +14,8 @@ returns : tie.Need-returns
 returns c =
     let s = c .before .before .before in
     let a = s .args in
-    room-sides (a .book .now) (a .unit) (a .partner) (s .pre .3) (sym (c .before .sides-fit .ensures) ∙ not-true _ (c .if1 .taken))
+    room-sides (a .book .now) (a .terms .unit) (a .terms .partner) (s .pre .3)
+    (sym (c .before .sides-fit .ensures) ∙ not-true _ (c .if1 .taken))
 
 shared-slice-read-if2 : tie.Need-shared-slice-read-if2
 shared-slice-read-if2 c = search needs
@@ -24,7 +25,8 @@ returns-2 c =
     let c3 = c .before .before .before in
     let s = c .before .before .before .before .before in
     let a = s .args in
-    room-full (a .book .now) (a .unit) (a .partner) (s .pre .3) (sym (c3 .sides-fit .ensures) ∙ not-false _ (c .before .before .if1 .left)) (omega arith)
+    room-full (a .book .now) (a .terms .unit) (a .terms .partner) (s .pre .3)
+    (sym (c3 .sides-fit .ensures) ∙ not-false _ (c .before .before .if1 .left)) (omega arith)
 
 shared-slice-read-if3 : tie.Need-shared-slice-read-if3
 shared-slice-read-if3 c = search needs
@@ -35,7 +37,8 @@ returns-3 c =
     let c5 = c4 .before in
     let s = c .before .before .before .before .before .before .before in
     let a = s .args in
-    room-used (a .book .now) (a .unit) (a .partner) (s .pre .3) (sym (c5 .sides-fit .ensures) ∙ not-false _ (c4 .if1 .left)) (omega arith) (omega arith)
+    room-used (a .book .now) (a .terms .unit) (a .terms .partner) (s .pre .3)
+    (sym (c5 .sides-fit .ensures) ∙ not-false _ (c4 .if1 .left)) (omega arith) (omega arith)
 
 returns-4 : tie.Need-returns-4
 returns-4 c =
@@ -43,7 +46,8 @@ returns-4 c =
     let c5 = c4 .before in
     let s = c .before .before .before .before .before .before .before in
     let a = s .args in
-    room-pass (a .book .now) (a .unit) (a .partner) (s .pre .3) (sym (c5 .sides-fit .ensures) ∙ not-false _ (c4 .if1 .left)) (omega arith) (omega arith)
+    room-pass (a .book .now) (a .terms .unit) (a .terms .partner) (s .pre .3)
+    (sym (c5 .sides-fit .ensures) ∙ not-false _ (c4 .if1 .left)) (omega arith) (omega arith)
 
 pub offer-room-spec : {M : Type 1} → statement M
 offer-room-spec =

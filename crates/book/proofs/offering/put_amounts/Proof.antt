@@ -59,7 +59,7 @@ same-length c = search needs
 returns : tie.Need-returns Inv-loop μ-loop
 returns c =
     let g = c .before .loop .inv in
-    (λ q hq. g .put q (omega arith), λ i h. g .kept i (λ q hq z. h q (omega arith) z), g .past)
+    (λ q hq. g .put q (omega arith), λ i h. g .kept i (λ q hq z. h q (omega arith) z))
 
 pub put-amounts-spec : {M : Type 1} → statement M
 put-amounts-spec =

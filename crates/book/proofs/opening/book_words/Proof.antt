@@ -21,4 +21,9 @@ returns-3 : tie.Need-returns-3
 returns-3 c = (words-some _ (omega arith), omega arith)
 
 pub book-words-spec : {M : Type 1} → statement M
-book-words-spec = tie.close (tie.spec returns returns-2 mul-result add-result returns-3)
+book-words-spec = tie.close (tie.spec
+    returns
+    returns-2
+    mul-result
+    add-result
+    returns-3)

@@ -36,7 +36,7 @@ same-length c = search needs
 returns-6 : tie.Need-returns-6
 returns-6 c =
     let w = c .before .before .write-head in
-    opened-fresh _ _ _ _ _ (opens _ _ _ _ (omega arith) (omega arith) (omega arith) (omega arith)) (w .ensures .0) (w .ensures .1) (w .kept .0)
+    opened-fresh _ _ _ _ _ (opens _ _ _ _ (omega arith) (omega arith) (omega arith) (omega arith)) (w .ensures .0) (w .ensures .1) (w .ensures .2) (w .kept .0)
 
 pub open-spec : {M : Type 1} → statement M
 open-spec =

@@ -1,4 +1,4 @@
--- `append`: the part comes back with the order behind the others, and word 7 counts it.
+-- `append`: the part comes back with the order behind the others, and the count has it.
 use native.Mathlib.Omega.{arith}
 use mathlib.Core.Path.{_∙_}
 use borrow.Rule.Slice.PartMut.{mid-len}
@@ -8,6 +8,7 @@ use Rattle.book.proofs.laws.order.WaitLaws.{appended}
 use borrow.Author.Needs.{needs}
 use Rattle.book.proofs.ordering.append.Statement.{statement}
 use Rattle.book.proofs.ordering.append.Tie as tie
+use Rattle.book.specs.Layout.{ordersStart, amountsStart}
 
 slice-read-n : tie.Need-slice-read-n
 slice-read-n c = search needs
@@ -40,7 +41,7 @@ returns : tie.Need-returns
 returns c =
     let s = c .before .before .before .before .before .before in
     appended (s .args .book .now) (c .before .before .write .last .0) _ (omega arith) (c .before .before .write .kept .0
-    ∙ mid-len 240 1776 (s .args .book .now) (omega arith)) (c .before .before .write .ensures .orders
+    ∙ mid-len ordersStart amountsStart (s .args .book .now) (omega arith)) (c .before .before .write .ensures .orders
     (place-there _ _ _ (omega arith) (simp (length-take, length-drop) (omega arith)) (omega arith)))
 
 pub append-spec : {M : Type 1} → statement M

@@ -1,5 +1,5 @@
 -- `counted`: the phase decides.
-use Rattle.book.specs.Layout.{word}
+use Rattle.book.specs.Layout.{PHASE, word}
 use native.Mathlib.Omega.{arith}
 use Rattle.book.proofs.laws.order.OrderCheckLaws.{counted-call, counted-rolling}
 use borrow.Author.Needs.{needs}
@@ -10,10 +10,13 @@ shared-slice-read-if1 : tie.Need-shared-slice-read-if1
 shared-slice-read-if1 c = search needs
 
 returns : tie.Need-returns
-returns c = counted-call (word (c .before .before .args .book .now) 3) _ (omega arith)
+returns c = counted-call (word (c .before .before .args .book .now) PHASE) _ (omega arith)
 
 returns-2 : tie.Need-returns-2
-returns-2 c = counted-rolling (word (c .before .before .args .book .now) 3) _ (omega arith)
+returns-2 c = counted-rolling (word (c .before .before .args .book .now) PHASE) _ (omega arith)
 
 pub counted-spec : {M : Type 1} → statement M
-counted-spec = tie.close (tie.spec shared-slice-read-if1 returns returns-2)
+counted-spec = tie.close (tie.spec
+    shared-slice-read-if1
+    returns
+    returns-2)

@@ -15,4 +15,7 @@ returns-2 : tie.Need-returns-2
 returns-2 c = mark-one (c .before .args .direction) (c .before .args .mark) (omega arith) (omega arith)
 
 pub marked-against-spec : {M : Type 1} → statement M
-marked-against-spec = tie.close (tie.spec returns sub-result returns-2)
+marked-against-spec = tie.close (tie.spec
+    returns
+    sub-result
+    returns-2)

@@ -1,4 +1,4 @@
--- `meet_orders`: the part comes back as matching leaves it, and word 7 counts what stands.
+-- `meet_orders`: the part comes back as matching leaves it, and the count is of what stands.
 use native.Mathlib.Omega.{arith}
 use mathlib.Core.Path.{ap, _∙_}
 use borrow.Rule.Slice.PartMut.{mid-len}
@@ -6,6 +6,7 @@ use Rattle.matching.specs.declared.orders.Matched.{Matched}
 use Rattle.matching.specs.Memory.{asOrder}
 use Rattle.matching.specs.Answers.{answerOf}
 use Rattle.book.specs.inner.Readable.{Readable}
+use Rattle.book.specs.Layout.{ordersStart, amountsStart}
 use Rattle.book.proofs.laws.answer.MadeLaws.{sound-readable}
 use Rattle.book.proofs.laws.order.RestWaitLaws.{met-unfit, met-rolled}
 use borrow.Author.Needs.{needs}
@@ -67,7 +68,7 @@ returns-2 c =
     let r = ok s in
     met-rolled (s .args .book .now) (c7 .meet .last .0) (s .args .rows .now) (c7 .meet .last .1 .1 .1 .0) (asOrder (s .args .o)) (c7 .meet .result)
     (s .pre .0) (s .pre .1) (c7 .meet .ensures) _ _ _
-    (ap answerOf (c .before .met .given .1)) (c7 .meet .kept .0 ∙ mid-len 240 1776 (s .args .book .now) (omega arith))
+    (ap answerOf (c .before .met .given .1)) (c7 .meet .kept .0 ∙ mid-len ordersStart amountsStart (s .args .book .now) (omega arith))
 
 pub meet-orders-spec : {M : Type 1} → statement M
 meet-orders-spec =

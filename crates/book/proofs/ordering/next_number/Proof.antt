@@ -1,6 +1,6 @@
--- `next_number`: only word 4 changes.
+-- `next_number`: only the count of numbers changes.
 use native.Mathlib.Omega.{arith}
-use Rattle.book.proofs.laws.order.WaitLaws.{number-more, number-past}
+use Rattle.book.proofs.laws.order.WaitLaws.{number-more, number-aside}
 use borrow.Author.Needs.{needs}
 use Rattle.book.proofs.ordering.next_number.Statement.{statement}
 use Rattle.book.proofs.ordering.next_number.Tie as tie
@@ -18,8 +18,13 @@ same-length : tie.Need-same-length
 same-length c = search needs
 
 returns : tie.Need-returns
-returns c = (number-more (c .before .args .book .now) (omega arith), λ n l. number-past (c .before .args .book .now) _ n l)
+returns c = (number-more (c .before .args .book .now) (omega arith), number-aside (c .before .args .book .now) _)
 
 pub next-number-spec : {M : Type 1} → statement M
 next-number-spec =
-    tie.close (tie.spec slice-read-given add-book slice-write-book same-length returns)
+    tie.close (tie.spec
+    slice-read-given
+    add-book
+    slice-write-book
+    same-length
+    returns)

@@ -14,7 +14,8 @@ returns : tie.Need-returns
 returns c =
     let c3 = c .before .before .before in
     let s = c3 .args in
-    order-names-first (decode (s .book .now)) (s .unit) (s .direction) (s .period) (s .price) (s .quantity) (s .lent) _ (omega arith)
+    order-names-first (decode (s .book .now)) (s .wanted .unit) (s .wanted .direction) (s .wanted .period) (s .wanted .price .0) (s .wanted .quantity .0)
+    (s .lent) _ (omega arith)
     (c .before .order-names .ensures .answer)
 
 order-days-requires : tie.Need-order-days-requires
@@ -27,7 +28,8 @@ returns-2 c =
     let c5 = c .before .before .before .before .before in
     let s = c5 .args in
     let z : c .before .before .before .order-names .result ≡ 0 = omega arith in
-    order-days-first (decode (s .book .now)) (s .unit) (s .direction) (s .period) (s .price) (s .quantity) (s .lent) _
+    order-days-first (decode (s .book .now)) (s .wanted .unit) (s .wanted .direction) (s .wanted .period) (s .wanted .price .0) (s .wanted .quantity .0)
+    (s .lent) _
     (sym z ∙ c .before .before .before .order-names .ensures .answer) (omega arith) (c .before .order-days .ensures)
 
 order-fit-requires : tie.Need-order-fit-requires
@@ -41,7 +43,8 @@ returns-3 c =
     let s = c6 .args in
     let z : c .before .before .before .before .order-names .result ≡ 0 = omega arith in
     let y : c .before .before .order-days .result ≡ 0 = omega arith in
-    order-fit-first (decode (s .book .now)) (s .unit) (s .direction) (s .period) (s .price) (s .quantity) (s .lent) _
+    order-fit-first (decode (s .book .now)) (s .wanted .unit) (s .wanted .direction) (s .wanted .period) (s .wanted .price .0) (s .wanted .quantity .0)
+    (s .lent) _
     (sym z ∙ c .before .before .before .before .order-names .ensures .answer) (sym y ∙ c .before .before .order-days .ensures) (c .order-fit .ensures)
 
 pub order-checks-spec : {M : Type 1} → statement M

@@ -14,20 +14,26 @@ returns c = days-against _ _ _ _ (omega arith) (omega arith) (omega arith) (omeg
 sub-k : tie.Need-sub-k
 sub-k c = search needs
 
-mul-mark : tie.Need-mul-mark
-mul-mark c = search needs
+mul-at : tie.Need-mul-at
+mul-at c = search needs
+
+add-at : tie.Need-add-at
+add-at c = search needs
+
+mul-at-2 : tie.Need-mul-at-2
+mul-at-2 c = search needs
+
+add-at-2 : tie.Need-add-at-2
+add-at-2 c = search needs
+
+add-at-3 : tie.Need-add-at-3
+add-at-3 c = search needs
 
 add-mark : tie.Need-add-mark
 add-mark c = search needs
 
-mul-mark-2 : tie.Need-mul-mark-2
-mul-mark-2 c = search needs
-
-add-mark-2 : tie.Need-add-mark-2
-add-mark-2 c = search needs
-
-mul-mark-3 : tie.Need-mul-mark-3
-mul-mark-3 c = search needs
+mul-mark : tie.Need-mul-mark
+mul-mark c = search needs
 
 shared-slice-read-mark : tie.Need-shared-slice-read-mark
 shared-slice-read-mark c = search needs
@@ -83,11 +89,13 @@ order-days-spec =
     unit-orders-requires
     returns
     sub-k
-    mul-mark
+    mul-at
+    add-at
+    mul-at-2
+    add-at-2
+    add-at-3
     add-mark
-    mul-mark-2
-    add-mark-2
-    mul-mark-3
+    mul-mark
     shared-slice-read-mark
     marked-against-requires
     returns-2

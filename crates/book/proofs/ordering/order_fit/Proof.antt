@@ -30,11 +30,11 @@ misfit-requires : tie.Need-misfit-requires
 misfit-requires c κs =
     let s = c .before .before .before .before .before in
     let r = ok s in (
-      (sound-ranged _ (s .pre .0), s .pre .1 .from, s .pre .1 .upto),
+      (s .pre .0, sound-ranged _ (s .pre .0), s .pre .1 .from, s .pre .1 .upto),
       (
-        alone-length 744 (s .args .period) (s .args .quantity),
+        alone-length 744 (s .args .wanted .period) (s .args .wanted .quantity .0),
         refl,
-        alone-small 744 (s .args .period) (s .args .quantity) (omega arith)
+        alone-small 744 (s .args .wanted .period) (s .args .wanted .quantity .0) (omega arith)
             (s .pre .1 .quantity),
         zeros-small 744,
       ),
@@ -59,12 +59,12 @@ misfit-requires-2 : tie.Need-misfit-requires-2
 misfit-requires-2 c κs =
     let s = c .before .before .before .before .before in
     let r = ok s in (
-      (sound-ranged _ (s .pre .0), s .pre .1 .from, s .pre .1 .upto),
+      (s .pre .0, sound-ranged _ (s .pre .0), s .pre .1 .from, s .pre .1 .upto),
       (
         refl,
-        alone-length 744 (s .args .period) (s .args .quantity),
+        alone-length 744 (s .args .wanted .period) (s .args .wanted .quantity .0),
         zeros-small 744,
-        alone-small 744 (s .args .period) (s .args .quantity) (omega arith)
+        alone-small 744 (s .args .wanted .period) (s .args .wanted .quantity .0) (omega arith)
             (s .pre .1 .quantity),
       ),
     )

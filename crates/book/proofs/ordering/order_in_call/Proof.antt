@@ -1,11 +1,11 @@
 -- `order_in_call`: the order waits behind the others, and its number is given.
-use Rattle.book.specs.Opening.{bookWords}
-use Rattle.book.specs.Layout.{word}
+use Rattle.book.specs.Layout.{DAYS, GIVEN}
 use native.Mathlib.Omega.{arith}
 use mathlib.Core.Path.{_∙_}
 use Rattle.book.specs.inner.Readable.{Readable}
 use Rattle.book.proofs.laws.answer.MadeLaws.{sound-readable}
-use Rattle.book.proofs.laws.order.WaitLaws.{put-past, called}
+use Rattle.book.proofs.laws.memory.WordLaws.{aside-then}
+use Rattle.book.proofs.laws.order.WaitLaws.{put-aside, called}
 use Rattle.book.proofs.laws.order.RestWaitLaws.{put-same}
 use borrow.Author.Needs.{needs}
 use Rattle.book.proofs.ordering.order_in_call.Statement.{statement}
@@ -31,7 +31,7 @@ next-number-requires c κs =
     let c8 = c .before .before .before .before .before .before .before .before in
     let r = ok c8 in
     let h = c .before .before .before .append .ensures in
-    let a = h .low 4 (omega arith) (omega arith) in
+    let a = h .low GIVEN (omega arith) (omega arith) in
     let l = h .long in
     (omega arith, omega arith)
 
@@ -47,8 +47,7 @@ returns c =
     let h = put-same _ _ (c8 .fresh .ensures) _ _ (c6 .append .ensures) in
     let n = c .before .before .next-number .ensures in (
       called (s .args .book .now) _ _ _ _ _ _ _ (r .unitsTo) (r .offersTo) h (n .0),
-      n .1 (bookWords (word (s .args .book .now) 0)) (omega arith)
-          ∙ put-past _ _ _ h (bookWords (word (s .args .book .now) 0)) (omega arith),
+      aside-then _ _ _ (h .low DAYS (omega arith) (omega arith)) (put-aside _ _ _ h) (n .1),
     )
 
 pub order-in-call-spec : {M : Type 1} → statement M

@@ -27,8 +27,9 @@ slice-read-number c = let r = ok (c .before .before .before) in omega arith
 add-number : tie.Need-add-number
 add-number c =
     let s = c .before .before .before in
-    let n = number-left (s .args .book .now) (s .args .rows .now) (s .args .unit) (s .args .direction) (s .args .period) (s .args .price)
-    (s .args .quantity) (s .pre .0) (s .pre .1) in
+    let n = number-left (s .args .book .now) (s .args .rows .now) (s .args .wanted .unit) (s .args .wanted .direction) (s .args .wanted .period)
+    (s .args .wanted .price .0)
+    (s .args .wanted .quantity .0) (s .pre .0) (s .pre .1) in
     omega arith
 
 fresh-requires : tie.Need-fresh-requires
@@ -38,8 +39,9 @@ meet-orders-requires : tie.Need-meet-orders-requires
 meet-orders-requires c κs =
     let s = c .before .before .before .before .before .before in (
       s .pre .0,
-      rows-lent (s .args .book .now) (s .args .rows .now) (s .args .unit) (s .args .direction) (s .args .period) (s .args .price)
-          (s .args .quantity) (s .pre .0) (s .pre .1),
+      rows-lent (s .args .book .now) (s .args .rows .now) (s .args .wanted .unit) (s .args .wanted .direction) (s .args .wanted .period)
+          (s .args .wanted .price .0)
+          (s .args .wanted .quantity .0) (s .pre .0) (s .pre .1),
     )
 
 rest-waits-requires : tie.Need-rest-waits-requires
@@ -47,7 +49,8 @@ rest-waits-requires c κs =
     let c5 = c .before .before .before .before .before in
     let c8 = c5 .before .before .before in
     let s = c .before .before .before .before .before .before .before .before .before .before .before .before in
-    rest-room (s .args .book .now) (s .args .rows .now) (s .args .unit) (s .args .direction) (s .args .period) (s .args .price) (s .args .quantity)
+    rest-room (s .args .book .now) (s .args .rows .now) (s .args .wanted .unit) (s .args .wanted .direction) (s .args .wanted .period)
+    (s .args .wanted .price .0) (s .args .wanted .quantity .0)
     (s .pre .0) (s .pre .1) _ _ _ _ (rolled-same _ _ (c8 .fresh .ensures) _ _ _ _ _ _ (c5 .meet-orders .ensures))
 
 book-rows-requires : tie.Need-book-rows-requires
@@ -57,16 +60,20 @@ book-rows-requires c κs =
     let c13 = c10 .before .before .before in
     let s = c13 .before .before .before .before in
     let h = rolled-same _ _ (c13 .fresh .ensures) _ _ _ _ _ _ (c10 .meet-orders .ensures) in
-    let w = waits-same _ _ (c13 .fresh .ensures) _ _ (c10 .meet-orders .result .left) (c4 .rest-waits .ensures) in
-    let t = rows-room (s .args .book .now) (s .args .rows .now) (s .args .unit) (s .args .direction) (s .args .period) (s .args .price) (s .args .quantity)
+    let w = waits-same _ _ (c13 .fresh .ensures) _ _ (c10 .meet-orders .result .left .0) (c4 .rest-waits .ensures) in
+    let t = rows-room (s .args .book .now) (s .args .rows .now) (s .args .wanted .unit) (s .args .wanted .direction) (s .args .wanted .period)
+    (s .args .wanted .price .0) (s .args .wanted .quantity .0)
     (s .pre .0) (s .pre .1) _ _ _ _ h _ w in (
-      waits-readable (s .args .book .now) (s .args .rows .now) (s .args .unit) (s .args .direction) (s .args .period) (s .args .price) (s .args .quantity)
+      waits-readable (s .args .book .now) (s .args .rows .now) (s .args .wanted .unit) (s .args .wanted .direction) (s .args .wanted .period)
+          (s .args .wanted .price .0) (s .args .wanted .quantity .0)
           (s .pre .0) (s .pre .1) _ _ _ _ h _ w,
       t .0,
       t .1,
-      waits-rows (s .args .book .now) (s .args .rows .now) (s .args .unit) (s .args .direction) (s .args .period) (s .args .price) (s .args .quantity)
+      waits-rows (s .args .book .now) (s .args .rows .now) (s .args .wanted .unit) (s .args .wanted .direction) (s .args .wanted .period)
+          (s .args .wanted .price .0) (s .args .wanted .quantity .0)
           (s .pre .0) (s .pre .1) _ _ _ _ h _ w,
-      waits-small (s .args .book .now) (s .args .rows .now) (s .args .unit) (s .args .direction) (s .args .period) (s .args .price) (s .args .quantity)
+      waits-small (s .args .book .now) (s .args .rows .now) (s .args .wanted .unit) (s .args .wanted .direction) (s .args .wanted .period)
+          (s .args .wanted .price .0) (s .args .wanted .quantity .0)
           (s .pre .0) (s .pre .1) _ _ _ _ h _ w,
     )
 
@@ -77,10 +84,11 @@ next-number-requires c κs =
     let c14 = c8 .before .before .before .before .before .before in
     let c17 = c14 .before .before .before in
     let s = c17 .before .before .before .before in
-    number-room (s .args .book .now) (s .args .rows .now) (s .args .unit) (s .args .direction) (s .args .period) (s .args .price) (s .args .quantity)
+    number-room (s .args .book .now) (s .args .rows .now) (s .args .wanted .unit) (s .args .wanted .direction) (s .args .wanted .period)
+    (s .args .wanted .price .0) (s .args .wanted .quantity .0)
     (s .pre .0) (s .pre .1)
     _ _ _ _ (rolled-same _ _ (c17 .fresh .ensures) _ _ _ _ _ _ (c14 .meet-orders .ensures)) _
-    (waits-same _ _ (c17 .fresh .ensures) _ _ (c14 .meet-orders .result .left) (c8 .rest-waits .ensures)) _ (c3 .book-rows .ensures)
+    (waits-same _ _ (c17 .fresh .ensures) _ _ (c14 .meet-orders .result .left .0) (c8 .rest-waits .ensures)) _ (c3 .book-rows .ensures)
 
 same-length : tie.Need-same-length
 same-length c = search needs
@@ -95,10 +103,11 @@ returns c =
     let c17 = c11 .before .before .before .before .before .before in
     let c20 = c17 .before .before .before in
     let s = c20 .before .before .before .before in
-    rolled-on (s .args .book .now) (s .args .rows .now) (s .args .unit) (s .args .direction) (s .args .period) (s .args .price) (s .args .quantity)
+    rolled-on (s .args .book .now) (s .args .rows .now) (s .args .wanted .unit) (s .args .wanted .direction) (s .args .wanted .period)
+    (s .args .wanted .price .0) (s .args .wanted .quantity .0)
     (s .pre .0) (s .pre .1)
     _ _ _ _ (rolled-same _ _ (c20 .fresh .ensures) _ _ _ _ _ _ (c17 .meet-orders .ensures)) _
-    (waits-same _ _ (c20 .fresh .ensures) _ _ (c17 .meet-orders .result .left) (c11 .rest-waits .ensures)) _ (c6 .book-rows .ensures) _
+    (waits-same _ _ (c20 .fresh .ensures) _ _ (c17 .meet-orders .result .left .0) (c11 .rest-waits .ensures)) _ (c6 .book-rows .ensures) _
     (c .before .before .next-number .ensures .0) (c .before .before .next-number .ensures .1)
 
 pub order-in-rolling-spec : {M : Type 1} → statement M

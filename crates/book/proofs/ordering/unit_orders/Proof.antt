@@ -5,18 +5,18 @@ use mathlib.Core.Path.{_≡_, sym}
 use native.Mathlib.Omega.{arith}
 use Rattle.measures.specs.Lists.{sum}
 use Rattle.measures.proofs.ListLaws.{sum-none}
-use Rattle.book.specs.Layout.{word}
+use Rattle.book.specs.Layout.{ORDERS, word}
 use Rattle.book.specs.inner.Ordering.{ofUnitAt, againstAt}
 use borrow.Author.Needs.{needs}
 use Rattle.book.proofs.ordering.unit_orders.Statement.{statement}
 use Rattle.book.proofs.ordering.unit_orders.Tie as tie
 
 abbrev Inv-loop : tie.InvT-loop
-Inv-loop book unit direction period n stand₀ against₀ k₀ stand against k = (k ≤ word book 7) × (stand ≤ k) × (against ≤ k)
+Inv-loop book unit direction period n stand₀ against₀ k₀ stand against k = (k ≤ word book ORDERS) × (stand ≤ k) × (against ≤ k)
     × (stand ≡ sum k (ofUnitAt book unit period)) × (against ≡ sum k (againstAt book unit direction period))
 
 abbrev μ-loop : tie.MeasureT-loop
-μ-loop book unit direction period n stand₀ against₀ k₀ stand against k = word book 7 - k
+μ-loop book unit direction period n stand₀ against₀ k₀ stand against k = word book ORDERS - k
 
 shared-slice-read-n : tie.Need-shared-slice-read-n Inv-loop μ-loop
 shared-slice-read-n c = search needs

@@ -1,7 +1,7 @@
 -- `find_alike`: none passed has both unit and period.
 use Prim.Native.Nat.{_-_}
 use native.Mathlib.Omega.{arith}
-use Rattle.book.proofs.laws.check.TogetherLaws.{Seeking, seeking-starts, seeking-more, none-of-unit, none-of-period, alike-by-unit, alike-by-period}
+use Rattle.book.proofs.laws.check.TogetherLaws.{Seeking, seeking-starts, seeking-more, none-of-day, none-of-period, alike-by-day, alike-by-period}
 use borrow.Author.Needs.{needs}
 use Rattle.book.proofs.pairs.find_alike.Statement.{statement}
 use Rattle.book.proofs.pairs.find_alike.Tie as tie
@@ -51,7 +51,7 @@ shared-slice-read-b c = search needs
 loop-holds : tie.Need-loop-holds Inv-loop μ-loop
 loop-holds c =
     let g = c .before .before .before .before .pre in
-    seeking-starts _ _ _ _ (g .4 _ (g .1)) (g .5 _ (g .1))
+    seeking-starts _ _ _ _ (g .2 .ofDay _ (g .1)) (g .2 .ofPeriod _ (g .1))
 
 returns : tie.Need-returns Inv-loop μ-loop
 returns c = none-of-period _ _ (c .before .before .loop .a) _ (c .before .before .loop .inv) (c .if1 .taken)
@@ -78,7 +78,8 @@ returns-2 : tie.Need-returns-2 Inv-loop μ-loop
 returns-2 c =
     let c3 = c .before .before .before in
     let c4 = c3 .before in
-    alike-by-unit _ _ _ (c4 .loop .b) (c4 .loop .inv) (c3 .loop-test .taken) (c .if2 .taken)
+    let g = c4 .before .before .before .before .before .pre in
+    alike-by-day _ _ _ (c4 .loop .b) (c4 .loop .inv) (g .0) (g .1) (c3 .loop-test .taken) (c .if2 .taken)
 
 sub-if3 : tie.Need-sub-if3 Inv-loop μ-loop
 sub-if3 c = search needs
@@ -128,7 +129,7 @@ loop-less c =
     let c8 = c7 .before in
     let l = c8 .loop in
     let t = c7 .loop-test .taken in
-    omega (arith, c8 .before .before .before .before .before .pre .4 (l .a - 1) (omega (arith, l .inv .fewUnit, t)) .to, t)
+    omega (arith, c8 .before .before .before .before .before .pre .2 .ofDay (l .a - 1) (omega (arith, l .inv .fewDay, t)) .to, t)
 
 loop-again : tie.Need-loop-again Inv-loop μ-loop
 loop-again c =
@@ -140,10 +141,10 @@ loop-again c =
     let l = c8 .loop in
     let t = c7 .loop-test .taken in
     seeking-more _ _ (l .a) (l .b) (l .inv) _ _ t (omega (arith, c6 .if1 .left)) (c4 .if2 .left) (c .before .before .if3 .left)
-    (g .4 (l .a - 1) (omega (arith, l .inv .fewUnit, t))) (g .5 (l .b - 1) (omega (arith, l .inv .fewPeriod, c6 .if1 .left)))
+    (g .2 .ofDay (l .a - 1) (omega (arith, l .inv .fewDay, t))) (g .2 .ofPeriod (l .b - 1) (omega (arith, l .inv .fewPeriod, c6 .if1 .left)))
 
 returns-4 : tie.Need-returns-4 Inv-loop μ-loop
-returns-4 c = none-of-unit _ _ _ (c .before .loop .b) (c .before .loop .inv) (omega arith)
+returns-4 c = none-of-day _ _ _ (c .before .loop .b) (c .before .loop .inv) (omega arith)
 
 pub find-alike-spec : {M : Type 1} → statement M
 find-alike-spec =

@@ -53,7 +53,7 @@ returns-2 c =
     let c7 = c .before .before .before .before .before .before .before in
     let g = c7 .pre in
     let n = g .0 .readable .ordersTo in
-    direction-tested _ _ (omega arith) _ (c .before .before .if1 .left) (c .before .before .before .find-alike .ensures) (g .6)
+    direction-tested _ _ (omega arith) _ (c .before .before .if1 .left) (c .before .before .before .find-alike .ensures) (g .3)
 
 pub one-direction-spec : {M : Type 1} → statement M
 one-direction-spec =

@@ -21,7 +21,8 @@ stands-apart-requires : tie.Need-stands-apart-requires
 stands-apart-requires c κs =
     let c11 = c .before .before .before .before .before .before .before .before .before .before .before in
     let g = c11 .pre in
-    (g .0, g .1, g .2, g .8, g .9, g .10 (c .before .before .if2 .left))
+    let e = c .before .before .if2 .left in
+    (g .0, g .1, g .2, g .5 .highLong e, g .5 .lowLong e, g .5 .prices e)
 
 same-length : tie.Need-same-length
 same-length c = search needs

@@ -42,14 +42,14 @@ mul-note-price c = search needs
 shared-slice-read-note-price : tie.Need-shared-slice-read-note-price
 shared-slice-read-note-price c = search needs
 
-add-note-price-2 : tie.Need-add-note-price-2
-add-note-price-2 c = search needs
+add-t18 : tie.Need-add-t18
+add-t18 c = search needs
 
-mul-note-price-2 : tie.Need-mul-note-price-2
-mul-note-price-2 c = search needs
+mul-t19 : tie.Need-mul-t19
+mul-t19 c = search needs
 
-shared-slice-read-note-price-2 : tie.Need-shared-slice-read-note-price-2
-shared-slice-read-note-price-2 c = search needs
+shared-slice-read-t21 : tie.Need-shared-slice-read-t21
+shared-slice-read-t21 c = search needs
 
 note-price-requires : tie.Need-note-price-requires
 note-price-requires c κs = search needs
@@ -88,9 +88,9 @@ stands-apart-spec =
     add-note-price
     mul-note-price
     shared-slice-read-note-price
-    add-note-price-2
-    mul-note-price-2
-    shared-slice-read-note-price-2
+    add-t18
+    mul-t19
+    shared-slice-read-t21
     note-price-requires
     same-length-3
     same-length-4

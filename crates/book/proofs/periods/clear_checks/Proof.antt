@@ -18,4 +18,8 @@ returns-3 : tie.Need-returns-3
 returns-3 c = clear-passes (c .before .before .before .args .book .now) (c .before .before .before .args .lent) (omega arith) (omega arith)
 
 pub clear-checks-spec : {M : Type 1} → statement M
-clear-checks-spec = tie.close (tie.spec returns shared-slice-read-if2 returns-2 returns-3)
+clear-checks-spec = tie.close (tie.spec
+    returns
+    shared-slice-read-if2
+    returns-2
+    returns-3)

@@ -52,4 +52,10 @@ returns c =
 pub clear-effect-spec : {M : Type 1} → statement M
 clear-effect-spec =
     tie.close
-    (tie.spec sweep-requires book-rows-requires slice-write-book same-length same-length-2 returns)
+    (tie.spec
+    sweep-requires
+    book-rows-requires
+    slice-write-book
+    same-length
+    same-length-2
+    returns)

@@ -6,6 +6,7 @@ use Rattle.matching.specs.declared.orders.Matched.{Matched}
 use Rattle.matching.specs.Answers.{answerOf}
 use Rattle.matching.proofs.laws.periods.PassingLaws.{all-gives, all-fit}
 use Rattle.book.specs.inner.Readable.{Readable}
+use Rattle.book.specs.Layout.{ordersStart, amountsStart}
 use Rattle.book.proofs.laws.answer.MadeLaws.{sound-readable}
 use Rattle.book.proofs.laws.clear.ClearEffectLaws.{clear-fits, swept}
 use borrow.Author.Needs.{needs}
@@ -71,7 +72,7 @@ returns-2 c =
     let s = c .before .before .before .before .before .before .before .before .before .before .before .before .before .before in
     let r = ok s in
     let t = c .before .before .before .before .before .before .before .clear-periods in
-    swept _ _ _ _ _ _ (s .pre .0) (t .kept .0 ∙ mid-len 240 1776 (s .args .book .now) (omega arith))
+    swept _ _ _ _ _ _ (s .pre .0) (t .kept .0 ∙ mid-len ordersStart amountsStart (s .args .book .now) (omega arith))
     (all-gives _ _ _ _ _ _ _ _ _ (clear-fits _ _ (s .pre .0) (s .pre .1)) (t .ensures) (ap (λ (a : Matched). answerOf a .count) (c .before .t .given .1))
     (ap (λ (a : Matched). answerOf a .standing) (c .before .t .given .1)))
 

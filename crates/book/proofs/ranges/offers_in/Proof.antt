@@ -8,17 +8,17 @@ use Rattle.measures.specs.Lists.{all}
 use Rattle.measures.proofs.ListLaws.{all-none, all-more, all-fails}
 use Rattle.matching.specs.Memory.{orderAt}
 use Rattle.book.specs.Sound.{offerIn}
-use Rattle.book.specs.Layout.{word, decode, offerAt, ordersPart}
+use Rattle.book.specs.Layout.{DAYS, OFFERS, word, offerAt, decode}
 use Rattle.book.proofs.laws.memory.RangeFacts.{offers-every}
 use borrow.Author.Needs.{needs}
 use Rattle.book.proofs.ranges.offers_in.Statement.{statement}
 use Rattle.book.proofs.ranges.offers_in.Tie as tie
 
 abbrev Inv-loop : tie.InvT-loop
-Inv-loop book n j₀ j = (j ≤ word book 6) × (all j (λ i. offerIn (decode book) (offerAt book (word book 0) i)) ≡ true)
+Inv-loop book n j₀ j = (j ≤ word book OFFERS) × (all j (λ i. offerIn (decode book) (offerAt book (word book DAYS) i)) ≡ true)
 
 abbrev μ-loop : tie.MeasureT-loop
-μ-loop book n j₀ j = word book 6 - j
+μ-loop book n j₀ j = word book OFFERS - j
 
 shared-slice-read-n : tie.Need-shared-slice-read-n Inv-loop μ-loop
 shared-slice-read-n c = search needs
@@ -48,7 +48,7 @@ loop-again c =
 returns-2 : tie.Need-returns-2 Inv-loop μ-loop
 returns-2 c =
     let l = c .before in
-    let e : l .loop .j ≡ word (l .before .before .before .args .book .now) 6 = omega arith in
+    let e : l .loop .j ≡ word (l .before .before .before .args .book .now) OFFERS = omega arith in
     sym (offers-every _ ∙ (rw e at (l .loop .inv .1)))
 
 pub offers-in-spec : {M : Type 1} → statement M

@@ -8,17 +8,17 @@ use Rattle.measures.specs.Lists.{all}
 use Rattle.measures.proofs.ListLaws.{all-none, all-more, all-fails}
 use Rattle.matching.specs.Memory.{orderAt}
 use Rattle.book.specs.Sound.{orderIn}
-use Rattle.book.specs.Layout.{word, decode, offerAt, ordersPart}
+use Rattle.book.specs.Layout.{ORDERS, word, ordersPart, decode}
 use Rattle.book.proofs.laws.memory.RangeFacts.{orders-every}
 use borrow.Author.Needs.{needs}
 use Rattle.book.proofs.ranges.orders_in.Statement.{statement}
 use Rattle.book.proofs.ranges.orders_in.Tie as tie
 
 abbrev Inv-loop : tie.InvT-loop
-Inv-loop book n k₀ k = (k ≤ word book 7) × (all k (λ i. orderIn (decode book) (orderAt (ordersPart book) i)) ≡ true)
+Inv-loop book n k₀ k = (k ≤ word book ORDERS) × (all k (λ i. orderIn (decode book) (orderAt (ordersPart book) i)) ≡ true)
 
 abbrev μ-loop : tie.MeasureT-loop
-μ-loop book n k₀ k = word book 7 - k
+μ-loop book n k₀ k = word book ORDERS - k
 
 shared-slice-read-n : tie.Need-shared-slice-read-n Inv-loop μ-loop
 shared-slice-read-n c = search needs
@@ -48,7 +48,7 @@ loop-again c =
 returns-2 : tie.Need-returns-2 Inv-loop μ-loop
 returns-2 c =
     let l = c .before in
-    let e : l .loop .k ≡ word (l .before .before .before .args .book .now) 7 = omega arith in
+    let e : l .loop .k ≡ word (l .before .before .before .args .book .now) ORDERS = omega arith in
     sym (orders-every _ ∙ (rw e at (l .loop .inv .1)))
 
 pub orders-in-spec : {M : Type 1} → statement M

@@ -1,4 +1,4 @@
-use Rattle.book.specs.Layout.{word}
+use Rattle.book.specs.Layout.{UNITS, word}
 -- `units_in`: every unit passed is in range.
 use Prim.Native.Nat.{ℕ, _≤_, _-_}
 use mathlib.Core.Path.{_≡_, sym, _∙_}
@@ -13,10 +13,10 @@ use Rattle.book.proofs.ranges.units_in.Statement.{statement}
 use Rattle.book.proofs.ranges.units_in.Tie as tie
 
 abbrev Inv-loop : tie.InvT-loop
-Inv-loop book n k₀ k = (k ≤ word book 5) × (all k (unitFieldsIn book) ≡ true)
+Inv-loop book n k₀ k = (k ≤ word book UNITS) × (all k (unitFieldsIn book) ≡ true)
 
 abbrev μ-loop : tie.MeasureT-loop
-μ-loop book n k₀ k = word book 5 - k
+μ-loop book n k₀ k = word book UNITS - k
 
 shared-slice-read-n : tie.Need-shared-slice-read-n Inv-loop μ-loop
 shared-slice-read-n c = search needs
@@ -44,7 +44,7 @@ loop-again c =
 returns-2 : tie.Need-returns-2 Inv-loop μ-loop
 returns-2 c =
     let l = c .before in
-    let e : l .loop .k ≡ word (l .before .before .before .args .book .now) 5 = omega arith in
+    let e : l .loop .k ≡ word (l .before .before .before .args .book .now) UNITS = omega arith in
     sym (rw e at (l .loop .inv .1))
 
 pub units-in-spec : {M : Type 1} → statement M

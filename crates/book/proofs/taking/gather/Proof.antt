@@ -5,18 +5,18 @@ use mathlib.Core.List.{_++_}
 use native.Mathlib.Omega.{arith}
 use lib.ListN.{length, drop, length-set}
 use Rattle.measures.specs.Lists.{table}
-use Rattle.book.specs.Layout.{word, amountAt}
+use Rattle.book.specs.Layout.{DAYS, word, amountAt}
 use Rattle.book.proofs.laws.take.GatherLaws.{gather-none, gather-more, gather-end}
 use borrow.Author.Needs.{needs}
 use Rattle.book.proofs.taking.gather.Statement.{statement}
 use Rattle.book.proofs.taking.gather.Tie as tie
 
 abbrev Inv-loop : tie.InvT-loop
-Inv-loop book j amounts₀ top p₀ amounts p = (p ≤ 24 * word book 0) × (length amounts ≡ length amounts₀)
+Inv-loop book j amounts₀ top p₀ amounts p = (p ≤ 24 * word book DAYS) × (length amounts ≡ length amounts₀)
     × (amounts ≡ table p (amountAt book j) ++ drop p amounts₀)
 
 abbrev μ-loop : tie.MeasureT-loop
-μ-loop book j amounts₀ top p₀ amounts p = 24 * word book 0 - p
+μ-loop book j amounts₀ top p₀ amounts p = 24 * word book DAYS - p
 
 shared-slice-read-top : tie.Need-shared-slice-read-top Inv-loop μ-loop
 shared-slice-read-top c = search needs

@@ -27,7 +27,18 @@ returns c ps e =
     let c6 = c .before .before .before .before .before .before in
     lessened _ _ _ _ ps (c6 .pre .0) (c6 .pre .1) (c .before .before .take-off .ensures) e
 
+add-book-2 : tie.Need-add-book-2
+add-book-2 c = search needs
+
 pub lessen-offer-spec : {M : Type 1} → statement M
 lessen-offer-spec =
     tie.close
-    (tie.spec take-off-requires mul-book add-book mul-book-2 slice-write-book same-length returns)
+    (tie.spec
+    take-off-requires
+    mul-book
+    add-book
+    add-book-2
+    mul-book-2
+    slice-write-book
+    same-length
+    returns)

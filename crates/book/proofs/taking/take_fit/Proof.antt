@@ -2,7 +2,7 @@
 use Prim.Native.Nat.{_*_}
 use mathlib.Core.Path.{refl}
 use native.Mathlib.Omega.{arith}
-use Rattle.book.specs.Layout.{word}
+use Rattle.book.specs.Layout.{DAYS, word}
 use Rattle.book.proofs.laws.answer.MadeLaws.{sound-readable}
 use Rattle.book.proofs.laws.take.GatherLaws.{shared-parts, raising-small, lowering-small, sound-ranged, take-fitted}
 use borrow.Author.Needs.{needs}
@@ -67,14 +67,14 @@ misfit-requires c κs =
     let c19 = c14 .before .before .before .before .before in
     let a = c19 .args in
     let p = c19 .pre in (
-      (sound-ranged (a .book .now) (p .0), p .2, p .3),
+      (p .0, sound-ranged (a .book .now) (p .0), p .2, p .3),
       (
         search needs,
         refl,
-        raising-small (a .book .now) (a .unit) (a .j) (a .quantity) (p .0) (p .1) (p .2, p .3) (p .4) (p .5) _
-            (shared-parts (a .book .now) (a .unit) (a .j) (a .quantity) (p .0) (p .1) (p .2, p .3) (p .4) (p .5) _ _ _ _ _ (24 * word (a .book .now) 0) refl
-            (c14 .gather .ensures) (omega arith) (c3 .share2 .ensures)),
-        lowering-small (a .book .now) (a .unit) (a .j) (a .quantity) (p .0) (p .1) (p .2, p .3) (p .4) (p .5),
+        raising-small (a .book .now) (a .unit) (a .j) (a .quantity .0) (p .0) (p .1) (p .2, p .3) (p .4) (p .5) _
+            (shared-parts (a .book .now) (a .unit) (a .j) (a .quantity .0) (p .0) (p .1) (p .2, p .3) (p .4) (p .5) _ _ _ _ _ (24 * word (a .book .now) DAYS)
+            refl (c14 .gather .ensures) (omega arith) (c3 .share2 .ensures)),
+        lowering-small (a .book .now) (a .unit) (a .j) (a .quantity .0) (p .0) (p .1) (p .2, p .3) (p .4) (p .5),
       ),
     )
 
@@ -89,10 +89,10 @@ returns c =
     let c22 = c17 .before .before .before .before .before in
     let a = c22 .args in
     let p = c22 .pre in
-    take-fitted (a .book .now) (a .unit) (a .j) (a .quantity) (p .0) (p .1) (p .2, p .3) (p .4) (p .5) _ _ _ _
-    (shared-parts (a .book .now) (a .unit) (a .j) (a .quantity) (p .0) (p .1) (p .2, p .3) (p .4) (p .5) _ _ _ _ _ (24 * word (a .book .now) 0) refl
+    take-fitted (a .book .now) (a .unit) (a .j) (a .quantity .0) (p .0) (p .1) (p .2, p .3) (p .4) (p .5) _ _ _ _
+    (shared-parts (a .book .now) (a .unit) (a .j) (a .quantity .0) (p .0) (p .1) (p .2, p .3) (p .4) (p .5) _ _ _ _ _ (24 * word (a .book .now) DAYS) refl
     (c17 .gather .ensures) (omega arith) (c6 .share2 .ensures))
-    (shared-parts (a .book .now) (a .unit) (a .j) (a .quantity) (p .0) (p .1) (p .2, p .3) (p .4) (p .5) _ _ _ _ _ (24 * word (a .book .now) 0) refl
+    (shared-parts (a .book .now) (a .unit) (a .j) (a .quantity .0) (p .0) (p .1) (p .2, p .3) (p .4) (p .5) _ _ _ _ _ (24 * word (a .book .now) DAYS) refl
     (c17 .gather .ensures) (omega arith) (c12 .share .ensures))
     (c .before .before .misfit .ensures)
 

@@ -1,19 +1,18 @@
 -- `take_off`: the amounts of the periods passed are less.
 use Prim.Native.Nat.{_≤_, _-_, _*_}
-use mathlib.Core.Path.{refl}
 use native.Mathlib.Omega.{arith}
-use Rattle.book.specs.Layout.{word}
+use Rattle.book.specs.Layout.{DAYS, word}
 use Rattle.book.specs.inner.RowsIn.{AmountsLess}
-use Rattle.book.proofs.laws.take.WritingLaws.{less-none, less-more, less-end, amount-kept}
+use Rattle.book.proofs.laws.take.WritingLaws.{less-none, less-more, less-end}
 use borrow.Author.Needs.{needs}
 use Rattle.book.proofs.taking.take_off.Statement.{statement}
 use Rattle.book.proofs.taking.take_off.Tie as tie
 
 abbrev Inv-loop : tie.InvT-loop
-Inv-loop book₀ j parts top p₀ book p = (p ≤ 24 * word book₀ 0) × (AmountsLess book₀ book j parts p)
+Inv-loop book₀ j parts top p₀ book p = (p ≤ 24 * word book₀ DAYS) × (AmountsLess book₀ book j parts p)
 
 abbrev μ-loop : tie.MeasureT-loop
-μ-loop book₀ j parts top p₀ book p = 24 * word book₀ 0 - p
+μ-loop book₀ j parts top p₀ book p = 24 * word book₀ DAYS - p
 
 slice-read-top : tie.Need-slice-read-top Inv-loop μ-loop
 slice-read-top c = search needs
@@ -33,25 +32,20 @@ add-at c = search needs
 add-at-2 : tie.Need-add-at-2 Inv-loop μ-loop
 add-at-2 c = search needs
 
-mul-left : tie.Need-mul-left Inv-loop μ-loop
-mul-left c = search needs
+mul-t12 : tie.Need-mul-t12 Inv-loop μ-loop
+mul-t12 c = search needs
 
-slice-read-left : tie.Need-slice-read-left Inv-loop μ-loop
-slice-read-left c = search needs
+slice-read-t15 : tie.Need-slice-read-t15 Inv-loop μ-loop
+slice-read-t15 c = search needs
 
-mul-left-2 : tie.Need-mul-left-2 Inv-loop μ-loop
-mul-left-2 c = search needs
+mul-t13 : tie.Need-mul-t13 Inv-loop μ-loop
+mul-t13 c = search needs
 
-shared-slice-read-left : tie.Need-shared-slice-read-left Inv-loop μ-loop
-shared-slice-read-left c = search needs
+shared-slice-read-t18 : tie.Need-shared-slice-read-t18 Inv-loop μ-loop
+shared-slice-read-t18 c = search needs
 
-sub-left : tie.Need-sub-left Inv-loop μ-loop
-sub-left c =
-    let c3 = c .before .before .before in
-    let c5 = c3 .before .before in
-    let a = amount-kept (c5 .args .book .now) (c5 .args .j) (c5 .args .parts .now) (c3 .loop .book) (c3 .loop .p) (c3 .loop .inv .1) in
-    let t = c5 .pre .3 (c3 .loop .p) (c .before .before .loop-test .taken) in
-    omega arith
+minus-requires : tie.Need-minus-requires Inv-loop μ-loop
+minus-requires c κs = search needs
 
 mul-book : tie.Need-mul-book Inv-loop μ-loop
 mul-book c = search needs
@@ -66,7 +60,7 @@ loop-less : tie.Need-loop-less Inv-loop μ-loop
 loop-less c = search needs
 
 loop-again : tie.Need-loop-again Inv-loop μ-loop
-loop-again c = (omega arith, less-more _ _ _ _ (c .before .before .before .loop .p) (c .before .before .before .loop .inv .1) _ (omega arith) refl)
+loop-again c = let l = c .before .before .before .before in (omega arith, less-more _ _ _ _ (l .loop .p) (l .loop .inv .1) _ (omega arith) (c .minus .ensures))
 
 same-length : tie.Need-same-length Inv-loop μ-loop
 same-length c = c .before .loop .inv .1 .long
@@ -86,11 +80,11 @@ take-off-spec =
     mul-at
     add-at
     add-at-2
-    mul-left
-    slice-read-left
-    mul-left-2
-    shared-slice-read-left
-    sub-left
+    mul-t12
+    slice-read-t15
+    mul-t13
+    shared-slice-read-t18
+    minus-requires
     mul-book
     slice-write-book
     add-p

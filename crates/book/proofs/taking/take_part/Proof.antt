@@ -1,7 +1,7 @@
 -- `take_part`: the rows, then what is left of the offer, then the rows in the figures.
 use Prim.Native.Nat.{_*_}
 use lib.ListN.{take}
-use Rattle.book.specs.Layout.{word}
+use Rattle.book.specs.Layout.{DAYS, word}
 use Rattle.book.proofs.laws.answer.MadeLaws.{sound-readable}
 use Rattle.book.proofs.laws.take.EnterLaws.{rows-asks, parts-first, enter-asks, part-taken}
 use borrow.Author.Needs.{needs}
@@ -20,7 +20,7 @@ lessen-offer-requires c κs =
     let c9 = c .before .before .before .before .before .before .before .before .before in
     let a = c9 .args in
     let p = c9 .pre in
-    (sound-readable (a .book .now) (p .0), p .1, p .4, p .6)
+    (sound-readable (a .book .now) (p .0), p .1, p .4)
 
 book-rows-requires : tie.Need-book-rows-requires
 book-rows-requires c κs =
@@ -30,7 +30,7 @@ book-rows-requires c κs =
     let a = c14 .args in
     let p = c14 .pre in
     enter-asks (a .book .now) (a .unit) (a .j) (a .parts .now) (p .0) (p .1) (p .2, p .3) (p .4) (p .6) _ (a .rows .now) _ _ _
-    (c4 .lessen-offer .ensures (take (24 * word (a .book .now) 0) (a .parts .now))
+    (c4 .lessen-offer .ensures (take (24 * word (a .book .now) DAYS) (a .parts .now))
     (parts-first (a .book .now) (a .unit) (a .j) (a .parts .now) (p .0) (p .1) (p .2, p .3) (p .4) (p .6)))
     (c8 .take-rows .ensures) (p .5)
 
@@ -48,7 +48,7 @@ returns c =
     let a = c17 .args in
     let p = c17 .pre in
     part-taken (a .book .now) (a .unit) (a .j) (a .parts .now) (p .0) (p .1) (p .2, p .3) (p .4) (p .6) _ _ _ _ _
-    (c7 .lessen-offer .ensures (take (24 * word (a .book .now) 0) (a .parts .now))
+    (c7 .lessen-offer .ensures (take (24 * word (a .book .now) DAYS) (a .parts .now))
     (parts-first (a .book .now) (a .unit) (a .j) (a .parts .now) (p .0) (p .1) (p .2, p .3) (p .4) (p .6)))
     (c11 .take-rows .ensures) (c .before .before .book-rows .ensures)
 

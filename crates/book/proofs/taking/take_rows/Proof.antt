@@ -1,7 +1,6 @@
 -- `take_rows`: the generator sells.
 use mathlib.Core.Path.{sym, _∙_}
 use Rattle.book.proofs.laws.take.TakenLaws.{rows-sold, rows-bought}
-use Rattle.book.proofs.laws.memory.PlaceFacts.{offer-unit-place, partner-place, price-place}
 use borrow.Author.Needs.{needs}
 use Rattle.book.proofs.taking.take_rows.Statement.{statement}
 use Rattle.book.proofs.taking.take_rows.Tie as tie
@@ -27,15 +26,6 @@ mul-owner c = search needs
 shared-slice-read-owner : tie.Need-shared-slice-read-owner
 shared-slice-read-owner c = search needs
 
-add-price : tie.Need-add-price
-add-price c = search needs
-
-mul-price : tie.Need-mul-price
-mul-price c = search needs
-
-shared-slice-read-price : tie.Need-shared-slice-read-price
-shared-slice-read-price c = search needs
-
 add-way-of : tie.Need-add-way-of
 add-way-of c = search needs
 
@@ -45,11 +35,20 @@ mul-way-of c = search needs
 shared-slice-read-way-of : tie.Need-shared-slice-read-way-of
 shared-slice-read-way-of c = search needs
 
+add-way-of-2 : tie.Need-add-way-of-2
+add-way-of-2 c = search needs
+
+mul-way-of-2 : tie.Need-mul-way-of-2
+mul-way-of-2 c = search needs
+
+shared-slice-read-way-of-2 : tie.Need-shared-slice-read-way-of-2
+shared-slice-read-way-of-2 c = search needs
+
 way-of-requires : tie.Need-way-of-requires
 way-of-requires c κs = search needs
 
 is-generator-requires : tie.Need-is-generator-requires
-is-generator-requires c κs = rw offer-unit-place (search needs)
+is-generator-requires c κs = search needs
 
 write-rows-requires : tie.Need-write-rows-requires
 write-rows-requires c κs = search needs
@@ -62,8 +61,8 @@ returns c =
     let c4 = c .before .before .before .before in
     let c5 = c4 .before in
     let c6 = c5 .before in
-    rows-sold _ _ _ _ _ _ _ _ (rw partner-place at (c6 .way-of .ensures)) (rw offer-unit-place at (sym (c5 .is-generator .ensures) ∙ c4 .if1 .taken))
-    (rw (offer-unit-place, price-place) at (c .before .before .write-rows .ensures))
+    rows-sold _ _ _ _ _ _ _ _ (c6 .way-of .ensures) (sym (c5 .is-generator .ensures) ∙ c4 .if1 .taken)
+    (c .before .before .write-rows .ensures)
 
 write-rows-requires-2 : tie.Need-write-rows-requires-2
 write-rows-requires-2 c κs = search needs
@@ -76,8 +75,8 @@ returns-2 c =
     let c4 = c .before .before .before .before in
     let c5 = c4 .before in
     let c6 = c5 .before in
-    rows-bought _ _ _ _ _ _ _ _ (rw partner-place at (c6 .way-of .ensures)) (rw offer-unit-place at (sym (c5 .is-generator .ensures) ∙ c4 .if1 .left))
-    (rw (offer-unit-place, price-place) at (c .before .before .write-rows2 .ensures))
+    rows-bought _ _ _ _ _ _ _ _ (c6 .way-of .ensures) (sym (c5 .is-generator .ensures) ∙ c4 .if1 .left)
+    (c .before .before .write-rows2 .ensures)
 
 pub take-rows-spec : {M : Type 1} → statement M
 take-rows-spec =
@@ -90,12 +89,12 @@ take-rows-spec =
     add-owner
     mul-owner
     shared-slice-read-owner
-    add-price
-    mul-price
-    shared-slice-read-price
     add-way-of
     mul-way-of
     shared-slice-read-way-of
+    add-way-of-2
+    mul-way-of-2
+    shared-slice-read-way-of-2
     way-of-requires
     is-generator-requires
     write-rows-requires

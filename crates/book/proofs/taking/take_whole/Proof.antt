@@ -2,7 +2,6 @@
 use Prim.Native.Nat.{_*_}
 use mathlib.Core.Path.{refl}
 use lib.ListN.{take}
-use Rattle.book.specs.Layout.{word}
 use Rattle.book.proofs.laws.take.EnterLaws.{rows-asks}
 use Rattle.book.proofs.laws.take.WholeLaws.{whole-asks, whole-taken}
 use borrow.Author.Needs.{needs}
@@ -14,7 +13,6 @@ use Rattle.book.proofs.taking.take_rows.Reads as take-rows-reads
 use Rattle.book.proofs.trades.book_rows.Reads as book-rows-reads
 use Rattle.book.proofs.withdrawing.withdraw_effect.Reads as withdraw-effect-reads
 
--- src/taking.rt:257:9
 take-rows-requires : tie.Need-take-rows-requires
 take-rows-requires c κs =
     let c5 = c .before .before .before .before .before in
@@ -22,11 +20,9 @@ take-rows-requires c κs =
     let p = c5 .pre in
     rows-asks (a .book .now) (a .unit) (a .j) (a .parts .now) (p .0) (p .1) (p .2, p .3) (p .4) (p .6) (a .rows .now) (p .5)
 
--- src/taking.rt:258:5
 withdraw-effect-requires : tie.Need-withdraw-effect-requires
 withdraw-effect-requires c κs = search needs
 
--- src/taking.rt:259:5
 book-rows-requires : tie.Need-book-rows-requires
 book-rows-requires c κs =
     let c4 = c .before .before .before .before in
@@ -39,15 +35,12 @@ book-rows-requires c κs =
     (a .rows .now) _ _
     (c8 .take-rows .ensures) (p .5)
 
--- src/taking.rt:246:1
 same-length : tie.Need-same-length
 same-length c = search needs
 
--- src/taking.rt:246:1
 same-length-2 : tie.Need-same-length-2
 same-length-2 c = search needs
 
--- src/taking.rt:246:1
 returns : tie.Need-returns
 returns c =
     let c7 = c .before .before .before .before .before .before .before in

@@ -11,4 +11,6 @@ returns-2 : tie.Need-returns-2
 returns-2 c = way-bilateral (c .before .args .partner) (omega arith)
 
 pub way-of-spec : {M : Type 1} → statement M
-way-of-spec = tie.close (tie.spec returns returns-2)
+way-of-spec = tie.close (tie.spec
+    returns
+    returns-2)

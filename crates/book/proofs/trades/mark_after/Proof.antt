@@ -17,4 +17,7 @@ returns-2 c =
     mark-set (a .way) (a .direction) (a .mark) _ (omega arith) (c .mark-with .ensures)
 
 pub mark-after-spec : {M : Type 1} → statement M
-mark-after-spec = tie.close (tie.spec returns mark-with-requires returns-2)
+mark-after-spec = tie.close (tie.spec
+    returns
+    mark-with-requires
+    returns-2)

@@ -21,4 +21,9 @@ returns-3 : tie.Need-returns-3
 returns-3 c = mark-own _ _ (omega arith) (omega arith)
 
 pub mark-with-spec : {M : Type 1} → statement M
-mark-with-spec = tie.close (tie.spec add-result returns sub-if2 returns-2 returns-3)
+mark-with-spec = tie.close (tie.spec
+    add-result
+    returns
+    sub-if2
+    returns-2
+    returns-3)

@@ -1,7 +1,6 @@
--- `put_figures`: four stores at four places.
+-- `put_figures`: four stores, at rising places.
 use native.Mathlib.Omega.{arith}
 use lib.ListN.{length-set}
-use Rattle.book.proofs.laws.memory.PlaceFacts.{raised-place, lowered-place, volume-place, mark-place}
 use Rattle.book.proofs.laws.rows.FigureLaws.{figures-put}
 use borrow.Author.Needs.{needs}
 use Rattle.book.proofs.trades.put_figures.Statement.{statement}
@@ -18,6 +17,9 @@ mul-at-2 c = search needs
 
 add-at-2 : tie.Need-add-at-2
 add-at-2 c = search needs
+
+add-at-3 : tie.Need-add-at-3
+add-at-3 c = search needs
 
 add-book : tie.Need-add-book
 add-book c = search needs
@@ -53,13 +55,13 @@ mul-book-4 : tie.Need-mul-book-4
 mul-book-4 c = search needs
 
 slice-write-book-4 : tie.Need-slice-write-book-4
-slice-write-book-4 c = simp length-set (omega arith)
+slice-write-book-4 c = search needs
 
 same-length : tie.Need-same-length
 same-length c = search needs
 
 returns : tie.Need-returns
-returns c = rw (raised-place, lowered-place, volume-place, mark-place) (figures-put _ _ _ _ _ _ _ (omega arith))
+returns c = figures-put _ _ _ _ _ _ _ (omega arith)
 
 pub put-figures-spec : {M : Type 1} → statement M
 put-figures-spec =
@@ -69,6 +71,7 @@ put-figures-spec =
     add-at
     mul-at-2
     add-at-2
+    add-at-3
     add-book
     mul-book
     slice-write-book

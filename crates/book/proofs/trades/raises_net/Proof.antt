@@ -19,4 +19,7 @@ returns-2 c =
     raises-bought (a .book .now) (a .unit) (a .direction) (sym (c .before .is-generator .ensures) ∙ c .if1 .left)
 
 pub raises-net-spec : {M : Type 1} → statement M
-raises-net-spec = tie.close (tie.spec is-generator-requires returns returns-2)
+raises-net-spec = tie.close (tie.spec
+    is-generator-requires
+    returns
+    returns-2)

@@ -1,56 +1,58 @@
--- `units_fit`: the periods passed, and then the sums.
-use mathlib.Core.Path.{refl, sym, _∙_}
-use lib.ListN.{replicate}
+-- `units_fit`: the units passed fit; one that does not decides.
+use Prim.Native.Nat.{_-_, _≤_}
+use mathlib.Core.Path.{sym, _∙_}
+use native.Mathlib.Omega.{arith}
 use borrow.Author.Tests.{not-true, not-false}
-use Rattle.book.proofs.laws.check.UnitsFitLaws.{zeros-below, units-fail, units-by-sums}
+use Rattle.measures.proofs.ListLaws.{all-none}
+use Rattle.book.specs.Layout.{UNITS, word}
+use Rattle.book.proofs.laws.check.UnitsFitLaws.{UnitsFit, units-more, units-fail, units-end}
 use borrow.Author.Needs.{needs}
 use Rattle.book.proofs.whole.units_fit.Statement.{statement}
 use Rattle.book.proofs.whole.units_fit.Tie as tie
 
-slice-aggregate-add-periods : tie.Need-slice-aggregate-add-periods
-slice-aggregate-add-periods c = search needs
+abbrev Inv-loop : tie.InvT-loop
+Inv-loop book last before n k₀ k = (k ≤ word book UNITS) × (UnitsFit book k)
 
-slice-aggregate-add-periods-2 : tie.Need-slice-aggregate-add-periods-2
-slice-aggregate-add-periods-2 c = search needs
+abbrev μ-loop : tie.MeasureT-loop
+μ-loop book last before n k₀ k = word book UNITS - k
 
-add-periods-requires : tie.Need-add-periods-requires
-add-periods-requires c κs =
-    let c5 = c .before .before .before .before .before in
-    let g = c5 .pre in (g .0, g .1, g .2, g .3, refl, refl, zeros-below 64 0, zeros-below 64 0)
+shared-slice-read-n : tie.Need-shared-slice-read-n Inv-loop μ-loop
+shared-slice-read-n c = search needs
 
-returns : tie.Need-returns
+loop-holds : tie.Need-loop-holds Inv-loop μ-loop
+loop-holds c = (omega arith, all-none _)
+
+unit-fits-requires : tie.Need-unit-fits-requires Inv-loop μ-loop
+unit-fits-requires c κs = search needs
+
+returns : tie.Need-returns Inv-loop μ-loop
 returns c =
-    let c3 = c .before .before .before in
-    let c9 = c3 .before .before .before .before .before .before in
-    units-fail _ (c9 .pre .0) (replicate 64 0) (replicate 64 0) _ _ (zeros-below 64 0) (zeros-below 64 0) _ (not-true _ (c .if1 .taken))
-    (c3 .add-periods .ensures)
+    let c8 = c .before .before .before .before .before .before .before .before in
+    units-fail _ _ (c8 .pre .0) (c .before .before .loop-test .taken) (sym (c .before .unit-fits .ensures) ∙ not-true _ (c .if1 .taken))
 
-slice-aggregate-all-sums-fit : tie.Need-slice-aggregate-all-sums-fit
-slice-aggregate-all-sums-fit c = search needs
+add-k : tie.Need-add-k Inv-loop μ-loop
+add-k c = search needs
 
-slice-aggregate-all-sums-fit-2 : tie.Need-slice-aggregate-all-sums-fit-2
-slice-aggregate-all-sums-fit-2 c = search needs
+loop-less : tie.Need-loop-less Inv-loop μ-loop
+loop-less c = search needs
 
-all-sums-fit-requires : tie.Need-all-sums-fit-requires
-all-sums-fit-requires c κs = search needs
+loop-again : tie.Need-loop-again Inv-loop μ-loop
+loop-again c = (search needs, units-more _ _ (c .before .before .before .loop .inv .1) (sym (c .before .unit-fits .ensures) ∙ not-false _ (c .if1 .left)))
 
-returns-2 : tie.Need-returns-2
-returns-2 c =
-    let c3 = c .before .before .before in
-    let c6 = c3 .before .before .before in
-    let c12 = c6 .before .before .before .before .before .before in
-    c .all-sums-fit .ensures ∙ units-by-sums _ (c12 .pre .0) (replicate 64 0) (replicate 64 0) _ _ (zeros-below 64 0) (zeros-below 64 0) _
-    (not-false _ (c3 .if1 .left)) (c6 .add-periods .ensures)
+returns-2 : tie.Need-returns-2 Inv-loop μ-loop
+returns-2 c = units-end _ (c .before .loop .k) (c .before .before .before .before .before .before .pre .0) (omega arith) (c .before .loop .inv .1)
 
 pub units-fit-spec : {M : Type 1} → statement M
 units-fit-spec =
     tie.close
     (tie.spec
-    slice-aggregate-add-periods
-    slice-aggregate-add-periods-2
-    add-periods-requires
+    Inv-loop
+    μ-loop
+    shared-slice-read-n
+    loop-holds
+    unit-fits-requires
     returns
-    slice-aggregate-all-sums-fit
-    slice-aggregate-all-sums-fit-2
-    all-sums-fit-requires
+    add-k
+    loop-less
+    loop-again
     returns-2)

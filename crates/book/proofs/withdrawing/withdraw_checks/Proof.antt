@@ -91,6 +91,12 @@ returns-6 c =
     withdraw-passes (s .args .book .now) (s .pre) (s .args .number) (s .args .unit) (c6 .before .before .if1 .left, c6 .if2 .left) (w .result)
     (w .ensures .there (c4 .if3 .left)) (w .ensures .number (c4 .if3 .left)) (c2 .if4 .left) (c .if5 .left)
 
+add-if4-2 : tie.Need-add-if4-2
+add-if4-2 c = omega (arith, c .if3 .left)
+
+add-if5-2 : tie.Need-add-if5-2
+add-if5-2 c = omega (arith, c .before .before .if3 .left)
+
 pub withdraw-checks-spec : {M : Type 1} → statement M
 withdraw-checks-spec =
     tie.close
@@ -102,11 +108,13 @@ withdraw-checks-spec =
     returns-3
     mul-if4
     add-if4
+    add-if4-2
     mul-if4-2
     shared-slice-read-if4
     returns-4
     mul-if5
     add-if5
+    add-if5-2
     mul-if5-2
     shared-slice-read-if5
     returns-5

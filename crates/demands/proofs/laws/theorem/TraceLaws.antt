@@ -5,11 +5,11 @@ use mathlib.Core.Bool.{Bool, true, false, cond}
 use mathlib.Core.List.{List, [], _∷_, _++_}
 use native.Mathlib.Omega.{arith}
 use native.Mathlib.Decide.{ℕ-discrete}
-use borrow.Author.Tests.{leb-true, le-leb, eq-eqb, ne-eqb, lt-ltb, le-ltb}
+use borrow.Author.Tests.{leb-true, le-leb, eqb-true, eq-eqb, ne-eqb, lt-ltb, le-ltb}
 use lib.ListN.{length, getD, drop, List·getD-append}
 use lib.Dec.{eqb, leb}
 use Rattle.measures.proofs.RangeLaws.{In, within}
-use Rattle.measures.proofs.ListLaws.{cond-true, cond-false, and-true}
+use Rattle.measures.proofs.ListLaws.{cond-true, cond-false, and-true, and-left, and-right}
 use Rattle.matching.specs.Orders.{Row}
 use Rattle.matching.specs.Memory.{written, rowsIn}
 use Rattle.book.specs.declared.Answer.{Answer}
@@ -17,9 +17,9 @@ use Rattle.book.specs.declared.Answer.the-variants.{Done, Refused}
 use Rattle.book.specs.Book.{Rules, Book}
 use Rattle.book.specs.Sound.{sound}
 use Rattle.book.specs.Refusals.{Outcome, firstOf}
-use Rattle.book.specs.Opening.{bookWords, fresh, openingRefusal}
+use Rattle.book.specs.Opening.{fresh, openingRefusal}
 use Rattle.book.specs.Curve.{Drawn, curve, curveRefusal, curveChecks, points, pointsFrom}
-use Rattle.book.specs.Layout.{word, decode, enough}
+use Rattle.book.specs.Layout.{DAYS, UNITS, LAYOUT, layoutNumber, bookWords, word, decode, laidOut}
 use Rattle.book.specs.Calls.{Call, callEnrol, callOffer, callTake, callWithdraw, callOrder, callCancel, callClear, callClose, outcome, answered}
 use Rattle.book.specs.Calls.{Heard}
 use Rattle.book.specs.Contract.{Told, toldBy, soundIn, outcomeOn, Made, Opened, curveOn, Curved}
@@ -28,7 +28,7 @@ use Rattle.demands.specs.Demand3.{Demand3, isMember, netOf}
 use Rattle.demands.specs.Trace.{Trace, none, next, heard, tallyOf, Claimed, OverEveryTrace}
 use Rattle.book.proofs.laws.rows.SmallLaws.{rows-written}
 use Rattle.book.proofs.laws.memory.RangeFacts.{units-held}
-use Rattle.book.proofs.laws.answer.MadeLaws.{sound-book, sound-enough, chain-sound}
+use Rattle.book.proofs.laws.answer.MadeLaws.{sound-book, sound-laid, chain-sound}
 use Rattle.book.proofs.laws.curve.CurveLaws.{drawn}
 use Rattle.book.proofs.laws.opening.OpeningLaws.{opening-long}
 use Rattle.demands.proofs.laws.tally.AgreeLaws.{Agree, agree-start, enrolled-in}
@@ -52,21 +52,24 @@ tallied-days t c a = go (eqb (a .refusal) 0) c
     go true (callClear lent) = refl
     go true callClose = refl
 
--- memory that is long enough, and holds a book in step with the tally
+-- memory that is laid out for a book, and holds one in step with the tally
 pub record Holding (t : Tally) (m : List ℕ) : Type 0 where
-  pub long : enough m ≡ true
+  pub laid : laidOut m ≡ true
   pub step : InStep t (decode m)
 
-on-book : (m : List ℕ) (c : Call) → enough m ≡ true → outcomeOn m c ≡ outcome (decode m) c
-unfolding outcomeOn
-on-book m c e = cond-true (enough m) (outcome (decode m) c) _ e refl
+laid-by : (m : List ℕ) → bookWords (word m DAYS) ≤ length m → word m LAYOUT ≡ layoutNumber → laidOut m ≡ true
+laid-by m l y = and-true (leb (bookWords (word m DAYS)) (length m)) (eqb (word m LAYOUT) layoutNumber) (le-leb _ _ l) (eq-eqb _ _ y)
 
-days-in : (m : List ℕ) → decode m .rules .days ≡ word m 0
+on-book : (m : List ℕ) (c : Call) → laidOut m ≡ true → outcomeOn m c ≡ outcome (decode m) c
+unfolding outcomeOn
+on-book m c e = cond-true (laidOut m) (outcome (decode m) c) _ e refl
+
+days-in : (m : List ℕ) → decode m .rules .days ≡ word m DAYS
 unfolding decode
 days-in m = refl
 
 -- what was heard of a call is what its outcome answers
-module _ (m rows : List ℕ) (c : Call) (a : Answer) (n rows′ : List ℕ) (p : Made m rows c a n rows′) (e : enough m ≡ true) where
+module _ (m rows : List ℕ) (c : Call) (a : Answer) (n rows′ : List ℕ) (p : Made m rows c a n rows′) (e : laidOut m ≡ true) where
   o : Outcome
   o = outcome (decode m) c
 
@@ -116,22 +119,24 @@ pub holding-after : (t : Tally) (m rows : List ℕ) (c : Call) (a : Answer) (n r
 holding-after t m rows c a n rows′ p h = go (ℕ-discrete (outcome (decode m) c .refusal) 0)
   where
     same : tallied t c (heard a rows′) ≡ tallied t c (answered (outcome (decode m) c))
-    same = tally-same m rows c a n rows′ p (h .long) t
+    same = tally-same m rows c a n rows′ p (h .laid) t
 
     go : Dec (outcome (decode m) c .refusal ≡ 0) → Holding (tallied t c (heard a rows′)) n
     go (no z) =
         let stay : tallied t c (heard a rows′) ≡ t = same ∙ cond-false (eqb (outcome (decode m) c .refusal) 0)
         (accounted t c (answered (outcome (decode m) c))) t (ne-eqb _ _ z) refl in
-        let nm : n ≡ m = refused-book m rows c a n rows′ p (h .long) z in
+        let nm : n ≡ m = refused-book m rows c a n rows′ p (h .laid) z in
         rw (stay, nm) h
     go (yes z) =
-        let b : decode n ≡ outcome (decode m) c .book = accepted-book m rows c a n rows′ p (h .long) z in
+        let b : decode n ≡ outcome (decode m) c .book = accepted-book m rows c a n rows′ p (h .laid) z in
         let k : InStep (tallied t c (answered (outcome (decode m) c))) (outcome (decode m) c .book) = in-step-after t (decode m) c (h .step) in
         let k′ : InStep (tallied t c (heard a rows′)) (decode n) = rw (same, b) k in
-        let d : word n 0 ≡ word m 0 = sym (days-in n) ∙ sym (k′ .agree .days) ∙ tallied-days t c (heard a rows′) ∙ h .step .agree .days ∙ days-in m in
+        let d : word n DAYS ≡ word m DAYS = sym (days-in n) ∙ sym (k′ .agree .days) ∙ tallied-days t c (heard a rows′) ∙ h .step .agree .days ∙ days-in m in
         let l = p .long in
-        let q = leb-true (bookWords (word m 0)) (length m) (h .long) in
-        record { long = le-leb (bookWords (word n 0)) (length n) (omega arith); step = k′ }
+        let q = leb-true (bookWords (word m DAYS)) (length m) (and-left (leb (bookWords (word m DAYS)) (length m)) (eqb (word m LAYOUT) layoutNumber)
+        (h .laid)) in
+        let y = eqb-true (word m LAYOUT) layoutNumber (and-right (leb (bookWords (word m DAYS)) (length m)) (eqb (word m LAYOUT) layoutNumber) (h .laid)) in
+        record { laid = laid-by n (omega arith) (p .aside .layout ∙ y); step = k′ }
 
 -- every list
 holding-all : {m x : List ℕ} (t : Tally) (tr : Trace m x) → Holding t m → Holding (tallyOf t tr) x
@@ -150,12 +155,12 @@ drawn-on : (m : List ℕ) (u day lent : ℕ) → soundIn m ≡ true → 0 ≡ fi
     ≡ record { refusal = 0; points = points (decode m) u day }
 unfolding curveOn curve curveRefusal
 drawn-on m u day lent e f =
-    cond-true (enough m) _ _ (sound-enough m e) refl ∙ rw (chain-sound (decode m) (curveChecks (decode m) u day lent) (sound-book m e), ← f) refl
+    cond-true (laidOut m) _ _ (sound-laid m e) refl ∙ rw (chain-sound (decode m) (curveChecks (decode m) u day lent) (sound-book m e), ← f) refl
 
 module _ (t : Tally) (x : List ℕ) (h : Holding t x) where
   sound-x : soundIn x ≡ true
   unfolding soundIn
-  sound-x = and-true (enough x) (sound (decode x)) (h .long) (h .step .sound)
+  sound-x = and-true (laidOut x) (sound (decode x)) (h .laid) (h .step .sound)
 
   pub claimed : Claimed t x
   claimed = record { sound = sound-x; book = d; curves = λ u day pts a pts′ e l k c. at u day pts a pts′ e l k c }
@@ -170,8 +175,8 @@ module _ (t : Tally) (x : List ℕ) (h : Holding t x) where
           × (getD pts′ (2 * i) 0 ≤ getD pts′ (2 * i + 1) 0)
           × (getD pts′ (2 * i + 1) 0 ≤ getD pts′ (2 * i) 0 + 1))
       at u day pts a pts′ e l k c =
-          let i : In 1 (word x 5) u = rw (units-held x) at (enrolled-in t (decode x) (h .step .agree) u e) in
-          let ld : day < word x 0 = rw (h .step .agree .days ∙ days-in x) at l in
+          let i : In 1 (word x UNITS) u = rw (units-held x) at (enrolled-in t (decode x) (h .step .agree) u e) in
+          let ld : day < word x DAYS = rw (h .step .agree .days ∙ days-in x) at l in
           let f = drawn-on x u day (length pts) sound-x (drawn x u day (length pts) i k ld) in
           let z : curveOn x u day (length pts) .refusal ≡ 0 = ap (λ (y : Drawn). y .refusal) f in
           let w : pts′ ≡ points (decode x) u day ++ drop 48 pts = c .accepted z ∙ ap (λ (y : Drawn). y .points ++ drop 48 pts) f in
@@ -196,13 +201,13 @@ over-every-trace m₀ rules a m x op z tr = claimed (tallyOf (opened rules) tr) 
     b : decode m ≡ fresh rules
     b = op .accepted r
 
-    d : word m 0 ≡ rules .days
+    d : word m DAYS ≡ rules .days
     d = sym (days-in m) ∙ ap (λ (y : Book). y .rules .days) b
 
     start : Holding (opened rules) m
     start =
         record {
-          long = le-leb (bookWords (word m 0)) (length m) (let l = op .long in let w = opening-long (length m₀) (rules .days) (rules .floor)
-              (rules .ceiling) r in omega (arith, d));
+          laid = laid-by m (let l = op .long in let w = opening-long (length m₀) (rules .days) (rules .floor) (rules .ceiling) r in omega (arith, d))
+              (op .laid r);
           step = rw b (record { agree = agree-start rules; sound = fresh-sound (length m₀) rules r });
         }

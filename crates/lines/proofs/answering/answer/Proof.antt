@@ -121,7 +121,7 @@ answer-call-requires c κs =
     let b = c .before .before .before .before .before in
     let s = b .before .before .before .before .before .before .before .before .before .before .before .before .before .before .before .before in
     let d = has-day (s .args .started) (s .args .book .now) (sym (b .has-book .ensures) ∙ not-false _ (c .before .before .before .before .if4 .left)) in
-    search needs
+    (search needs, d)
 
 same-length-11 : tie.Need-same-length-11
 same-length-11 c = search needs

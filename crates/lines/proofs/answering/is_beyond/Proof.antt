@@ -1,4 +1,4 @@
--- `is_beyond`: the book's sixth word counts its units.
+-- `is_beyond`: the word that counts the units.
 use Rattle.lines.proofs.AnswerLaws.{beyond-other, beyond-enrol}
 use borrow.Author.Needs.{needs}
 use Rattle.lines.proofs.answering.is_beyond.Statement.{statement}
