@@ -9,23 +9,18 @@ use Rattle.limits.proofs.number_of.Reads as number-of-reads
 use Rattle.limits.proofs.unit_limits.Reads as unit-limits-reads
 use Rattle.limits.proofs.values_of.Reads as values-of-reads
 
--- src/lib.rt:165:9
 fresh-requires : tie.Need-fresh-requires
 fresh-requires c κs = search needs
 
--- src/lib.rt:166:9
 unit-limits-requires : tie.Need-unit-limits-requires
 unit-limits-requires c κs = search needs
 
--- src/lib.rt:167:12
 values-of-requires : tie.Need-values-of-requires
 values-of-requires c κs = search needs
 
--- src/lib.rt:168:5
 number-of-requires : tie.Need-number-of-requires
 number-of-requires c κs = search needs
 
--- src/lib.rt:154:1
 returns : tie.Need-returns
 returns c =
     let f = c .before .before .before .fresh .ensures in

@@ -24,59 +24,45 @@ asset-in : (c : tie.Else7) → c .before .before .before .before .before .before
     ≤ mostEnergy
 asset-in c = leb-true _ _ (sym (c .before .in-range .ensures) ∙ not-false _ (c .if7 .left))
 
--- src/lib.rt:98:9
 returns : tie.Need-returns
 returns c = no-days _ _ _ _ _ (omega arith)
 
--- src/lib.rt:101:9
 returns-2 : tie.Need-returns-2
 returns-2 c = no-days _ _ _ _ _ (omega arith)
 
--- src/lib.rt:104:9
 returns-3 : tie.Need-returns-3
 returns-3 c = no-kind _ _ _ _ _ (omega arith) (omega arith)
 
--- src/lib.rt:107:9
 returns-4 : tie.Need-returns-4
 returns-4 c = no-kind _ _ _ _ _ (omega arith) (omega arith)
 
--- src/lib.rt:110:9
 returns-5 : tie.Need-returns-5
 returns-5 c = no-capacity _ _ _ _ _ (omega arith) (omega arith) (omega arith)
 
--- src/lib.rt:113:9
 returns-6 : tie.Need-returns-6
 returns-6 c = no-capacity _ _ _ _ _ (omega arith) (omega arith) (omega arith)
 
--- src/lib.rt:115:9
 in-range-requires : tie.Need-in-range-requires
 in-range-requires c κs = search needs
 
--- src/lib.rt:116:9
 returns-7 : tie.Need-returns-7
 returns-7 c = no-asset _ _ _ _ _ (omega arith) (omega arith) (omega arith) (asset-out c)
 
--- src/lib.rt:118:8
 mul-if8 : tie.Need-mul-if8
 mul-if8 c = search needs
 
--- src/lib.rt:119:9
 returns-8 : tie.Need-returns-8
 returns-8 c = no-period _ _ _ _ _ (omega arith) (omega arith) (omega arith) (asset-in (c .before)) (omega arith)
 
--- src/lib.rt:121:9
 hour-limit-requires : tie.Need-hour-limit-requires
 hour-limit-requires c κs = search needs
 
--- src/lib.rt:122:9
 term-limit-requires : tie.Need-term-limit-requires
 term-limit-requires c κs = search needs
 
--- src/lib.rt:123:9
 volume-limit-requires : tie.Need-volume-limit-requires
 volume-limit-requires c κs = rw (c .term-limit .ensures) (term-most _ _ _ _ (omega arith) (omega arith))
 
--- src/lib.rt:93:1
 returns-9 : tie.Need-returns-9
 returns-9 c =
     simp (c .volume-limit .ensures, c .before .term-limit .ensures, c .before .before .hour-limit .ensures)

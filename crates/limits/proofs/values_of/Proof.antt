@@ -6,55 +6,42 @@ use Rattle.limits.proofs.values_of.Reads as reads
 use Rattle.limits.proofs.values_of.Lts as lts
 use Rattle.measures.proofs.Energy.kwh.Reads as kwh-reads
 
--- src/lib.rt:145:25
 enum-told : tie.Need-enum-told
 enum-told c = search needs
 
--- src/lib.rt:146:25
 enum-told-2 : tie.Need-enum-told-2
 enum-told-2 c = search needs
 
--- src/lib.rt:147:25
 enum-told-3 : tie.Need-enum-told-3
 enum-told-3 c = search needs
 
--- src/lib.rt:148:27
 enum-told-4 : tie.Need-enum-told-4
 enum-told-4 c = search needs
 
--- src/lib.rt:149:23
 enum-known-l : tie.Need-enum-known-l
 enum-known-l c = search needs
 
--- src/lib.rt:149:47
 kwh-requires : tie.Need-kwh-requires
 kwh-requires c κs = search needs
 
--- src/lib.rt:149:59
 kwh-requires-2 : tie.Need-kwh-requires-2
 kwh-requires-2 c κs = search needs
 
--- src/lib.rt:149:71
 kwh-requires-3 : tie.Need-kwh-requires-3
 kwh-requires-3 c κs = search needs
 
--- src/lib.rt:141:1
 returns : tie.Need-returns
 returns c = search needs
 
--- src/lib.rt:141:1
 returns-2 : tie.Need-returns-2
 returns-2 c = search needs
 
--- src/lib.rt:141:1
 returns-3 : tie.Need-returns-3
 returns-3 c = search needs
 
--- src/lib.rt:141:1
 returns-4 : tie.Need-returns-4
 returns-4 c = search needs
 
--- src/lib.rt:141:1
 returns-5 : tie.Need-returns-5
 returns-5 c = rw (c .kwh3 .ensures, c .before .kwh2 .ensures, c .before .before .kwh .ensures, c .before .before .before .before .l .given .1)
 

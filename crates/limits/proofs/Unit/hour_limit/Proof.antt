@@ -6,19 +6,15 @@ use Rattle.limits.proofs.Unit.hour_limit.Tie as tie
 use Rattle.limits.proofs.Unit.hour_limit.Reads as reads
 use Rattle.limits.proofs.Unit.hour_limit.Lts as lts
 
--- src/lib.rt:36:5
 returns : tie.Need-returns
 returns c = solar-day _ _ _ (omega arith) (omega arith)
 
--- src/lib.rt:36:5
 returns-2 : tie.Need-returns-2
 returns-2 c = solar-night _ _ _ (omega arith) (omega arith)
 
--- src/lib.rt:36:5
 returns-3 : tie.Need-returns-3
 returns-3 c = solar-night _ _ _ (omega arith) (omega arith)
 
--- src/lib.rt:36:5
 returns-4 : tie.Need-returns-4
 returns-4 c = not-solar _ _ _ (omega arith)
 

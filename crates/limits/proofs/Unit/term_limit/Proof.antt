@@ -9,43 +9,33 @@ use Rattle.limits.proofs.Unit.term_limit.Reads as reads
 use Rattle.limits.proofs.Unit.term_limit.Lts as lts
 use Rattle.measures.proofs.Energy.least.Reads as least-reads
 
--- src/lib.rt:56:25
 mul-t5 : tie.Need-mul-t5
 mul-t5 c = search needs
 
--- src/lib.rt:56:25
 mul-t6 : tie.Need-mul-t6
 mul-t6 c = record { fits = term-fits _ _ _ (omega arith) (omega arith) (omega arith) }
 
--- src/lib.rt:57:25
 mul-t7 : tie.Need-mul-t7
 mul-t7 c = search needs
 
--- src/lib.rt:57:25
 mul-t8 : tie.Need-mul-t8
 mul-t8 c = record { fits = term-fits _ _ _ (omega arith) (omega arith) (omega arith) }
 
--- src/lib.rt:57:18
 least-requires : tie.Need-least-requires
 least-requires c κs = search needs
 
--- src/lib.rt:58:25
 mul-t10 : tie.Need-mul-t10
 mul-t10 c = search needs
 
--- src/lib.rt:58:25
 mul-t11 : tie.Need-mul-t11
 mul-t11 c = record { fits = term-fits _ _ _ (omega arith) (omega arith) (omega arith) }
 
--- src/lib.rt:50:5
 returns : tie.Need-returns
 returns c = term-solar _ _ _ _ _ (omega arith) refl
 
--- src/lib.rt:50:5
 returns-2 : tie.Need-returns-2
 returns-2 c = term-retailer _ _ _ _ _ (omega arith) (c .least .ensures)
 
--- src/lib.rt:50:5
 returns-3 : tie.Need-returns-3
 returns-3 c = term-other _ _ _ _ _ (omega arith) (omega arith) refl
 

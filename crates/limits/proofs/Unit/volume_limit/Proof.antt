@@ -9,19 +9,15 @@ use Rattle.limits.proofs.Unit.volume_limit.Reads as reads
 use Rattle.limits.proofs.Unit.volume_limit.Lts as lts
 use Rattle.measures.proofs.Energy.six_fifths.Reads as six-fifths-reads
 
--- src/lib.rt:69:22
 six-fifths-requires : tie.Need-six-fifths-requires
 six-fifths-requires c κs = search needs
 
--- src/lib.rt:63:5
 returns : tie.Need-returns
 returns c = volume-generator _ _ _ (omega arith) (omega arith)
 
--- src/lib.rt:63:5
 returns-2 : tie.Need-returns-2
 returns-2 c = volume-load _ _ _ (omega arith) refl
 
--- src/lib.rt:63:5
 returns-3 : tie.Need-returns-3
 returns-3 c = volume-load _ _ _ (omega arith) refl
 
