@@ -8,7 +8,8 @@
  *
  * Energy is in kWh, capacity in kW, a price in thousandths of a yuan per MWh. A row is six words: way (1 bilateral, 2
  * listing, 3 clear, 4 rolling), period, seller, buyer, quantity, price. Words past the counted rows, past the 48 points
- * and past the book are kept.
+ * and past the book are kept. A book's memory may be kept and lent again; a version that lays it out otherwise refuses it
+ * by 1.
  */
 #ifndef CENDUXARI_H
 #define CENDUXARI_H

@@ -53,7 +53,8 @@ impl Book {
     ///
     /// # Errors
     ///
-    /// [`Refusal::UnsoundBook`] if they are too few or hold no sound book.
+    /// [`Refusal::UnsoundBook`] if they are too few or hold no sound book, or if a version gave them that lays memory out
+    /// otherwise.
     pub fn resume(words: Vec<u64>) -> Result<Book, Refusal> {
         // There is no unit 0, so of a sound book this is refused by another number than 1.
         match lent::curve(&words, 0, 0, &mut []) {

@@ -3,7 +3,7 @@
 
 use crate::engine::Trial;
 use crate::layout::{
-    amount_at, figures_at, offer_at, order_at, sound_book, unit_at, words, FIGURES, OFFER, ORDER,
+    amount_at, held_at, offer_at, order_at, sound_book, unit_at, words, EACH, LAYOUT, OFFER, ORDER,
     UNIT,
 };
 use crate::lists::{lend, name, Counts};
@@ -55,11 +55,11 @@ fn place(book: &Book, length: usize, random: &mut Random) -> usize {
         |at: usize, size: usize, random: &mut Random| at + random.to(size as u64 - 1) as usize;
     let needed = words(book.days);
     match random.to(15) {
-        0..=1 => within(0, 8, random),
+        0..=1 => within(0, LAYOUT + 1, random),
         2..=3 => within(unit_at(unit), UNIT, random),
         4..=5 => within(offer_at(offer), OFFER, random),
         6..=9 => within(order_at(order), ORDER, random),
-        10..=12 => within(figures_at(unit, period), FIGURES, random),
+        10..=12 => held_at(unit, period) + random.of(&EACH),
         13 => amount_at(offer, period),
         14 if length > needed => within(needed, length - needed, random),
         _ => within(0, needed, random),

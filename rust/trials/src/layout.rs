@@ -4,41 +4,56 @@ use second::book::{Book, Figures, Offer, Order, Unit};
 use second::limits::days_in_range;
 use second::sound::sound;
 
-/// The words of the book's own: days, floor, ceiling, phase, numbers given, and the counts below.
+/// The words of the book's own: days, floor, ceiling, phase, numbers given, the counts below, and the layout's number.
 pub const DAYS: usize = 0;
 pub const PHASE: usize = 3;
 pub const GIVEN: usize = 4;
 pub const UNIT_COUNT: usize = 5;
 pub const OFFER_COUNT: usize = 6;
 pub const ORDER_COUNT: usize = 7;
-/// Units of three: kind, capacity, asset.
-const UNITS: usize = 8;
-/// Offers of five: number, unit, partner, price, taken.
-const OFFERS: usize = 200;
-/// Orders of six: number, unit, direction, period, price, quantity.
-const ORDERS: usize = 240;
-/// The first period; each has the figures of 64 units, then the amounts of 8 offers.
-const PERIODS: usize = 1_776;
-const PERIOD: usize = 328;
-/// Words of a unit, an offer, an order, and a unit's figures in a period.
+pub const LAYOUT: usize = 8;
+/// The number of this layout.
+pub const LAYOUT_NUMBER: u64 = 3_100_002;
+/// Units, of which the first three words are read: kind, capacity, asset.
+const UNITS: usize = 64;
+const UNIT_WORDS: usize = 8;
 pub const UNIT: usize = 3;
+/// Offers, of which the first five words are read: number, unit, partner, taken, price.
+const OFFERS: usize = 1_344;
+const OFFER_WORDS: usize = 8;
 pub const OFFER: usize = 5;
+/// Orders of six: number, unit, direction, period, price, quantity.
+const ORDERS: usize = 1_536;
 pub const ORDER: usize = 6;
-pub const FIGURES: usize = 5;
+/// The amounts of each offer, by period.
+const AMOUNTS: usize = 3_072;
+const AMOUNT_WORDS: usize = 744;
+/// The first day: of each unit five figures by hour.
+const FIGURES: usize = 9_024;
+const DAY_WORDS: usize = 7_704;
+const HOURS: usize = 24;
+/// Where each figure stands, from held energy.
+pub const HELD: usize = 0;
+pub const RAISED: usize = HOURS;
+pub const LOWERED: usize = 2 * HOURS;
+pub const MARK: usize = 3 * HOURS;
+pub const VOLUME: usize = 4 * HOURS;
+/// All five.
+pub const EACH: [usize; 5] = [HELD, RAISED, LOWERED, MARK, VOLUME];
 
 /// How many words a book of these days needs.
 pub fn words(days: u64) -> usize {
-    PERIODS + 24 * days as usize * PERIOD
+    FIGURES + DAY_WORDS * days as usize
 }
 
 /// Where the unit at this place begins, from 0.
 pub fn unit_at(place: usize) -> usize {
-    UNITS + UNIT * place
+    UNITS + UNIT_WORDS * place
 }
 
 /// Where the offer at this place begins.
 pub fn offer_at(place: usize) -> usize {
-    OFFERS + OFFER * place
+    OFFERS + OFFER_WORDS * place
 }
 
 /// Where the order at this place begins.
@@ -46,20 +61,21 @@ pub fn order_at(place: usize) -> usize {
     ORDERS + ORDER * place
 }
 
-/// Where the figures of the unit at this place begin: held, raised, lowered, volume, mark.
-pub fn figures_at(place: usize, period: usize) -> usize {
-    PERIODS + PERIOD * period + FIGURES * place
+/// Where the held energy of the unit at this place stands.
+pub fn held_at(place: usize, period: usize) -> usize {
+    FIGURES + DAY_WORDS * (period / HOURS) + EACH.len() * HOURS * place + period % HOURS
 }
 
 /// Where the amount of the offer at this place stands.
 pub fn amount_at(place: usize, period: usize) -> usize {
-    figures_at(Unit::MOST, period) + place
+    AMOUNTS + AMOUNT_WORDS * place + period
 }
 
-/// The book that memory holds; none if it is too short, or if days or a count are out of range, which no sound book's
-/// are.
+/// The book that memory holds; none if it is too short, if it has another layout's number, or if days or a count are out
+/// of range, which no sound book's are.
 pub fn decode(memory: &[u64]) -> Option<Book> {
-    let &[days, floor, ceiling, phase, given, units, offers, orders, ..] = memory else {
+    let &[days, floor, ceiling, phase, given, units, offers, orders, LAYOUT_NUMBER, ..] = memory
+    else {
         return None;
     };
     let counted = |count: u64, most: usize| (count <= most as u64).then_some(count as usize);
@@ -69,37 +85,34 @@ pub fn decode(memory: &[u64]) -> Option<Book> {
     if !days_in_range(days) || memory.len() < words(days) {
         return None;
     }
-    let periods = 24 * days as usize;
+    let periods = HOURS * days as usize;
     Some(Book {
         days,
         floor,
         ceiling,
         phase,
         given,
-        units: decode_units(memory, units, periods),
+        units: (0..units).map(|place| decode_unit(memory, place, periods)).collect(),
         offers: (0..offers).map(|place| decode_offer(memory, place, periods)).collect(),
         orders: memory[ORDERS..].chunks(ORDER).take(orders).map(decode_order).collect(),
     })
 }
 
-fn decode_units(memory: &[u64], count: usize, periods: usize) -> Vec<Unit> {
-    let fields = memory[UNITS..].chunks(UNIT).take(count);
-    let mut units: Vec<Unit> =
-        fields.map(|unit| Unit::fresh(unit[0], unit[1], unit[2], periods)).collect();
-    for period in 0..periods {
-        let figures = memory[figures_at(0, period)..].chunks(FIGURES);
-        for (unit, words) in units.iter_mut().zip(figures) {
-            let &[held, raised, lowered, volume, mark] = words else { unreachable!() };
-            unit.figures[period] = Figures { held, raised, lowered, volume, mark };
-        }
+fn decode_unit(memory: &[u64], place: usize, periods: usize) -> Unit {
+    let &[kind, capacity, asset] = &memory[unit_at(place)..][..UNIT] else { unreachable!() };
+    let mut unit = Unit::fresh(kind, capacity, asset, periods);
+    for (period, figures) in unit.figures.iter_mut().enumerate() {
+        let at = held_at(place, period);
+        let [held, raised, lowered, mark, volume] = EACH.map(|figure| memory[at + figure]);
+        *figures = Figures { held, raised, lowered, volume, mark };
     }
-    units
+    unit
 }
 
 fn decode_offer(memory: &[u64], place: usize, periods: usize) -> Offer {
     let fields = &memory[offer_at(place)..][..OFFER];
-    let &[number, unit, partner, price, taken] = fields else { unreachable!() };
-    let amounts = (0..periods).map(|period| memory[amount_at(place, period)]).collect();
+    let &[number, unit, partner, taken, price] = fields else { unreachable!() };
+    let amounts = memory[amount_at(place, 0)..][..periods].to_vec();
     Offer { number, unit, partner, price, taken, amounts }
 }
 
@@ -118,21 +131,22 @@ pub fn encode(book: &Book, memory: &mut [u64]) {
     let counts = [book.units.len(), book.offers.len(), book.orders.len()];
     memory[..5].copy_from_slice(&[book.days, book.floor, book.ceiling, book.phase, book.given]);
     memory[5..8].copy_from_slice(&counts.map(|count| count as u64));
+    memory[LAYOUT] = LAYOUT_NUMBER;
     for (place, unit) in book.units.iter().enumerate() {
         let fields = [unit.kind, unit.capacity, unit.asset];
         memory[unit_at(place)..][..UNIT].copy_from_slice(&fields);
         for (period, figures) in unit.figures.iter().enumerate() {
             let Figures { held, raised, lowered, volume, mark } = *figures;
-            memory[figures_at(place, period)..][..FIGURES]
-                .copy_from_slice(&[held, raised, lowered, volume, mark]);
+            let at = held_at(place, period);
+            for (figure, value) in EACH.into_iter().zip([held, raised, lowered, mark, volume]) {
+                memory[at + figure] = value;
+            }
         }
     }
     for (place, offer) in book.offers.iter().enumerate() {
         let Offer { number, unit, partner, price, taken, ref amounts } = *offer;
-        memory[offer_at(place)..][..OFFER].copy_from_slice(&[number, unit, partner, price, taken]);
-        for (period, &amount) in amounts.iter().enumerate() {
-            memory[amount_at(place, period)] = amount;
-        }
+        memory[offer_at(place)..][..OFFER].copy_from_slice(&[number, unit, partner, taken, price]);
+        memory[amount_at(place, 0)..][..amounts.len()].copy_from_slice(amounts);
     }
     for (place, order) in book.orders.iter().enumerate() {
         let Order { number, unit, direction, period, price, quantity } = *order;

@@ -6,7 +6,8 @@ use second::manners::{Manner, MANNERS};
 use trials::engine::{Engine, Told};
 use trials::exported;
 use trials::layout::{
-    figures_at, unit_at, words, DAYS, FIGURES, GIVEN, ORDER_COUNT, PHASE, UNIT_COUNT,
+    held_at, unit_at, words, DAYS, EACH, GIVEN, LAYOUT, LAYOUT_NUMBER, LOWERED, MARK, ORDER_COUNT,
+    PHASE, RAISED, UNIT_COUNT,
 };
 use trials::lists::{run_list, Counts, Plan};
 
@@ -51,11 +52,7 @@ fn with(call: &Call, book: &mut [u64], rows: &mut [u64], other: &[(usize, u64)])
     told
 }
 
-/// Words of figures: lowered and the mark of ways 3 and 4.
-const LOWERED: usize = 2;
-const MARK: usize = 4;
-
-const WRONG: [(&str, &str, &Manner, Engine); 19] = [
+const WRONG: [(&str, &str, &Manner, Engine); 20] = [
     ("one kWh more in a row", "other rows", TIGHT, |call, book, rows| {
         then(If::Accepted, call, book, rows, |told, _, rows| {
             if told.count > 0 {
@@ -108,9 +105,9 @@ const WRONG: [(&str, &str, &Manner, Engine); 19] = [
     }),
     ("today's trade is held", "another refusal", TIGHT, |call, book, rows| match *call {
         Call::Order { unit, period, .. } if held_can_grow(book, unit, period) => {
-            let at = figures_at(unit as usize - 1, period as usize);
-            let held = book[at] + book[at + 1];
-            with(call, book, rows, &[(at, held), (at + 1, 0)])
+            let at = held_at(unit as usize - 1, period as usize);
+            let held = book[at] + book[at + RAISED];
+            with(call, book, rows, &[(at, held), (at + RAISED, 0)])
         }
         _ => exported::make(call, book, rows),
     }),
@@ -140,8 +137,8 @@ const WRONG: [(&str, &str, &Manner, Engine); 19] = [
         Call::Enrol { .. } => {
             let before = book.to_vec();
             then(If::Accepted, call, book, rows, |told, book, _| {
-                let at = figures_at(told.number as usize - 1, 0);
-                book[at..at + FIGURES].copy_from_slice(&before[at..at + FIGURES]);
+                let at = held_at(told.number as usize - 1, 0);
+                EACH.map(|figure| book[at + figure] = before[at + figure]);
             })
         }
         _ => exported::make(call, book, rows),
@@ -151,7 +148,7 @@ const WRONG: [(&str, &str, &Manner, Engine); 19] = [
         then(If::Accepted, call, book, rows, |_, book, _| {
             if matches!(call, Call::Close) {
                 for unit in 0..book[UNIT_COUNT] as usize {
-                    let at = figures_at(unit, 9) + LOWERED;
+                    let at = held_at(unit, 9) + LOWERED;
                     book[at] = before[at];
                 }
             }
@@ -181,10 +178,16 @@ const WRONG: [(&str, &str, &Manner, Engine); 19] = [
     ("a mark out of range let through", "another refusal", DAY, |call, book, rows| {
         let units = book.get(UNIT_COUNT).map_or(0, |&units| units.min(64));
         let marks =
-            (0..units as usize).flat_map(|unit| (0..24).map(move |p| figures_at(unit, p) + MARK));
+            (0..units as usize).flat_map(|unit| (0..24).map(move |p| held_at(unit, p) + MARK));
         let wrong = marks.filter(|&at| book.len() > at && book[at] > 3);
         let mended: Vec<(usize, u64)> = wrong.map(|at| (at, 0)).collect();
         with(call, book, rows, &mended)
+    }),
+    ("another layout let through", "another refusal", DAY, |call, book, rows| {
+        let number = book.get(LAYOUT).filter(|_| !matches!(call, Call::Open { .. }));
+        let other = number.map_or(false, |&number| number != LAYOUT_NUMBER);
+        let mended: &[(usize, u64)] = if other { &[(LAYOUT, LAYOUT_NUMBER)] } else { &[] };
+        with(call, book, rows, mended)
     }),
     ("a capacity one over let through", "another refusal", DAY, |call, book, rows| {
         let most = 5_000_000;
@@ -198,8 +201,8 @@ const WRONG: [(&str, &str, &Manner, Engine); 19] = [
 fn held_can_grow(book: &[u64], unit: u64, period: u64) -> bool {
     let known = (1..=64).contains(&unit) && period < 744;
     known && {
-        let at = figures_at(unit as usize - 1, period as usize);
-        book.len() > at + 1 && book[at].checked_add(book[at + 1]).is_some()
+        let at = held_at(unit as usize - 1, period as usize);
+        book.len() > at + RAISED && book[at].checked_add(book[at + RAISED]).is_some()
     }
 }
 

@@ -43,54 +43,136 @@ impl Matched {
 }
 
 fn main() {
-    let (sizes, matched) = (sizes(), matched());
+    let (sizes, matched, grown) = (sizes(), matched(), grown());
     let mut text = String::new();
-    aims(&sizes, &matched, &mut text);
+    aims(&sizes, &matched, &grown, &mut text);
     worst(&sizes, &mut text);
     calls(&sizes, &mut text);
     matching(&matched, &mut text);
-    growth(&mut text);
+    growth(&grown, &mut text);
     print!("{text}");
     if let Some(file) = std::env::args().nth(1) {
         replace(&file, &text);
     }
 }
 
-/// Which calls miss which aim.
-fn aims(sizes: &[Size], matched: &[Matched], text: &mut String) {
-    let names: Vec<&str> = sizes[0].calls.iter().map(|&(name, _)| name).collect();
-    let above = |units: u64, aim: f64, ratio: fn(&Times) -> f64| {
-        let of_units = || sizes.iter().filter(move |size| size.units == units);
-        let missed = |place: usize| of_units().any(|size| ratio(&size.calls[place].1) > aim);
-        (0..names.len()).filter(|&place| missed(place)).map(|place| names[place]).collect()
-    };
-    let mut aim = |name: &str, missed: Vec<&str>| {
+/// A bound on a ratio, for some sizes and some calls.
+struct Aim {
+    name: &'static str,
+    most: f64,
+    beside: fn(&Times) -> f64,
+    size: fn(&Size) -> bool,
+    call: fn(&str) -> bool,
+}
+
+const AIMS: [Aim; 6] = [
+    Aim {
+        name: "Check alone, 16 and 64 units, at most 0.8 × the second engine",
+        most: 0.8,
+        beside: beside_second,
+        size: |size| size.units > 1,
+        call: |name| name == CHECK,
+    },
+    Aim {
+        name: "Check alone, 1 unit, no orders, at most 1.0 × the second engine",
+        most: 1.0,
+        beside: beside_second,
+        size: |size| size.units == 1 && size.orders == 0,
+        call: |name| name == CHECK,
+    },
+    Aim {
+        name: "Check alone, 1 unit, with orders, at most 1.6 × the second engine",
+        most: 1.6,
+        beside: beside_second,
+        size: |size| size.units == 1 && size.orders > 0,
+        call: |name| name == CHECK,
+    },
+    Aim {
+        name:
+            "Every other call that moves no rows, 16 and 64 units, at most 1.0 × the second engine",
+        most: 1.0,
+        beside: beside_second,
+        size: |size| size.units > 1,
+        call: |name| name != CHECK && name != TAKE,
+    },
+    Aim {
+        name: "7 and 31 days, 64 units, no rows and no close, at most 2 × the floor",
+        most: 2.0,
+        beside: beside_floor,
+        size: |size| size.days > 1 && size.units == 64,
+        call: |name| name != CLOSE && name != TAKE,
+    },
+    Aim {
+        name: "Close of 7 and 31 days, 64 units, at most 3.3 × the floor",
+        most: 3.3,
+        beside: beside_floor,
+        size: |size| size.days > 1 && size.units == 64,
+        call: |name| name == CLOSE,
+    },
+];
+
+/// Calls by the names that `each_call` gives them.
+const CHECK: &str = "check alone";
+const TAKE: &str = "take";
+const CLOSE: &str = "close";
+
+impl Aim {
+    /// The largest ratio of each call, and where.
+    fn largest<'a>(&self, sizes: &'a [Size]) -> Vec<(&'a str, f64, &'a Size)> {
+        let mut found: Vec<(&str, f64, &Size)> = Vec::new();
+        for size in sizes.iter().filter(|size| (self.size)(size)) {
+            for (name, times) in size.calls.iter().filter(|(name, _)| (self.call)(name)) {
+                let ratio = (self.beside)(times);
+                match found.iter_mut().find(|at| at.0 == *name) {
+                    Some(at) if at.1 < ratio => *at = (name, ratio, size),
+                    Some(_) => {}
+                    None => found.push((name, ratio, size)),
+                }
+            }
+        }
+        found
+    }
+}
+
+/// Which aims are met, with the largest ratio, and which calls miss one.
+fn aims(sizes: &[Size], matched: &[Matched], grown: &Grown, text: &mut String) {
+    for aim in &AIMS {
+        let largest = aim.largest(sizes);
+        let told = |(name, ratio, size): &(&str, f64, &Size)| {
+            format!("{name} {ratio:.2} ({}, {}, {})", size.days, size.units, size.orders)
+        };
+        let missed: Vec<String> = largest.iter().filter(|at| at.1 > aim.most).map(told).collect();
+        let most = largest.iter().map(|at| at.1).fold(0.0, f64::max);
         let end = if missed.is_empty() {
-            "met".into()
+            format!("met, at most {most:.2}")
         } else {
             format!("missed by {}", missed.join(", "))
         };
-        writeln!(text, "- {name}: {end}.").unwrap();
-    };
-    for units in UNITS {
-        let name = format!("No call above the second engine, units {units}");
-        aim(&name, above(units, 1.0, beside_second));
+        writeln!(text, "- {}: {end}.", aim.name).unwrap();
     }
-    for units in UNITS {
-        let mut no_rows: Vec<&str> = above(units, 3.0, beside_floor);
-        no_rows.retain(|&name| name != "take");
-        let name =
-            format!("None above three times the floor where it moves no rows, units {units}");
-        aim(&name, no_rows);
+    let listing = (grown.offers.engine - grown.many.engine) / 8.0;
+    let end = if listing <= 1.0 { "met" } else { "missed" };
+    writeln!(text, "- A listing of 31 days open at most 1 µs more: {end}, {listing:.2} µs.")
+        .unwrap();
+    let large = || matched.iter().filter(|call| call.whole.rows > 200);
+    let ratios: [(&str, fn(&Matched) -> f64); 2] = [
+        ("with the check", |call| beside_second(&call.whole)),
+        ("without it", |call| call.less_check()[0] / call.less_check()[1]),
+    ];
+    for (manner, ratio) in ratios {
+        let slow = large().filter(|call| ratio(call) > 1.5);
+        let missed: Vec<String> =
+            slow.map(|call| format!("{} {:.2}", call.name, ratio(call))).collect();
+        let most = large().map(ratio).fold(0.0, f64::max);
+        let end = if missed.is_empty() {
+            format!("met, at most {most:.2}")
+        } else {
+            format!("missed by {}", missed.join(", "))
+        };
+        let name = "255 met or 256 cleared at most 1.5 × the second engine";
+        writeln!(text, "- {name}, {manner}: {end}.").unwrap();
     }
-    let large = matched.iter().filter(|call| call.whole.rows > 200);
-    let slow = large.clone().filter(|call| beside_second(&call.whole) > 1.5);
-    aim(
-        "255 met or 256 cleared at most 1.5 × the second engine, with the check",
-        slow.map(|call| &*call.name).collect(),
-    );
-    let slow = large.filter(|call| call.less_check()[0] > 1.5 * call.less_check()[1]);
-    aim("The same without the check", slow.map(|call| &*call.name).collect());
+    writeln!(text, "\nIn brackets days, units and orders.").unwrap();
 }
 
 fn beside_second(times: &Times) -> f64 {
@@ -245,15 +327,31 @@ fn matching(matched: &[Matched], text: &mut String) {
     }
 }
 
-/// What one more of each costs the check of the book.
-fn growth(text: &mut String) {
-    let title = "How the check of the book grows, in nanoseconds.";
-    head(title, &["for each", "engine", "second"], text);
+/// Times of the check of books that differ in one thing.
+struct Grown {
+    day: Times,
+    one: Times,
+    many: Times,
+    offers: Times,
+    none: Times,
+    some: Times,
+    most: Times,
+}
+
+fn grown() -> Grown {
     let mut books = vec![listed(1, 1, 0), listed(31, 1, 0), listed(31, 64, 0), listed(31, 64, 8)];
     books.extend(ORDERS.map(|orders| spread(1, 64, orders)));
     let cases: Vec<_> = books.into_iter().map(|book| (book, check_alone())).collect();
     let times = in_turn(&cases, MORE_PASSES);
     let [day, one, many, offers, none, some, most] = times[..] else { unreachable!() };
+    Grown { day, one, many, offers, none, some, most }
+}
+
+/// What one more of each costs the check of the book.
+fn growth(grown: &Grown, text: &mut String) {
+    let title = "How the check of the book grows, in nanoseconds.";
+    head(title, &["for each", "engine", "second"], text);
+    let Grown { day, one, many, offers, none, some, most } = *grown;
     line("unit and period", one, many, 63 * 744, text);
     line("period, whatever the units", day, one, 30 * 24, text);
     line("offer and period", many, offers, 8 * 744, text);
