@@ -1,8 +1,13 @@
--- Figure 1 holds: the definition computes it.
+-- Figure 1 and the shares beside it hold: the definition computes them.
 use mathlib.Core.Path.{refl}
-use Rattle.measures.specs.Sharing.{parts}
-use Rattle.measures.specs.Figures.{AllShared, figure1}
+use Rattle.measures.specs.Lists.{sum, tableFrom}
+use Rattle.measures.specs.Sharing.{ahead, part, parts}
+use Rattle.measures.specs.Figures.{AllShared, figure1, oddKwh}
 
 pub figure1-holds : AllShared figure1
-unfolding parts
+unfolding sum tableFrom ahead part parts
 figure1-holds = (refl, (refl, tt))
+
+pub odd-kwh-holds : AllShared oddKwh
+unfolding sum tableFrom ahead part parts
+odd-kwh-holds = (refl, (refl, (refl, (refl, tt))))

@@ -4,7 +4,7 @@ use mathlib.Core.Path.{_≡_, refl, sym, ap, _∙_}
 use mathlib.Core.Bool.{Bool, true, false, cond, not, _&&_, _||_}
 use mathlib.Core.List.{List, [], _∷_, _++_, map}
 use native.Mathlib.Omega.{arith}
-use native.Mathlib.Nat.{not-suc-le-zero, add-zero, zero-add}
+use native.Mathlib.Nat.{not-suc-le-zero, add-zero, zero-add, mul-zero, mul-add}
 use native.Mathlib.Numerals.{add-one}
 use native.Mathlib.Decide.{ℕ-discrete, decLt}
 use lib.ListN.{length, getD, take, drop, set, length-set, length-append, length-map, List·getD-append, List·getD-map}
@@ -72,6 +72,10 @@ and-left-false a b e = rw e
 pub and-right-false : (a b : Bool) → b ≡ false → (a && b) ≡ false
 and-right-false true b e = e
 and-right-false false b e = refl
+
+pub and-true-right : (b : Bool) → (b && true) ≡ b
+and-true-right true = refl
+and-true-right false = refl
 
 -- a list of conditions, as facts
 abbrev pub AllTrue : List Bool → Type 0
@@ -238,6 +242,28 @@ sum-at (suc n) f i h = go (λ l. sum-at n f i l) (decLt i n)
         let e : f i ≡ f n = ap f (omega arith) in
         omega arith
 
+-- a factor of each term
+pub sum-scale : (n c : ℕ) (f : ℕ → ℕ) → sum n (λ i. c * f i) ≡ c * sum n f
+unfolding sum
+sum-scale zero c f = sym (mul-zero c)
+sum-scale (suc n) c f = rw (sum-scale n c f) (sym (mul-add c (sum n f) (f n)))
+
+-- a sum that is smaller at one place
+pub sum-less : (n : ℕ) (f g : ℕ → ℕ) (k : ℕ) → k < n → ((i : ℕ) → i < n → f i ≤ g i) → f k < g k → sum n f < sum n g
+unfolding sum
+sum-less zero f g k l h s = absurd (not-suc-le-zero l)
+sum-less (suc n) f g k l h s = go (λ l′. sum-less n f g k l′ (λ i li. h i (omega arith)) s) (ℕ-discrete k n)
+  where
+    go : (k < n → sum n f < sum n g) → Dec (k ≡ n) → sum n f + f n < sum n g + g n
+    go ih (yes e) =
+        let t = sum-mono n f g (λ i li. h i (omega arith)) in
+        let u : f n < g n = rw e at s in
+        omega arith
+    go ih (no ne) =
+        let t = ih (omega arith) in
+        let u = h n (omega arith) in
+        omega arith
+
 -- two functions that differ at one place
 pub sum-change : (n : ℕ) (f g : ℕ → ℕ) (k : ℕ) → k < n → ((j : ℕ) → j < n → (j ≡ k → ⊥) → f j ≡ g j) → sum n f + g k ≡ sum n g + f k
 unfolding sum
@@ -304,6 +330,17 @@ sumOf-table f (suc n) g =
 pub total-sumOf : (l : List ℕ) → total l ≡ sumOf (λ x. x) l
 total-sumOf [] = refl
 total-sumOf (x ∷ l) = rw (total-sumOf l)
+
+-- a sum from its first term on
+sum-first : (n : ℕ) (f : ℕ → ℕ) → sum (suc n) f ≡ f 0 + sum n (λ i. f (suc i))
+unfolding sum
+sum-first zero f = omega arith
+sum-first (suc n) f = let t = sum-first n f in omega arith
+
+-- a list's sum is the sum over its places
+pub total-at : (l : List ℕ) → total l ≡ sum (length l) (λ i. getD l i 0)
+total-at [] = sym (sum-none _)
+total-at (x ∷ l) = rw (total-at l) (sym (sum-first (length l) (λ i. getD (x ∷ l) i 0)))
 
 pub total-table : (n : ℕ) (f : ℕ → ℕ) → total (table n f) ≡ sum n f
 total-table n f = total-sumOf (table n f) ∙ sumOf-table (λ x. x) n f

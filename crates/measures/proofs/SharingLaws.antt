@@ -1,33 +1,37 @@
--- Laws of sharing. For callers: `parts-length`, `parts-sum`, `no-part-exceeds`, `parts-of-all`, and `part-formula` in the paper's own words.
-use Prim.Native.Nat.{ℕ, zero, suc, _+_, _-_, _*_, _/_, _^_, _≤_, _<_}
+-- Laws of sharing. For callers: `parts-length`, `parts-sum`, `no-part-exceeds`, `parts-of-all`; `fair` has the promises of paper 02, and
+-- `one-each` and `largest-first` say in its words who gets the kWh left over.
+use Prim.Native.Nat.{ℕ, suc, _+_, _-_, _*_, _^_, _≤_, _<_}
 use mathlib.Core.Path.{_≡_, refl, sym, ap, ap₂, _∙_}
-use mathlib.Core.List.{List, [], _∷_, _++_, append-assoc}
+use mathlib.Core.Bool.{Bool, true, false, cond}
+use mathlib.Core.List.{List, [], _∷_, _++_}
 use native.Mathlib.Nat.{
   lt-of-le-of-lt,
   mul-le-mul,
-  mul-le-mul-left,
   mul-le-mul-right,
   mul-add,
+  mul-comm,
+  mul-sub,
+  mul-one,
   add-zero,
-  zero-add,
-  add-assoc,
   mul-zero,
-  zero-div,
-  le-trans,
-  div-mul-le-self,
-  le-div-iff-mul-le,
-  add-mul-div-left,
-  mul-div-cancel,
+  div-add-mod,
+  mod-lt,
+  le-of-mul-le-mul-left,
+  lt-of-mul-lt-mul-left,
 }
 use native.Mathlib.Omega.{arith}
 use native.Mathlib.Numerals.{add-one}
-use lib.ListN.{length, getD, take, drop, set, drop-of-length-le, take-append-drop}
-use mathlib.Core.Bool.{Bool, true, false, cond}
-use lib.Dec.{lit<, ltb, eqb}
-use borrow.Author.Tests.{lt-ltb, le-ltb, eq-eqb, ne-eqb, ltb-false, eqb-false}
-use lib.Seq.{drop-cons, take-suc-set, drop-set-lt, take-at}
+use native.Mathlib.Decide.{decLt}
+use lib.ListN.{length, getD, take, drop, drop-of-length-le}
+use lib.Dec.{lit<, leb, ltb, eqb}
+use lib.Seq.{drop-cons, take-at}
+use borrow.Author.Tests.{lt-ltb, le-ltb, le-leb, lt-leb, eq-eqb, ne-eqb, ltb-true, ltb-false, eqb-false}
 use Rattle.measures.specs.Ranges.{mostEnergy}
-use Rattle.measures.specs.Sharing.{Outcome, Is, refused, total, upTo, partsFrom, parts, sharing}
+use Rattle.measures.specs.Lists.{sum, one, count}
+use Rattle.measures.specs.Sharing.{total, rounded, fraction, leftOver, before, ahead, part, parts, Fair, refused, sharing, Is}
+use Rattle.measures.specs.inner.Cuts.{reach}
+use Rattle.measures.proofs.ListLaws.{sum-scale, sum-mono, sum-add, sum-ext, total-at, total-table, table-length, table-at}
+use Rattle.measures.proofs.LargestLaws.{firsts, has-cut, reach-mono, reach-all, zero-place, fewer-ahead}
 
 -- what is left from i on is the amount at i and what is left after it
 pub total-drop : (l : List ℕ) (i : ℕ) → i < length l → total (drop i l) ≡ getD l i 0 + total (drop (i + 1) l)
@@ -36,59 +40,146 @@ total-drop l i h = rw (add-one, drop-cons l i 0)
 pub total-end : (l : List ℕ) (i : ℕ) → length l ≤ i → total (drop i l) ≡ 0
 total-end l i h = ap total (drop-of-length-le l h)
 
--- a loop that writes v at i of the first n places: v joins what is written, and leaves what is to come
-pub put-next : (m : List ℕ) (i n v : ℕ) (ys : List ℕ) → i < n → n ≤ length m → take (i + 1) (set m i v) ++ (ys ++ drop n (set m i v)) ≡ take i m
-    ++ ((v ∷ ys) ++ drop n m)
-put-next m i n v ys h l =
-    let h′ : i < length m = omega arith in
-    rw (add-one, take-suc-set m i v, drop-set-lt n m i v) (append-assoc (take i m) (v ∷ []) (ys ++ drop n m))
-
 -- a product of two amounts fits 64 bits
 pub product-fits : (a b : ℕ) → a ≤ mostEnergy → b ≤ mostEnergy → a * b < 2 ^ 64
 product-fits a b ha hb = lt-of-le-of-lt (mul-le-mul ha hb) (lit< tt)
 
--- division by one positive number keeps the order
-pub div-mono : (R a b : ℕ) → 0 < R → a ≤ b → a / R ≤ b / R
-div-mono R a b pos h = le-div-iff-mul-le {x = a / R} {y = b} pos .1 (le-trans (div-mul-le-self a R) h)
-
-pub upTo-mono : (d R s r : ℕ) → 0 < R → upTo d R s ≤ upTo d R (s + r)
-upTo-mono d R s r pos = div-mono R (d * s) (d * (s + r)) pos (mul-le-mul-left d (omega arith))
-
--- one part is at most its amount
-pub upTo-step : (d R s r : ℕ) → 0 < R → d ≤ R → upTo d R (s + r) ≤ upTo d R s + r
-upTo-step d R s r pos le =
-    rw (← add-mul-div-left (d * s) r pos)
-    (div-mono R (d * (s + r)) (d * s + R * r) pos (rw mul-add (omega (arith, mul-le-mul-right r le))))
-
--- the parts from the amount at i on: that amount's part, and the parts after it
-pub parts-next : (d R s : ℕ) (rs : List ℕ) (i : ℕ) → i < length rs → partsFrom d R s (drop i rs) ≡ (upTo d R (s + getD rs i 0) - upTo d R s)
-    ∷ partsFrom d R (s + getD rs i 0) (drop (i + 1) rs)
-parts-next d R s rs i h = rw (add-one, drop-cons rs i 0)
-
-pub parts-end : (d R s : ℕ) (rs : List ℕ) (i : ℕ) → length rs ≤ i → partsFrom d R s (drop i rs) ≡ []
-parts-end d R s rs i h = ap (partsFrom d R s) (drop-of-length-le rs h)
-
--- the parts from a running sum on
-sum-from : (d R s : ℕ) (rs : List ℕ) → 0 < R → total (partsFrom d R s rs) ≡ upTo d R (s + total rs) - upTo d R s
-sum-from d R s [] pos = rw add-zero (omega arith)
-sum-from d R s (r ∷ rs) pos =
-    rw (sum-from d R (s + r) rs pos, ← add-assoc s r (total rs))
-    (omega (arith, upTo-mono d R s r pos, upTo-mono d R (s + r) (total rs) pos))
-
--- "The parts sum to d"
-pub parts-sum : (d : ℕ) (rs : List ℕ) → 0 < total rs → total (parts d rs) ≡ d
-unfolding parts
-parts-sum d rs pos =
-    sum-from d (total rs) 0 rs pos ∙ rw (zero-add, mul-zero, zero-div, mul-div-cancel d pos) (omega arith)
-
-length-from : (d R s : ℕ) (rs : List ℕ) → length (partsFrom d R s rs) ≡ length rs
-length-from d R s [] = refl
-length-from d R s (r ∷ rs) = ap suc (length-from d R (s + r) rs)
-
 -- one part for each amount
 pub parts-length : (d : ℕ) (rs : List ℕ) → length (parts d rs) ≡ length rs
 unfolding parts
-parts-length d rs = length-from d (total rs) 0 rs
+parts-length d rs = table-length (length rs) (part d rs)
+
+pub part-at : (d : ℕ) (rs : List ℕ) (j : ℕ) → j < length rs → getD (parts d rs) j 0 ≡ part d rs j
+unfolding parts
+part-at d rs j h = table-at (length rs) (part d rs) j 0 h
+
+module _ (d : ℕ) (rs : List ℕ) (pos : 0 < total rs) where
+  -- a share is its rounded part and its fraction
+  pub share-splits : (j : ℕ) → total rs * rounded d rs j + fraction d rs j ≡ d * getD rs j 0
+  share-splits j = div-add-mod (d * getD rs j 0) (total rs)
+
+  pub fraction-less : (j : ℕ) → fraction d rs j < total rs
+  fraction-less j = mod-lt (d * getD rs j 0) pos
+
+  -- and so are all of them together
+  all-split : total rs * sum (length rs) (rounded d rs) + sum (length rs) (fraction d rs) ≡ total rs * d
+  all-split =
+      ap (λ (x : ℕ). x + sum (length rs) (fraction d rs)) (sym (sum-scale (length rs) (total rs) (rounded d rs)))
+      ∙ sym (sum-add (length rs) (λ j. total rs * rounded d rs j) (fraction d rs))
+      ∙ sum-ext (length rs) (λ j. total rs * rounded d rs j + fraction d rs j) (λ j. d * getD rs j 0) (λ j h. share-splits j)
+      ∙ sum-scale (length rs) d (λ j. getD rs j 0)
+      ∙ ap (λ (x : ℕ). d * x) (sym (total-at rs))
+      ∙ mul-comm d (total rs)
+
+  pub rounded-sum : sum (length rs) (rounded d rs) ≤ d
+  rounded-sum = le-of-mul-le-mul-left {k = total rs} (omega (arith, all-split)) pos
+
+  -- the fractions make up the kWh left over
+  pub fractions-sum : total rs * leftOver d rs ≡ sum (length rs) (fraction d rs)
+  fractions-sum = mul-sub (total rs) d (sum (length rs) (rounded d rs)) ∙ omega (arith, all-split)
+
+  fractions-few : sum (length rs) (fraction d rs) ≤ total rs * reach (fraction d rs) (length rs) 1
+  unfolding reach
+  fractions-few =
+      rw (← sum-scale (length rs) (total rs) (λ j. one (leb 1 (fraction d rs j))))
+      (sum-mono (length rs) (fraction d rs) (λ j. total rs * one (leb 1 (fraction d rs j)))
+      (λ j h. at (fraction d rs j) (fraction-less j) (decLt 0 (fraction d rs j))))
+    where
+      at : (x : ℕ) → x < total rs → Dec (0 < x) → x ≤ total rs * one (leb 1 x)
+      at x l (yes k) = simp (le-leb 1 x k, mul-one) (omega arith)
+      at x l (no k) = simp (lt-leb 1 x (omega arith), mul-zero) (omega arith)
+
+  -- so there are no more of them than fractions
+  pub left-over-few : leftOver d rs ≤ reach (fraction d rs) (length rs) 1
+  left-over-few = le-of-mul-le-mul-left {k = total rs} (omega (arith, fractions-sum, fractions-few)) pos
+
+  pub left-over-length : leftOver d rs ≤ length rs
+  left-over-length = omega (arith, left-over-few, reach-all (fraction d rs) (length rs), reach-mono (fraction d rs) (length rs) 0 1 (omega arith))
+
+  -- "parts still sum to d", for every d
+  pub parts-sum : total (parts d rs) ≡ d
+  unfolding parts part ahead
+  parts-sum =
+      let c = has-cut (fraction d rs) (length rs) (leftOver d rs) (total rs) left-over-length (λ i h. fraction-less i) in
+      total-table (length rs) (part d rs)
+      ∙ sum-add (length rs) (rounded d rs) (λ j. one (ltb (ahead d rs j) (leftOver d rs)))
+      ∙ rw (firsts (fraction d rs) (length rs) (leftOver d rs) (c .at) (c .cut)) (omega (arith, rounded-sum))
+
+  -- a part is the rounded one, or, where rounding took something off, one more
+  part-cases : (j : ℕ) (b : Bool) → ltb (ahead d rs j) (leftOver d rs) ≡ b → (part d rs j ≡ rounded d rs j + one b) × (b ≡ true → 0 < fraction d rs j)
+  unfolding part ahead
+  part-cases j b e = (rw e refl, λ t. some t (decLt 0 (fraction d rs j)))
+    where
+      some : b ≡ true → Dec (0 < fraction d rs j) → 0 < fraction d rs j
+      some t (yes h) = h
+      some t (no h) =
+          let z = zero-place (fraction d rs) (length rs) (leftOver d rs) j left-over-few (omega arith) in
+          let l = ltb-true (ahead d rs j) (leftOver d rs) (e ∙ t) in
+          absurd (omega arith)
+
+  -- "the kWh left over go one each": to as many places as there are kWh left over
+  pub one-each : count (length rs) (λ j. ltb (ahead d rs j) (leftOver d rs)) ≡ leftOver d rs
+  unfolding ahead
+  one-each =
+      let c = has-cut (fraction d rs) (length rs) (leftOver d rs) (total rs) left-over-length (λ i h. fraction-less i) in
+      firsts (fraction d rs) (length rs) (leftOver d rs) (c .at) (c .cut)
+
+  -- "to the largest fractions, equal fractions by lowest place": where place j gets one, each place before it does
+  pub largest-first : (i j : ℕ) → before (fraction d rs) i j ≡ true → part d rs j ≡ rounded d rs j + 1 → part d rs i ≡ rounded d rs i + 1
+  unfolding part ahead
+  largest-first i j p e =
+      let l = fewer-ahead (fraction d rs) (length rs) i j p in
+      go (ltb (ahead d rs j) (leftOver d rs)) refl l
+    where
+      go : (b : Bool) → ltb (ahead d rs j) (leftOver d rs) ≡ b → ahead d rs i ≤ ahead d rs j → part d rs i ≡ rounded d rs i + 1
+      go true h l =
+          let k = ltb-true (ahead d rs j) (leftOver d rs) h in
+          simp (lt-ltb (ahead d rs i) (leftOver d rs) (omega arith))
+      go false h l = absurd (omega (arith, rw h at e))
+
+  -- "each lies within 1 kWh of the exact share", d times rj over R: R times the part is less than R from d times rj
+  pub below-one : (j : ℕ) → d * getD rs j 0 < total rs * part d rs j + total rs
+  below-one j = go (ltb (ahead d rs j) (leftOver d rs)) refl
+    where
+      go : (b : Bool) → ltb (ahead d rs j) (leftOver d rs) ≡ b → d * getD rs j 0 < total rs * part d rs j + total rs
+      go b e =
+          rw (part-cases j b e .0, mul-add (total rs) (rounded d rs j) (one b))
+          (omega (arith, share-splits j, fraction-less j))
+
+  pub above-one : (j : ℕ) → total rs * part d rs j < d * getD rs j 0 + total rs
+  above-one j = go (ltb (ahead d rs j) (leftOver d rs)) refl
+    where
+      go : (b : Bool) → ltb (ahead d rs j) (leftOver d rs) ≡ b → total rs * part d rs j < d * getD rs j 0 + total rs
+      go true e =
+          rw (part-cases j true e .0, mul-add (total rs) (rounded d rs j) 1, mul-one)
+          (omega (arith, share-splits j, part-cases j true e .1 refl))
+      go false e =
+          rw (part-cases j false e .0, add-zero)
+          (omega (arith, share-splits j))
+
+  -- "none exceeds its rj where d ≤ R"
+  pub part-within : (j : ℕ) → d ≤ total rs → part d rs j ≤ getD rs j 0
+  part-within j h =
+      let m : d * getD rs j 0 ≤ total rs * getD rs j 0 = mul-le-mul-right (getD rs j 0) h in
+      let l : total rs * part d rs j < total rs * (getD rs j 0 + 1) = rw (mul-add, mul-one) (omega (arith, above-one j)) in
+      let s = lt-of-mul-lt-mul-left (total rs) l in
+      omega arith
+
+  -- a place with no amount gets nothing
+  pub part-of-nothing : (j : ℕ) → getD rs j 0 ≡ 0 → part d rs j ≡ 0
+  part-of-nothing j e =
+      let l : total rs * part d rs j < total rs * 1 = rw mul-one (omega (arith, rw (e, mul-zero) at (above-one j))) in
+      let s = lt-of-mul-lt-mul-left (total rs) l in
+      omega arith
+
+-- the promises of paper 02
+pub fair : (d : ℕ) (rs : List ℕ) → 0 < total rs → Fair d rs
+fair d rs pos = record {
+  sum = parts-sum d rs pos;
+  within = λ j h le. rw (part-at d rs j h) (part-within d rs pos j le);
+  notBelow = λ j h. rw (part-at d rs j h) (below-one d rs pos j);
+  notAbove = λ j h. rw (part-at d rs j h) (above-one d rs pos j);
+}
 
 -- each part of a list is at most the amount beside it
 abbrev pub Within : List ℕ → List ℕ → Type 0
@@ -97,14 +188,16 @@ Within [] (r ∷ rs) = ⊥
 Within (p ∷ ps) [] = ⊥
 Within (p ∷ ps) (r ∷ rs) = (p ≤ r) × Within ps rs
 
-within-from : (d R s : ℕ) (rs : List ℕ) → 0 < R → d ≤ R → Within (partsFrom d R s rs) rs
-within-from d R s [] pos le = tt
-within-from d R s (r ∷ rs) pos le = (omega (arith, upTo-step d R s r pos le), within-from d R (s + r) rs pos le)
+pub within-by : (ps rs : List ℕ) → length ps ≡ length rs → ((j : ℕ) → j < length rs → getD ps j 0 ≤ getD rs j 0) → Within ps rs
+within-by [] [] e h = tt
+within-by [] (r ∷ rs) e h = absurd (omega arith)
+within-by (p ∷ ps) [] e h = absurd (omega arith)
+within-by (p ∷ ps) (r ∷ rs) e h = (h 0 (omega arith), within-by ps rs (omega arith) (λ j l. h (suc j) (omega arith)))
 
 -- "none exceeds its rj"
 pub no-part-exceeds : (d : ℕ) (rs : List ℕ) → 0 < d → d ≤ total rs → Within (parts d rs) rs
-unfolding parts
-no-part-exceeds d rs pos le = within-from d (total rs) 0 rs (omega arith) le
+no-part-exceeds d rs some le =
+    within-by (parts d rs) rs (parts-length d rs) (λ j h. rw (part-at d rs j h) (part-within d rs (omega arith) j le))
 
 -- parts within the amounts sum to no more than they do
 pub within-total : (ps rs : List ℕ) → Within ps rs → total ps ≤ total rs
@@ -127,18 +220,6 @@ within-all (p ∷ ps) (r ∷ rs) w e =
 -- all of it, shared, is each amount: by the two laws alone
 pub parts-of-all : (rs : List ℕ) → 0 < total rs → parts (total rs) rs ≡ rs
 parts-of-all rs pos = within-all (parts (total rs) rs) rs (no-part-exceeds (total rs) rs pos (omega arith)) (parts-sum (total rs) rs pos)
-
-part-from : (d R s : ℕ) (rs : List ℕ) (j : ℕ) → j < length rs → getD (partsFrom d R s rs) j 0
-    ≡ upTo d R (s + total (take (suc j) rs)) - upTo d R (s + total (take j rs))
-part-from d R s [] j h = absurd (omega arith)
-part-from d R s (r ∷ rs) zero h = simp add-zero
-part-from d R s (r ∷ rs) (suc j) h = part-from d R (s + r) rs j (omega arith) ∙ simp add-assoc
-
--- "Part j is floor(d times Sj / R) less floor(d times Sj-1 / R)", for j from 0
-pub part-formula : (d : ℕ) (rs : List ℕ) (j : ℕ) → j < length rs → getD (parts d rs) j 0
-    ≡ d * total (take (j + 1) rs) / total rs - d * total (take j rs) / total rs
-unfolding parts
-part-formula d rs j h = rw add-one (part-from d (total rs) 0 rs j h ∙ simp zero-add)
 
 -- sharing by cases
 module _ (d : ℕ) (rs m : List ℕ) where

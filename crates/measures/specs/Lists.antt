@@ -34,6 +34,14 @@ unfoldable pub sum : ℕ → (ℕ → ℕ) → ℕ
 sum zero f = 0
 sum (suc n) f = sum n f + f n
 
+-- 1 where a test holds, 0 where it fails
+abbrev pub one : Bool → ℕ
+one b = cond b 1 0
+
+-- how many of the numbers below n pass a test
+abbrev pub count : ℕ → (ℕ → Bool) → ℕ
+count n f = sum n (λ i. one (f i))
+
 -- whether f holds of each number below n
 unfoldable pub all : ℕ → (ℕ → Bool) → Bool
 all zero f = true

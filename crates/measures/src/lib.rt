@@ -1,11 +1,11 @@
 // Energy and price, and sharing an amount: paper 01, "Units of measure and the book" and "Sharing an amount".
+mod sharing;
+
 ghost use mathlib.Core.Path.{_≡_};
-ghost use mathlib.Core.List.{_++_};
-ghost use Prim.Native.Nat.{ℕ, _+_, _*_, _-_, _/_, _≤_, _<_, min, max};
+ghost use Prim.Native.Nat.{_+_, _*_, _-_, _/_, min, max};
 ghost use lib.Dec.{leb, ltb, eqb};
-ghost use lib.ListN.{length, drop};
 ghost use Rattle.measures.specs.Ranges.{mostEnergy, mostPrice, mostNumber};
-ghost use Rattle.measures.specs.Sharing.{total, parts as partsOf, sharing, Is, Shareable};
+ghost use Rattle.measures.specs.Sharing.{total, sharing, Is};
 
 // Energy in whole kWh.
 pub struct Energy(pub u64);
@@ -160,23 +160,6 @@ fn capped_total(amounts: &[u64]) -> u64
     sum
 }
 
-// Writes the parts of d over the amounts, whose sum is `whole`.
-fn write_parts(d: u64, whole: u64, amounts: &[u64], parts: &mut [u64])
-    requires { ⌜ Shareable d whole (now amounts) (now parts) ⌝ }
-    ensures { λ _. ⌜ now (parts .exit) ≡ partsOf d (now (amounts .entry)) ++ drop (length (now (amounts .entry))) (now (parts .entry)) ⌝ }
-{
-    let mut sum: u64 = 0;
-    let mut given: u64 = 0;
-    let mut i = 0;
-    while i < amounts.len() {
-        sum += amounts[i];
-        let due = d * sum / whole;
-        parts[i] = due - given;
-        given = due;
-        i += 1;
-    }
-}
-
 // Shares an amount over the remaining amounts, into the first parts: 7 where fewer parts than amounts are lent, 9 where
 // the amount is 0 or above the remaining amounts' sum, or that sum above Energy::MOST, and 0 where the parts are written.
 // A refusal changes nothing.
@@ -197,7 +180,7 @@ pub fn share(amount: Energy, amounts: &[u64], parts: &mut [u64]) -> u64
     if whole < d {
         return 9;
     }
-    write_parts(d, whole, amounts, parts);
+    crate::sharing::write_parts(d, whole, amounts, parts);
     0
 }
 

@@ -1,7 +1,7 @@
 -- The starred figures hold: the definitions compute them.
 use mathlib.Core.Path.{refl}
-use Rattle.measures.specs.Lists.{holds, sum, all}
-use Rattle.measures.specs.Sharing.{parts}
+use Rattle.measures.specs.Lists.{holds, sum, all, tableFrom}
+use Rattle.measures.specs.Sharing.{ahead, part, parts}
 use Rattle.measures.proofs.FiguresHold.{figure1-holds}
 use Rattle.limits.specs.Limits.{hourLimit, termLimit, volumeLimit}
 use Rattle.limits.proofs.FiguresHold.{figure5-holds, figure6-holds}
@@ -49,14 +49,14 @@ figure6-calls = (figure6-holds, refl)
 
 figure7-calls : Figure7
 unfolding holds sum all unitFits hourLimit termLimit volumeLimit openOrders openOffers openRaising openLowering hourFits hoursFit termFits volumeFits headIn
-    unitIn offerIn orderIn rising numbersDiffer eachTwo sound firstOf enrolRefusal enrolment orderRefusal ordering answers parts traded booked rowsBooked
-    offerRefusal offering takeRefusal takeRowsFrom takeRows lessEach offersLess taking closing
+    unitIn offerIn orderIn rising numbersDiffer eachTwo sound firstOf enrolRefusal enrolment orderRefusal ordering answers
+    tableFrom ahead part parts traded booked rowsBooked offerRefusal offering takeRefusal takeRowsFrom takeRows lessEach offersLess taking closing
 figure7-calls = refl
 
 figure8-holds : Figure8
 unfolding holds sum all unitFits hourLimit termLimit volumeLimit openOrders openOffers openRaising openLowering hourFits hoursFit termFits volumeFits headIn
-    unitIn offerIn orderIn rising numbersDiffer eachTwo sound firstOf enrolRefusal enrolment bookAfter parts traded booked rowsBooked offerRefusal offering
-    takeRefusal takeRowsFrom takeRows lessEach offersLess taking curveRefusal pointsFrom curve
+    unitIn offerIn orderIn rising numbersDiffer eachTwo sound firstOf enrolRefusal enrolment bookAfter
+    tableFrom ahead part parts traded booked rowsBooked offerRefusal offering takeRefusal takeRowsFrom takeRows lessEach offersLess taking curveRefusal pointsFrom curve
 figure8-holds = refl
 
 -- figures 1 to 8
