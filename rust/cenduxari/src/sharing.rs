@@ -1,13 +1,13 @@
-//! Sharing an amount: paper 01, "Sharing an amount".
+//! Sharing an amount: paper 01, "Sharing an amount"; paper 02, job 14.
 
 use crate::refusal::{outcome, Refusal};
 use crate::sys;
 
 /// Shares `amount` over the remaining `amounts`, into the first `parts`.
 ///
-/// With R the total of the amounts and Sj the sum of the first j, part j is floor(amount × Sj / R) less
-/// floor(amount × Sj-1 / R). The parts sum to `amount`, and none exceeds its remaining amount. Parts past the number
-/// of amounts keep their contents.
+/// With R the total of the amounts, each part is `amount` times its remaining amount over R, rounded down; the kWh left
+/// over go one each to the largest fractions, equal fractions by lowest place. The parts sum to `amount`, none exceeds its
+/// remaining amount, and each lies within 1 kWh of the exact share. Parts past the number of amounts keep their contents.
 ///
 /// # Errors
 ///
@@ -22,10 +22,10 @@ use crate::sys;
 ///
 /// let mut parts = [0; 3];
 /// share(4, &[3, 3, 3], &mut parts)?;
-/// assert_eq!(parts, [1, 1, 2]);
+/// assert_eq!(parts, [2, 1, 1]);
 ///
 /// assert_eq!(share(10, &[3, 3, 3], &mut parts), Err(Refusal::Energy));
-/// assert_eq!(parts, [1, 1, 2]);
+/// assert_eq!(parts, [2, 1, 1]);
 /// # Ok::<(), Refusal>(())
 /// ```
 #[inline]

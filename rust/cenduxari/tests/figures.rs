@@ -20,8 +20,8 @@ fn traded(rows: impl Iterator<Item = Row>) -> Vec<(u64, u64)> {
 fn figure_1() {
     let mut parts = [0; 3];
     share(4, &[3, 3, 3], &mut parts).unwrap();
-    assert_eq!(parts, [1, 1, 2]);
-    share(2, &[2, 2, 1], &mut parts).unwrap();
+    assert_eq!(parts, [2, 1, 1]);
+    share(2, &[1, 2, 2], &mut parts).unwrap();
     assert_eq!(parts, [0, 1, 1]);
 }
 

@@ -196,9 +196,9 @@ fn taking() {
     lent.refuses(12, |lent| lent.take(3, 2, 9));
     lent.refuses(12, |lent| lent.take(2, 2, 8));
     lent.refuses(20, |lent| lent.take(3, 1, 6));
-    // A listing is shared: 4 over 3, 3, 3, then 2 over 2, 2, 1.
+    // A listing is shared: 4 over 3, 3, 3, then 2 over 1, 2, 2.
     assert_eq!(lent.take(2, 1, 4), Ok(3));
-    let rows = [2, 7, 1, 2, 1, 500, 2, 8, 1, 2, 1, 500, 2, 9, 1, 2, 2, 500];
+    let rows = [2, 7, 1, 2, 2, 500, 2, 8, 1, 2, 1, 500, 2, 9, 1, 2, 1, 500];
     assert_eq!(lent.rows[..18], rows);
     assert!(lent.rows[18..].iter().all(|word| *word == GUARD));
     assert_eq!(lent.take(2, 1, 2), Ok(2));
@@ -206,7 +206,7 @@ fn taking() {
     assert_eq!(lent.rows[12..18], rows[12..]);
     lent.refuses(13, |lent| lent::withdraw(&mut lent.book, 1, 1));
     // The rest of it, and a bilateral offer whole: both are gone.
-    assert_eq!(lent.take(3, 1, 3), Ok(2));
+    assert_eq!(lent.take(3, 1, 3), Ok(3));
     lent.refuses(11, |lent| lent.take(2, 1, 1));
     assert_eq!(lent.take(2, 2, 9), Ok(3));
     assert_eq!(lent.rows[..6], [1, 7, 1, 2, 3, 500]);

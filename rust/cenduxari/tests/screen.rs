@@ -15,8 +15,8 @@ fn says(words: &str, text: &str, status: i32) {
 
 #[test]
 fn shares() {
-    says("share 4 3 3 3", "1 1 2\n", 0);
-    says("share 2 2 2 1", "0 1 1\n", 0);
+    says("share 4 3 3 3", "2 1 1\n", 0);
+    says("share 2 1 2 2", "0 1 1\n", 0);
 }
 
 #[test]
@@ -67,8 +67,8 @@ fn shows_the_figures() {
     let (text, status) = screen("");
     assert_eq!(status, Some(0));
     for line in [
-        "share 4 3 3 3: 1 1 2",
-        "share 2 2 2 1: 0 1 1",
+        "share 4 3 3 3: 2 1 1",
+        "share 2 1 2 2: 0 1 1",
         "limits 1 2 100 0 0: hour limit 100, term limit 2400, volume limit 2880",
         "limits 1 1 100 0 5: hour limit 0, term limit 1000, volume limit 1200",
         "limits 1 1 100 0 6: hour limit 100, term limit 1000, volume limit 1200",

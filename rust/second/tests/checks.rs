@@ -262,11 +262,11 @@ fn sharing_directly() {
     assert_eq!(share(1, &[u64::MAX, u64::MAX, 3], &mut lent), 9);
     assert_eq!(lent, [77; 3]);
     assert_eq!(share(1, &[1, 1], &mut lent), 0);
-    assert_eq!(lent, [0, 1, 77]);
+    assert_eq!(lent, [1, 0, 77]);
     assert_eq!(share(4_000_000_000, &[0, 4_000_000_000, 0], &mut lent), 0);
     assert_eq!(lent, [0, 4_000_000_000, 0]);
     assert_eq!(share(3_999_999_999, &[1, 3_999_999_999], &mut lent), 0);
-    assert_eq!(lent, [0, 3_999_999_999, 0]);
+    assert_eq!(lent, [1, 3_999_999_998, 0]);
     let mut many = vec![0; 1_000];
     assert_eq!(share(1_000, &vec![1; 1_000], &mut many), 0);
     assert_eq!(many, vec![1; 1_000]);

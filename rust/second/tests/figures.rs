@@ -39,8 +39,8 @@ fn order(
 fn figure_1_sharing() {
     let mut parts = [77; 4];
     assert_eq!(share(4, &[3, 3, 3], &mut parts), 0);
-    assert_eq!(parts, [1, 1, 2, 77]);
-    assert_eq!(share(2, &[2, 2, 1], &mut parts), 0);
+    assert_eq!(parts, [2, 1, 1, 77]);
+    assert_eq!(share(2, &[1, 2, 2], &mut parts), 0);
     assert_eq!(parts, [0, 1, 1, 77]);
 }
 

@@ -71,8 +71,8 @@ fn agree(program: &Path, input: &[u8]) {
 #[test]
 fn vectors_agree() {
     let Some(program) = program() else { return };
-    for (path, list, answers) in pairs("CENDUXARI_VECTORS", "shared/vectors", "") {
-        assert!(printed(&program, &[&list]) == answers, "{}", path.display());
+    for (_, list, _) in pairs("CENDUXARI_VECTORS", "shared/vectors", "") {
+        agree(&program, &list);
     }
 }
 

@@ -93,7 +93,7 @@ fn try_call(
         Call::Take { unit, number, quantity, .. } => {
             let place = before.offers.iter().position(|offer| offer.number == number).unwrap();
             let offer = &mut expected.offers[place];
-            let parts = parts(quantity, &offer.amounts);
+            let parts = naive::parts(quantity, &offer.amounts);
             let way = if offer.partner == 0 { 2 } else { 1 };
             let lists = before.units[offer.unit as usize - 1].kind <= 2;
             let (seller, buyer) = if lists { (offer.unit, unit) } else { (unit, offer.unit) };
@@ -191,7 +191,7 @@ fn try_fit(before: &Book, call: &Call, answer: &Result<Answer, u64>, tried: &mut
         Call::Take { unit, number: taken, quantity, .. } => {
             let mut offer =
                 before.offers.iter().find(|offer| offer.number == taken).unwrap().clone();
-            offer.amounts = parts(quantity, &offer.amounts);
+            offer.amounts = naive::parts(quantity, &offer.amounts);
             (offer.number, offer.unit) = (number, unit);
             added.offers.push(offer);
             unit
@@ -200,26 +200,6 @@ fn try_fit(before: &Book, call: &Call, answer: &Result<Answer, u64>, tried: &mut
     };
     assert_eq!(naive::fit(&added, name as usize - 1), refusal, "{call:?}");
     *(if refusal == 0 { &mut tried.fits } else { &mut tried.misfits }) += 1;
-}
-
-/// Sharing small totals kWh by kWh: those are given at which floor(d j / R) rises. Large totals:
-/// the formula, in wide numbers.
-fn parts(d: u64, amounts: &[u64]) -> Vec<u64> {
-    let d = d as u128;
-    let total: u128 = amounts.iter().map(|&amount| amount as u128).sum();
-    let mut sum = 0;
-    let mut parts = Vec::new();
-    for &amount in amounts {
-        let before = sum;
-        sum += amount as u128;
-        let part = if total <= 1_000 {
-            (before + 1..=sum).filter(|j| d * j / total > d * (j - 1) / total).count() as u64
-        } else {
-            (d * sum / total - d * before / total) as u64
-        };
-        parts.push(part);
-    }
-    parts
 }
 
 #[test]
@@ -239,7 +219,7 @@ fn sharing() {
             continue;
         }
         assert_eq!(answer, 0);
-        let mut expected = parts(d, &amounts);
+        let mut expected = naive::parts(d, &amounts);
         assert_eq!(expected.iter().sum::<u64>(), d);
         assert!(expected.iter().zip(&amounts).all(|(part, amount)| part <= amount));
         expected.push(77);

@@ -48,6 +48,15 @@ pub fn listed(days: u64, units: u64, offers: u64) -> Book {
     book
 }
 
+/// A book of 31 days with a listing of these amounts by period, and the take of three sevenths of it.
+pub fn month(units: u64, amount: fn(u64) -> u64) -> (Book, Call) {
+    let mut book = listed(31, units, 1);
+    let amounts: Vec<u64> = (0..book.periods()).map(amount).collect();
+    let quantity = amounts.iter().sum::<u64>() * 3 / 7;
+    book.offers[0].amounts = amounts;
+    (book, Call::Take { unit: 2, number: LISTING, quantity, lent: ROWS_LENT })
+}
+
 /// A book of one day and 64 units in the rolling phase, with so many sells in one period.
 pub fn waiting(sells: u64) -> Book {
     let order = |place| {

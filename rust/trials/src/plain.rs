@@ -21,13 +21,19 @@ pub fn share(amount: u64, amounts: &[u64], parts: &mut [u64]) -> Result<(), Refu
     if amount == 0 || amount > total {
         return Err(Refusal::Energy);
     }
-    let mut sum = 0;
-    let mut given = 0;
-    for (&remaining, part) in amounts.iter().zip(parts) {
-        sum += remaining;
-        let due = amount * sum / total;
-        *part = due - given;
-        given = due;
+    let mut left = amount;
+    let mut places = Vec::with_capacity(amounts.len());
+    for (place, (&remaining, part)) in amounts.iter().zip(&mut *parts).enumerate() {
+        let product = amount * remaining;
+        *part = product / total;
+        left -= *part;
+        places.push((total - product % total, place));
+    }
+    if left > 0 {
+        places.select_nth_unstable(left as usize - 1);
+        for &(_, place) in &places[..left as usize] {
+            parts[place] += 1;
+        }
     }
     Ok(())
 }

@@ -1,4 +1,4 @@
-//! Trials of sharing: paper 01, "Sharing an amount".
+//! Trials of sharing: paper 01, "Sharing an amount"; paper 02, job 14.
 
 use crate::plain;
 use crate::random::Random;
@@ -69,7 +69,7 @@ pub fn trial(
     Ok(number)
 }
 
-/// The paper's three laws of the parts, in arithmetic that can't overflow.
+/// The papers' laws of the parts, in arithmetic that can't overflow.
 fn laws(amount: u64, amounts: &[u64], parts: &[u64]) -> Result<(), &'static str> {
     let wide = |words: &[u64]| words.iter().map(|&word| word as u128).sum::<u128>();
     if wide(parts) != amount as u128 {
@@ -79,13 +79,19 @@ fn laws(amount: u64, amounts: &[u64], parts: &[u64]) -> Result<(), &'static str>
         return Err("a part exceeds its remaining amount");
     }
     let total = wide(amounts);
-    let mut sum: u128 = 0;
-    for (&remaining, &part) in amounts.iter().zip(parts) {
-        let before = amount as u128 * sum / total;
-        sum += remaining as u128;
-        if part as u128 != amount as u128 * sum / total - before {
-            return Err("a part isn't by the formula");
+    // Each place with its fraction, and whether it got an odd kWh.
+    let mut odd = Vec::with_capacity(parts.len());
+    for (place, (&remaining, &part)) in amounts.iter().zip(parts).enumerate() {
+        let exact = amount as u128 * remaining as u128;
+        let times = part as u128 * total;
+        if times + total <= exact || exact + total <= times {
+            return Err("a part isn't within 1 kWh of the exact share");
         }
+        odd.push((exact % total, place, part as u128 > exact / total));
+    }
+    odd.sort_by_key(|&(fraction, place, _)| (std::cmp::Reverse(fraction), place));
+    if odd.windows(2).any(|pair| !pair[0].2 && pair[1].2) {
+        return Err("an odd kWh isn't at the largest fractions, equal ones by lowest place");
     }
     Ok(())
 }
@@ -101,6 +107,14 @@ pub enum List {
     Ones,
     /// One amount has it all.
     OneHasAll,
+    /// The same amount at each place, so that all fractions are equal.
+    Equal,
+    /// Amounts of a day at each day.
+    Daily,
+    /// Each amount about half of the one before, so that fractions crowd.
+    Halving,
+    /// Amounts that differ by 1 at most, so that fractions lie close together.
+    Near,
     /// A total up to the most.
     Even,
     /// A total of exactly the most.
@@ -116,12 +130,16 @@ pub enum List {
 }
 
 /// All kinds of lists.
-pub const LISTS: [List; 11] = [
+pub const LISTS: [List; 15] = [
     List::Small,
     List::Sparse,
     List::AllZero,
     List::Ones,
     List::OneHasAll,
+    List::Equal,
+    List::Daily,
+    List::Halving,
+    List::Near,
     List::Even,
     List::Most,
     List::PastMost,
@@ -133,12 +151,18 @@ pub const LISTS: [List; 11] = [
 /// A list of `count` remaining amounts.
 pub fn list(kind: List, count: usize, random: &mut Random) -> Vec<u64> {
     let even = MOST / count.max(1) as u64;
+    let some = random.to(even.saturating_sub(1));
+    let day: Vec<u64> = (0..24).map(|_| random.to(even)).collect();
     let mut amounts: Vec<u64> = (0..count)
-        .map(|_| match kind {
+        .map(|place| match kind {
             List::Small | List::Wraps => random.to(10),
             List::Sparse => random.of(&[0, 0, 0, 0, 0, 0, 999]),
             List::AllZero | List::OneHasAll => 0,
             List::Ones => 1,
+            List::Equal => some,
+            List::Daily => day[place % 24],
+            List::Halving => (MOST / 2).checked_shr(place as u32).unwrap_or(0),
+            List::Near => some + random.to(1),
             List::Even | List::Most | List::PastMost => random.to(even),
             List::Words => random.word(),
             List::Wide => random.of(&[0, 7, 1 << 32, 3 << 32]),

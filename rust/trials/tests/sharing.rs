@@ -124,13 +124,13 @@ fn empty_slices() {
     }
 }
 
-/// The paper's figure 1.
+/// Figure 1 as paper 02 has it.
 #[test]
 fn figure_1() {
     for share in [exported::share as Share, safe, plain] {
         let mut parts = [9; 4];
-        assert_eq!((share(4, &[3, 3, 3], &mut parts), parts), (0, [1, 1, 2, 9]));
-        assert_eq!((share(2, &[2, 2, 1], &mut parts), parts), (0, [0, 1, 1, 9]));
+        assert_eq!((share(4, &[3, 3, 3], &mut parts), parts), (0, [2, 1, 1, 9]));
+        assert_eq!((share(2, &[1, 2, 2], &mut parts), parts), (0, [0, 1, 1, 9]));
     }
 }
 
@@ -144,8 +144,32 @@ fn wrapped_total(amounts: &[u64]) -> u64 {
     amounts.iter().fold(0, |sum: u64, &remaining| sum.wrapping_add(remaining))
 }
 
+/// Shares with the odd kWh one each to the places that come last by a key of fraction, remaining amount and place.
+fn odd_kwh(
+    amount: u64,
+    amounts: &[u64],
+    parts: &mut [u64],
+    key: fn(u64, u64, usize) -> (u64, usize),
+) -> u64 {
+    let number = plain(amount, amounts, parts);
+    if number == 0 {
+        let whole = total(amounts);
+        let mut left = amount;
+        for (part, &remaining) in parts.iter_mut().zip(amounts) {
+            *part = amount * remaining / whole;
+            left -= *part;
+        }
+        let mut places: Vec<usize> = (0..amounts.len()).collect();
+        places.sort_by_key(|&place| key(amount * amounts[place] % whole, amounts[place], place));
+        for &place in places.iter().rev().take(left as usize) {
+            parts[place] += 1;
+        }
+    }
+    number
+}
+
 /// Versions with one fault each: the same inputs must find it.
-const WRONG: [(&str, Share); 10] = [
+const WRONG: [(&str, Share); 14] = [
     ("energy before parts", |amount, amounts, parts| match plain(amount, amounts, parts) {
         7 if amount == 0 => 9,
         number => number,
@@ -189,6 +213,39 @@ const WRONG: [(&str, Share); 10] = [
             for (part, &remaining) in parts.iter_mut().zip(amounts) {
                 *part = left.min(remaining);
                 left -= *part;
+            }
+        }
+        number
+    }),
+    ("by running sums", |amount, amounts, parts| {
+        let number = plain(amount, amounts, parts);
+        if number == 0 {
+            let (mut sum, mut given) = (0, 0);
+            for (part, &remaining) in parts.iter_mut().zip(amounts) {
+                sum += remaining;
+                let due = amount * sum / total(amounts);
+                *part = due - given;
+                given = due;
+            }
+        }
+        number
+    }),
+    ("equal fractions by highest place", |amount, amounts, parts| {
+        odd_kwh(amount, amounts, parts, |fraction, _, place| (fraction, place))
+    }),
+    ("the odd kWh to the largest amounts", |amount, amounts, parts| {
+        odd_kwh(amount, amounts, parts, |_, remaining, place| (remaining, usize::MAX - place))
+    }),
+    ("two odd kWh to one place", |amount, amounts, parts| {
+        let number = plain(amount, amounts, parts);
+        if number == 0 {
+            let whole = total(amounts);
+            let exact = |place: usize| amount * amounts[place] / whole;
+            let odd: Vec<usize> =
+                (0..amounts.len()).filter(|&place| parts[place] > exact(place)).collect();
+            if let [first, .., last] = odd[..] {
+                parts[first] += 1;
+                parts[last] -= 1;
             }
         }
         number

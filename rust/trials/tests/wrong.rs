@@ -138,7 +138,9 @@ const WRONG: [(&str, &str, &Manner, Engine); 20] = [
             let before = book.to_vec();
             then(If::Accepted, call, book, rows, |told, book, _| {
                 let at = held_at(told.number as usize - 1, 0);
-                EACH.map(|figure| book[at + figure] = before[at + figure]);
+                for figure in EACH {
+                    book[at + figure] = before[at + figure];
+                }
             })
         }
         _ => exported::make(call, book, rows),

@@ -10,7 +10,7 @@ const WORDS: &str = "Ask by: share AMOUNT REMAINING.. or limits DAYS KIND CAPACI
 
 /// The paper's figures that these calls show.
 const FIGURES: [(&str, &[&str]); 3] = [
-    ("Figure 1: sharing 4 over 3, 3, 3, then 2 over 2, 2, 1", &["share 4 3 3 3", "share 2 2 2 1"]),
+    ("Figure 1: sharing 4 over 3, 3, 3, then 2 over 1, 2, 2", &["share 4 3 3 3", "share 2 1 2 2"]),
     ("Figure 5: a generator, kind 2, of 100 kW, one day", &["limits 1 2 100 0 0"]),
     (
         "Figure 6: a solar generator, kind 1, of 100 kW, hours 5, 6, 19 and 20",

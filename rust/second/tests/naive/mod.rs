@@ -219,6 +219,21 @@ pub fn clear(orders: &[Order], ceiling: u64) -> (Vec<u64>, Vec<Row>) {
     (fills, rows)
 }
 
+/// The parts of d: each rounded down, then kWh by kWh to the largest fraction that has none yet, the first of equal ones.
+pub fn parts(d: u64, amounts: &[u64]) -> Vec<u64> {
+    let total: u128 = amounts.iter().map(|&amount| amount as u128).sum();
+    let exact = |amount: &u64| d as u128 * *amount as u128;
+    let mut parts: Vec<u64> = amounts.iter().map(|amount| (exact(amount) / total) as u64).collect();
+    let mut fractions: Vec<u128> = amounts.iter().map(|amount| exact(amount) % total).collect();
+    while parts.iter().sum::<u64>() < d {
+        let largest = *fractions.iter().max().unwrap();
+        let place = fractions.iter().position(|&fraction| fraction == largest).unwrap();
+        parts[place] += 1;
+        fractions[place] = 0;
+    }
+    parts
+}
+
 /// A side's fills, laid kWh by kWh.
 fn fill(
     orders: &[Order],
@@ -232,11 +247,11 @@ fn fill(
     let marginal: Vec<usize> =
         laid.iter().copied().filter(|&at| orders[at].price == margin).collect();
     let d = volume - filled.len();
-    // Of the margin's kWh those fill at which floor(d j / R) rises.
-    for j in 1..=marginal.len() {
-        if d * j / marginal.len() > d * (j - 1) / marginal.len() {
-            filled.push(marginal[j - 1]);
-        }
+    let mut places = marginal.clone();
+    places.dedup();
+    let amounts: Vec<u64> = places.iter().map(|&at| orders[at].quantity).collect();
+    for (at, part) in places.into_iter().zip(parts(d as u64, &amounts)) {
+        filled.extend(vec![at; part as usize]);
     }
     for &at in &filled {
         fills[at] += 1;

@@ -5,7 +5,7 @@ use second::book::Book;
 use second::calls::{Call, ROWS_LENT};
 use std::fmt::Write;
 use std::fs;
-use trials::books::{check_alone, crossing, each_call, listed, spread, sweep, waiting};
+use trials::books::{check_alone, crossing, each_call, listed, month, spread, sweep, waiting};
 use trials::timing::{times, Times};
 
 const DAYS: [u64; 3] = [1, 7, 31];
@@ -154,7 +154,8 @@ fn aims(sizes: &[Size], matched: &[Matched], grown: &Grown, text: &mut String) {
     let end = if listing <= 1.0 { "met" } else { "missed" };
     writeln!(text, "- A listing of 31 days open at most 1 µs more: {end}, {listing:.2} µs.")
         .unwrap();
-    let large = || matched.iter().filter(|call| call.whole.rows > 200);
+    let large =
+        || matched.iter().filter(|call| call.whole.rows > 200 && !call.name.starts_with("take"));
     let ratios: [(&str, fn(&Matched) -> f64); 2] = [
         ("with the check", |call| beside_second(&call.whole)),
         ("without it", |call| call.less_check()[0] / call.less_check()[1]),
@@ -172,6 +173,15 @@ fn aims(sizes: &[Size], matched: &[Matched], grown: &Grown, text: &mut String) {
         let name = "255 met or 256 cleared at most 1.5 × the second engine";
         writeln!(text, "- {name}, {manner}: {end}.").unwrap();
     }
+    let shared = |call: &&Matched| {
+        call.name.starts_with("take") || call.name == "clear of 256 in one period at one price"
+    };
+    let ratios = matched.iter().filter(shared).map(|call| beside_second(&call.whole));
+    let most = ratios.fold(0.0, f64::max);
+    let end = if most <= 1.0 { "met" } else { "missed" };
+    let name =
+        "744 taken or 256 cleared at one price, with odd kWh, at most 1.0 × the second engine";
+    writeln!(text, "- {name}: {end}, at most {most:.2}.").unwrap();
     writeln!(text, "\nIn brackets days, units and orders.").unwrap();
 }
 
@@ -272,9 +282,22 @@ fn calls(sizes: &[Size], text: &mut String) {
     }
 }
 
-/// Orders that meet many counterparts, and clears of many orders.
+/// Amounts of a month's listing by period, with odd kWh in each take.
+const MONTHS: [(&str, fn(u64) -> u64); 3] = [
+    ("equal amounts", |_| 1_003),
+    ("a day's amounts", |period| 400 + 97 * (period % 24) * (23 - period % 24) / 3),
+    ("other amounts each", |period| 500 + period * 7_919 % 1_009),
+];
+
+/// Takes of a month, orders that meet many counterparts, and clears of many orders.
 fn matched() -> Vec<Matched> {
     let mut cases = Vec::new();
+    for units in [16, 64] {
+        for (manner, amount) in MONTHS {
+            let (book, call) = month(units, amount);
+            cases.push((format!("take of 744, {units} units, {manner}"), book, call));
+        }
+    }
     for sells in [16, 64, 255] {
         cases.push((format!("order that meets {sells}"), waiting(sells), sweep(sells)));
     }
@@ -314,7 +337,7 @@ fn matching(matched: &[Matched], text: &mut String) {
         "second less check",
         "ratio",
     ];
-    let title = "One day and 64 units, in microseconds; less check: without the check of the book.";
+    let title = "Calls that move rows, in microseconds; less check: without the check of the book.";
     head(title, &columns, text);
     for call in matched {
         let Times { engine, second, rows, .. } = call.whole;
