@@ -25,7 +25,8 @@ extern "C" {
 #define CENDUXARI_ROWS_LEN 4464
 #define CENDUXARI_POINTS_LEN 48
 
-/* Shares an amount over the remaining amounts, into as many parts; returns 0 or the refusal. */
+/* Shares an amount over the remaining amounts, into as many parts: each rounded down, the kWh left over one each to the largest
+   fractions, equal ones by lowest place. Returns 0 or the refusal. */
 uint64_t cenduxari_share(uint64_t amount, const uint64_t *amounts, size_t amounts_len, uint64_t *parts, size_t parts_len);
 
 /* The hour, term and volume limit of a unit in a period; three zeros on a refusal, which it returns, or 0. */
