@@ -96,14 +96,20 @@ module _ (d : ℕ) (rs : List ℕ) (pos : 0 < total rs) where
   pub left-over-length : leftOver d rs ≤ length rs
   left-over-length = omega (arith, left-over-few, reach-all (fraction d rs) (length rs), reach-mono (fraction d rs) (length rs) 0 1 (omega arith))
 
+  -- "the kWh left over go one each": to as many places as there are kWh left over
+  pub one-each : count (length rs) (λ j. ltb (ahead d rs j) (leftOver d rs)) ≡ leftOver d rs
+  unfolding ahead
+  one-each =
+      let c = has-cut (fraction d rs) (length rs) (leftOver d rs) (total rs) left-over-length (λ i h. fraction-less i) in
+      firsts (fraction d rs) (length rs) (leftOver d rs) (c .at) (c .cut)
+
   -- "parts still sum to d", for every d
   pub parts-sum : total (parts d rs) ≡ d
-  unfolding parts part ahead
+  unfolding parts part
   parts-sum =
-      let c = has-cut (fraction d rs) (length rs) (leftOver d rs) (total rs) left-over-length (λ i h. fraction-less i) in
       total-table (length rs) (part d rs)
       ∙ sum-add (length rs) (rounded d rs) (λ j. one (ltb (ahead d rs j) (leftOver d rs)))
-      ∙ rw (firsts (fraction d rs) (length rs) (leftOver d rs) (c .at) (c .cut)) (omega (arith, rounded-sum))
+      ∙ rw one-each (omega (arith, rounded-sum))
 
   -- a part is the rounded one, or, where rounding took something off, one more
   part-cases : (j : ℕ) (b : Bool) → ltb (ahead d rs j) (leftOver d rs) ≡ b → (part d rs j ≡ rounded d rs j + one b) × (b ≡ true → 0 < fraction d rs j)
@@ -116,13 +122,6 @@ module _ (d : ℕ) (rs : List ℕ) (pos : 0 < total rs) where
           let z = zero-place (fraction d rs) (length rs) (leftOver d rs) j left-over-few (omega arith) in
           let l = ltb-true (ahead d rs j) (leftOver d rs) (e ∙ t) in
           absurd (omega arith)
-
-  -- "the kWh left over go one each": to as many places as there are kWh left over
-  pub one-each : count (length rs) (λ j. ltb (ahead d rs j) (leftOver d rs)) ≡ leftOver d rs
-  unfolding ahead
-  one-each =
-      let c = has-cut (fraction d rs) (length rs) (leftOver d rs) (total rs) left-over-length (λ i h. fraction-less i) in
-      firsts (fraction d rs) (length rs) (leftOver d rs) (c .at) (c .cut)
 
   -- "to the largest fractions, equal fractions by lowest place": where place j gets one, each place before it does
   pub largest-first : (i j : ℕ) → before (fraction d rs) i j ≡ true → part d rs j ≡ rounded d rs j + 1 → part d rs i ≡ rounded d rs i + 1
