@@ -16,4 +16,5 @@ pub mod Refusals
 pub mod Calls
 pub mod Layout
 pub mod Contract
+pub mod InPlace
 pub mod inner

@@ -1,11 +1,11 @@
 -- "Take: a unit, a number, a quantity. A bilateral offer is taken by its partner, for exactly its total. A listing is
 -- taken by a unit of the other side, for 1 up to its remainder, shared over its remaining amounts."
-use Prim.Native.Nat.{ℕ, suc, _-_}
+use Prim.Native.Nat.{ℕ, suc}
 use mathlib.Core.Bool.{cond, not, _&&_}
 use mathlib.Core.List.{List, [], _∷_}
 use lib.Dec.{eqb}
 use Rattle.measures.specs.Lists.{keep}
-use Rattle.measures.specs.Sharing.{total, parts}
+use Rattle.measures.specs.Sharing.{total, parts, lessEach}
 use Rattle.limits.specs.Units.{generator}
 use Rattle.matching.specs.Orders.{Row}
 use Rattle.book.specs.Book.{OpenOffer, Book, unitOf, offerOf, withOffers}
@@ -59,12 +59,6 @@ takeRows b o u ps =
     cond (generator (unitOf b (o .unit) .kind))
     (takeRowsFrom 0 (wayOf o) (o .unit) u (o .price) ps)
     (takeRowsFrom 0 (wayOf o) u (o .unit) (o .price) ps)
-
--- each amount less its part
-unfoldable pub lessEach : List ℕ → List ℕ → List ℕ
-lessEach [] ps = []
-lessEach (a ∷ as′) [] = a ∷ as′
-lessEach (a ∷ as′) (p ∷ ps) = (a - p) ∷ lessEach as′ ps
 
 abbrev pub offerLess : OpenOffer → List ℕ → OpenOffer
 offerLess o ps =

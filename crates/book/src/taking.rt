@@ -40,6 +40,8 @@ ghost use Rattle.book.specs.Contract.{soundIn};
 ghost use Rattle.book.specs.inner.RowsIn.{
   takes,
   partyChecks,
+  Nothing,
+  partsAt,
   TakeFit,
   TakeChecked,
   RowsPut,
@@ -115,32 +117,25 @@ fn take_party(book: &[u64], unit: u64, number: u64, quantity: Energy, lent: usiz
     0
 }
 
-// The amounts of the offer at place j, by period.
-fn gather(book: &[u64], j: usize, amounts: &mut [u64])
-    requires { ⌜ (Readable (now book)) × (j < 8) × (length (now amounts) ≡ 744) ⌝ }
-    ensures { λ _. ⌜ now (amounts .exit) ≡ table (periods (word (now (book .entry)) DAYS)) (amountAt (now (book .entry)) j)
-        ++ drop (periods (word (now (book .entry)) DAYS)) (now (amounts .entry)) ⌝ }
+// The parts of a quantity over the amounts of the offer at place j, where they stand.
+fn share_offer(book: &[u64], j: usize, quantity: Energy, parts: &mut [u64])
+    requires { ⌜ (Readable (now book)) × (j < 8) × (1 ≤ quantity .0) × (quantity .0 ≤ total (table (periods (word (now book) DAYS)) (amountAt (now book) j)))
+        × (total (table (periods (word (now book) DAYS)) (amountAt (now book) j)) ≤ mostEnergy) × (744 ≤ length (now parts)) ⌝ }
+    ensures { λ _. ⌜ now (parts .exit) ≡ partsAt (now (book .entry)) j (quantity .0) ++ drop (periods (word (now (book .entry)) DAYS)) (now (parts .entry)) ⌝ }
 {
-    let top = HOURS * (book[DAYS] as usize);
-    let mut p: usize = 0;
-    while p < top {
-        amounts[p] = book[AMOUNTS + AMOUNT_WORDS * j + p];
-        p += 1;
-    }
+    let from = AMOUNTS + AMOUNT_WORDS * j;
+    let to = from + HOURS * (book[DAYS] as usize);
+    measures::share(quantity, &book[from..to], parts);
 }
 
-// The fit of a take from the offer at place j; its parts go to the lent memory.
-fn take_fit(book: &[u64], unit: u64, j: usize, quantity: Energy, parts: &mut [u64]) -> u64
+// The fit of a take from the offer at place j; its parts go to the lent memory, which holds nothing.
+fn take_fit(book: &[u64], unit: u64, j: usize, quantity: Energy, parts: &mut [u64; 744]) -> u64
     requires { ⌜ (soundIn (now book) ≡ true) × (j < word (now book) OFFERS) × (1 ≤ unit) × (unit ≤ word (now book) UNITS) × (1 ≤ quantity .0)
-        × (quantity .0 ≤ total (table (periods (word (now book) DAYS)) (amountAt (now book) j))) × (length (now parts) ≡ 744) ⌝ }
+        × (quantity .0 ≤ total (table (periods (word (now book) DAYS)) (amountAt (now book) j))) × (Nothing (now parts)) ⌝ }
     ensures { λ r. ⌜ TakeFit (now (book .entry)) unit j (quantity .0) r (now (parts .entry)) (now (parts .exit)) ⌝ }
 {
-    let top = HOURS * (book[DAYS] as usize);
-    let mut amounts = [0u64; 744];
-    gather(book, j, &mut amounts);
-    measures::share(quantity, &amounts[0..top], parts);
-    let mut raising = [0u64; 744];
-    measures::share(quantity, &amounts[0..top], &mut raising);
+    share_offer(book, j, quantity, parts);
+    let mut raising = *parts;
     let mut lowering = [0u64; 744];
     misfit(book, unit, &mut raising, &mut lowering)
 }
@@ -152,9 +147,9 @@ pub(crate) fn take_checks(
     number: u64,
     quantity: Energy,
     lent: usize,
-    parts: &mut [u64],
+    parts: &mut [u64; 744],
 ) -> u64
-    requires { ⌜ (soundIn (now book) ≡ true) × (length (now parts) ≡ 744) ⌝ }
+    requires { ⌜ (soundIn (now book) ≡ true) × (Nothing (now parts)) ⌝ }
     ensures { λ r. ⌜ TakeChecked (now (book .entry)) unit number (quantity .0) lent r (now (parts .entry)) (now (parts .exit)) ⌝ }
 {
     let refusal = take_party(book, unit, number, quantity, lent);
@@ -195,28 +190,23 @@ fn write_rows(parts: &[u64], top: usize, rows: &mut [u64], deal: Deal) -> usize
     k
 }
 
-// The parts are taken off the amounts of the offer at place j.
-fn take_off(book: &mut [u64], j: usize, parts: &[u64])
-    requires { ⌜ (Readable (now book)) × (j < 8) × (744 ≤ length (now parts)) ⌝ }
-    ensures { λ _. ⌜ AmountsLess (now (book .entry)) (now (book .exit)) j (now (parts .entry)) (24 * word (now (book .entry)) DAYS) ⌝ }
+// Each amount of the offer at place j is left less its part, where it stands.
+fn lessen_amounts(book: &mut [u64], j: usize, parts: &[u64])
+    requires { ⌜ (Readable (now book)) × (j < 8) × (744 ≤ length (now parts)) × (PartsThere (now book) j (now parts)) ⌝ }
+    ensures { λ _. ⌜ AmountsLess (now (book .entry)) (now (book .exit)) j (now (parts .entry)) ⌝ }
 {
-    let top = HOURS * (book[DAYS] as usize);
-    let mut p: usize = 0;
-    while p < top {
-        let at = AMOUNTS + AMOUNT_WORDS * j + p;
-        let left = Energy(book[at]).minus(Energy(parts[p]));
-        book[at] = left.0;
-        p += 1;
-    }
+    let from = AMOUNTS + AMOUNT_WORDS * j;
+    let to = from + HOURS * (book[DAYS] as usize);
+    measures::take_off(&mut book[from..to], parts);
 }
 
 // The parts are taken off the offer at place j, which stays.
 fn lessen_offer(book: &mut [u64], j: usize, parts: &[u64])
-    requires { ⌜ (Readable (now book)) × (j < word (now book) OFFERS) × (744 ≤ length (now parts)) ⌝ }
+    requires { ⌜ (Readable (now book)) × (j < word (now book) OFFERS) × (744 ≤ length (now parts)) × (PartsThere (now book) j (now parts)) ⌝ }
     ensures { λ _. ⌜ ((ps : List ℕ) → ((p : ℕ) → p < 24 * word (now (book .entry)) DAYS → getD (now (parts .entry)) p 0 ≡ getD ps p 0)
         → OfferLessened (now (book .entry)) (now (book .exit)) j ps) ⌝ }
 {
-    take_off(book, j, parts);
+    lessen_amounts(book, j, parts);
     book[OFFER_TABLE + OFFER_WORDS * j + TAKEN] = 1;
 }
 
@@ -298,7 +288,7 @@ pub(crate) fn take_effect(
     unit: u64,
     number: u64,
     quantity: Energy,
-    parts: &[u64],
+    parts: &[u64; 744],
     rows: &mut [u64],
 ) -> usize
     requires { ⌜ (soundIn (now book) ≡ true) × (0 ≡ firstOf (takeChecks (decode (now book)) unit number (quantity .0) (length (now rows))))

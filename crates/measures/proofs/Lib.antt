@@ -4,3 +4,4 @@ pub mod LargestLaws
 pub mod SharingLaws
 pub mod SelectLaws
 pub mod FiguresHold
+pub mod LessLaws

@@ -1,6 +1,6 @@
 -- Laws of sharing. For callers: `parts-length`, `parts-sum`, `no-part-exceeds`, `parts-of-all`; `fair` has the promises of paper 02, and
 -- `one-each` and `largest-first` say in its words who gets the kWh left over.
-use Prim.Native.Nat.{ℕ, suc, _+_, _-_, _*_, _^_, _≤_, _<_}
+use Prim.Native.Nat.{ℕ, zero, suc, _+_, _-_, _*_, _^_, _≤_, _<_}
 use mathlib.Core.Path.{_≡_, refl, sym, ap, ap₂, _∙_}
 use mathlib.Core.Bool.{Bool, true, false, cond}
 use mathlib.Core.List.{List, [], _∷_, _++_}
@@ -197,6 +197,13 @@ within-by (p ∷ ps) (r ∷ rs) e h = (h 0 (omega arith), within-by ps rs (omega
 pub no-part-exceeds : (d : ℕ) (rs : List ℕ) → 0 < d → d ≤ total rs → Within (parts d rs) rs
 no-part-exceeds d rs some le =
     within-by (parts d rs) rs (parts-length d rs) (λ j h. rw (part-at d rs j h) (part-within d rs (omega arith) j le))
+
+pub within-at : (ps rs : List ℕ) (i : ℕ) → Within ps rs → getD ps i 0 ≤ getD rs i 0
+within-at [] [] i w = omega arith
+within-at [] (r ∷ rs) i w = absurd w
+within-at (p ∷ ps) [] i w = absurd w
+within-at (p ∷ ps) (r ∷ rs) zero w = w .0
+within-at (p ∷ ps) (r ∷ rs) (suc i) w = within-at ps rs i (w .1)
 
 -- parts within the amounts sum to no more than they do
 pub within-total : (ps rs : List ℕ) → Within ps rs → total ps ≤ total rs

@@ -50,6 +50,12 @@ pub record Fair (d : ℕ) (rs : List ℕ) : Type 0 where
   pub notBelow : (j : ℕ) → j < length rs → d * getD rs j 0 < total rs * getD (parts d rs) j 0 + total rs
   pub notAbove : (j : ℕ) → j < length rs → total rs * getD (parts d rs) j 0 < d * getD rs j 0 + total rs
 
+-- "each is left less its part" (paper 02, job 2)
+unfoldable pub lessEach : List ℕ → List ℕ → List ℕ
+lessEach [] ps = []
+lessEach (r ∷ rs) [] = r ∷ rs
+lessEach (r ∷ rs) (p ∷ ps) = (r - p) ∷ lessEach rs ps
+
 -- an answer, and what the lent memory then holds
 pub record Outcome : Type 0 where
   pub answer : ℕ

@@ -2,10 +2,11 @@
 mod sharing;
 
 ghost use mathlib.Core.Path.{_≡_};
-ghost use Prim.Native.Nat.{_+_, _*_, _-_, _/_, min, max};
+ghost use Prim.Native.Nat.{ℕ, _+_, _*_, _-_, _/_, _≤_, _<_, min, max};
 ghost use lib.Dec.{leb, ltb, eqb};
+ghost use lib.ListN.{length, getD};
 ghost use Rattle.measures.specs.Ranges.{mostEnergy, mostPrice, mostNumber};
-ghost use Rattle.measures.specs.Sharing.{total, sharing, Is};
+ghost use Rattle.measures.specs.Sharing.{total, lessEach, sharing, Is};
 
 // Energy in whole kWh.
 pub struct Energy(pub u64);
@@ -182,6 +183,19 @@ pub fn share(amount: Energy, amounts: &[u64], parts: &mut [u64]) -> u64
     }
     crate::sharing::write_parts(d, whole, amounts, parts);
     0
+}
+
+// Leaves each amount less its part, where it stands.
+pub fn take_off(amounts: &mut [u64], parts: &[u64])
+    requires { ⌜ (length (now amounts) ≤ length (now parts)) × ((j : ℕ) → j < length (now amounts) → getD (now parts) j 0 ≤ getD (now amounts) j 0) ⌝ }
+    ensures { λ _. ⌜ now (amounts .exit) ≡ lessEach (now (amounts .entry)) (now (parts .entry)) ⌝ }
+{
+    let n = amounts.len();
+    let mut i = 0;
+    while i < n {
+        amounts[i] -= parts[i];
+        i += 1;
+    }
 }
 
 // `share` on plain numbers, for Rust and C.

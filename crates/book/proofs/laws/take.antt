@@ -6,7 +6,8 @@ pub mod EnterLaws
 pub mod WholeLaws
 pub mod LessenedLaws
 pub mod WritingLaws
-pub mod GatherLaws
+pub mod InPlaceLaws
 pub mod FoundLaws
 pub mod PartyLaws
 pub mod CheckedLaws
+pub mod AfterLaws

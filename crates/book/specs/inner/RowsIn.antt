@@ -135,6 +135,10 @@ fitChecks b u d = hourMisfit b u d ∷ termMisfit b u d ∷ volumeMisfit b u d �
 unfoldable pub partsAt : List ℕ → ℕ → ℕ → List ℕ
 partsAt m j q = parts q (table (periods (word m DAYS)) (amountAt m j))
 
+-- the lent memory holds nothing
+abbrev pub Nothing : List ℕ → Type 0
+Nothing l = (p : ℕ) → getD l p 0 ≡ 0
+
 -- r is what the fit of a take came to, and its parts stand in the lent memory
 pub record TakeFit (m : List ℕ) (u j q r : ℕ) (l x : List ℕ) : Type 0 where
   pub answer : r ≡ firstOf (fitChecks (decode m) u (raisingAmounts (partsAt m j q)))
@@ -150,11 +154,11 @@ pub record RowsPut (m x : List ℕ) (k : ℕ) (rs : List Row) : Type 0 where
   pub count : k ≡ length rs
   pub rows : x ≡ written m rs
 
--- x is m with the first n parts taken off the amounts of the offer at place j
-pub record AmountsLess (m x : List ℕ) (j : ℕ) (ps : List ℕ) (n : ℕ) : Type 0 where
+-- x is m with each amount of the offer at place j less its part, where it stands; no other word of the memory differs
+pub record AmountsLess (m x : List ℕ) (j : ℕ) (ps : List ℕ) : Type 0 where
   pub long : length x ≡ length m
-  pub own : (p : ℕ) → p < n → word x (amountPlace j p) ≡ word m (amountPlace j p) - getD ps p 0
-  pub other : (i : ℕ) → ((p : ℕ) → p < n → i ≡ amountPlace j p → ⊥) → word x i ≡ word m i
+  pub own : (p : ℕ) → p < 24 * word m DAYS → word x (amountPlace j p) ≡ word m (amountPlace j p) - getD ps p 0
+  pub other : (i : ℕ) → ((p : ℕ) → p < 24 * word m DAYS → i ≡ amountPlace j p → ⊥) → word x i ≡ word m i
 
 -- each part is there to be taken
 abbrev pub PartsThere : List ℕ → ℕ → List ℕ → Type 0
@@ -183,7 +187,6 @@ pub record WholeTaken (m x : List ℕ) (u n j : ℕ) (l lent out : List ℕ) (k 
 
 -- the lent parts are those of the take of a quantity of number n, with something behind them
 pub record PartsLent (m : List ℕ) (n q : ℕ) (l : List ℕ) : Type 0 where
-  pub room : 744 ≤ length l
   pub behind : List ℕ
   pub parts : l ≡ takenParts (decode m) n q ++ drop (periods (word m DAYS)) behind
 

@@ -74,6 +74,16 @@ pub outcome-sound : (m : List ℕ) (c : Call) → soundIn m ≡ true → outcome
 unfolding outcomeOn
 outcome-sound m c e = cond-true (laidOut m) (outcome (decode m) c) _ (sound-laid m e) refl
 
+-- a call that is not refused was made on a book
+pub outcome-accepted : (m : List ℕ) (c : Call) → outcomeOn m c .refusal ≡ 0 → outcomeOn m c ≡ outcome (decode m) c
+unfolding outcomeOn
+outcome-accepted m c = go (laidOut m)
+  where
+    go : (t : Bool) → cond t (outcome (decode m) c) (record { refusal = 1; number = 0; rows = []; book = decode m }) .refusal ≡ 0
+        → cond t (outcome (decode m) c) (record { refusal = 1; number = 0; rows = []; book = decode m }) ≡ outcome (decode m) c
+    go true z = refl
+    go false z = absurd (omega arith)
+
 -- the contract of a refused call, from what its outcome is
 pub made-refused : (m rows : List ℕ) (c : Call) (r : ℕ) → outcomeOn m c ≡ record { refusal = r; number = 0; rows = []; book = decode m } → (r ≡ 0 → ⊥)
     → Made m rows c (Refused r) m rows

@@ -21,7 +21,7 @@ use Rattle.book.specs.Offer.{raisingAmounts}
 use Rattle.book.specs.Take.{takenParts}
 use Rattle.book.specs.Layout.{DAYS, UNITS, OFFERS, offerPlace, UNIT, PARTNER, word, amountAt, decode}
 use Rattle.book.specs.Contract.{soundIn}
-use Rattle.book.specs.inner.RowsIn.{Found, takes, partyChecks, fitChecks, partsAt, TakeFit, TakeChecked}
+use Rattle.book.specs.inner.RowsIn.{Found, takes, partyChecks, fitChecks, partsAt, Nothing, TakeFit, TakeChecked}
 use Rattle.book.proofs.laws.memory.RangeFacts.{units-held}
 use Rattle.book.proofs.laws.answer.MadeLaws.{sound-readable}
 use Rattle.book.proofs.laws.take.FoundLaws.{found-offer, found-none}
@@ -88,9 +88,9 @@ module _ (m : List ℕ) (u n q lent : ℕ) (s : soundIn m ≡ true) where
         ap (λ (o : OpenOffer). canTake (decode m) o u q) (sym (found-offer m n j f found-open .0))
         ∙ not-false (canTake (decode m) (offerOf (decode m) n) u q) (passed .1 .1 .1 .1 .0)
 
-    pub fit-asks : (l : List ℕ) → length l ≡ 744
+    pub fit-asks : (l : List ℕ) → Nothing l
         → (soundIn m ≡ true) × (j < word m OFFERS) × (1 ≤ u) × (u ≤ word m UNITS) × (1 ≤ q) × (q ≤ total (table (periods (word m DAYS)) (amountAt m j)))
-        × (length l ≡ 744)
+        × (Nothing l)
     fit-asks l h = (s, f .there found-open, known-unit .0, known-unit .1, energy-in .0, takes-most m j u q can-take, h)
 
     parts-are : partsAt m j q ≡ takenParts (decode m) n q

@@ -1,8 +1,8 @@
 -- From a take by place to the take of a number: what its effect promises.
-use Prim.Native.Nat.{ℕ, zero, suc, _+_, _*_, _≤_, _<_, min}
+use Prim.Native.Nat.{ℕ, _+_, _*_, _≤_, _<_, min}
 use mathlib.Core.Path.{_≡_, refl, sym, ap, _∙_}
 use mathlib.Core.Bool.{true, not}
-use mathlib.Core.List.{List, [], _∷_, _++_}
+use mathlib.Core.List.{List, _++_}
 use native.Mathlib.Omega.{arith}
 use native.Mathlib.Decide.{decLt}
 use borrow.Author.Tests.{eqb-true, lt-ltb, ltb-false}
@@ -11,15 +11,16 @@ use lib.ListN.{length, getD, set, take, drop, List·getD-append}
 use lib.Seq.{take-at}
 use Rattle.measures.specs.Ranges.{mostEnergy}
 use Rattle.measures.specs.Lists.{keep, table}
-use Rattle.measures.specs.Sharing.{total, parts}
-use Rattle.measures.proofs.SharingLaws.{parts-length, parts-sum, Within, no-part-exceeds}
+use Rattle.measures.specs.Sharing.{total, parts, lessEach}
+use Rattle.measures.proofs.SharingLaws.{parts-length, no-part-exceeds, within-at}
+use Rattle.measures.proofs.LessLaws.{less-parts}
 use Rattle.measures.proofs.ListLaws.{table-length, table-at, not-both}
 use Rattle.limits.specs.Units.{periods}
 use Rattle.matching.specs.Orders.{Row}
 use Rattle.matching.specs.Memory.{written}
 use Rattle.book.specs.Book.{OpenOffer, noOffer, offerOf, offerOpen, withOffers}
 use Rattle.book.specs.Trades.{rowsBooked}
-use Rattle.book.specs.Take.{takenParts, takeChecks, takeRefusal, takeRows, lessEach, offerLess, offersLess}
+use Rattle.book.specs.Take.{takenParts, takeChecks, takeRefusal, takeRows, offerLess, offersLess}
 use Rattle.book.specs.Refusals.{firstOf}
 use Rattle.book.specs.Layout.{DAYS, UNITS, OFFERS, word, amountAt, offerAt, decode}
 use Rattle.book.specs.Contract.{soundIn}
@@ -35,34 +36,11 @@ use Rattle.book.proofs.laws.take.FoundLaws.{offer-at, unmet-before, met
 use Rattle.book.proofs.laws.take.TakenLaws.{less-stays, less-goes}
 use Rattle.book.proofs.laws.take.TakingLaws.{TakePassed, take-passed}
 
-within-at : (ps rs : List ℕ) → Within ps rs → (i : ℕ) → i < length rs → getD ps i 0 ≤ getD rs i 0
-within-at [] rs w i h = omega arith
-within-at (p ∷ ps) [] w i h = absurd (omega arith)
-within-at (p ∷ ps) (r ∷ rs) w zero h = w .0
-within-at (p ∷ ps) (r ∷ rs) w (suc i) h = within-at ps rs (w .1) i (omega arith)
-
--- what is left of amounts is what was not taken
-within-left : (rs ps : List ℕ) → Within ps rs → total (lessEach rs ps) + total ps ≡ total rs
-unfolding lessEach
-within-left [] [] w = refl
-within-left [] (p ∷ ps) w = absurd w
-within-left (r ∷ rs) [] w = absurd w
-within-left (r ∷ rs) (p ∷ ps) w =
-    let a = within-left rs ps (w .1) in
-    let b = w .0 in
-    omega arith
-
 pub left-some : (rs : List ℕ) (q : ℕ) → 1 ≤ q → q < total rs → total (lessEach rs (parts q rs)) ≡ 0 → ⊥
-left-some rs q some less z =
-    let a = within-left rs (parts q rs) (no-part-exceeds q rs (omega arith) (omega arith)) in
-    let b = parts-sum q rs (omega arith) in
-    omega arith
+left-some rs q some less z = omega (arith, less-parts q rs (omega arith) (omega arith))
 
-pub left-none : (rs : List ℕ) (q : ℕ) → 1 ≤ q → q ≡ total rs → total (lessEach rs (parts q rs)) ≡ 0
-left-none rs q some all =
-    let a = within-left rs (parts q rs) (no-part-exceeds q rs (omega arith) (omega arith)) in
-    let b = parts-sum q rs (omega arith) in
-    omega arith
+left-none : (rs : List ℕ) (q : ℕ) → 1 ≤ q → q ≡ total rs → total (lessEach rs (parts q rs)) ≡ 0
+left-none rs q some all = omega (arith, less-parts q rs (omega arith) (omega arith))
 
 module _ (m : List ℕ) (n q j : ℕ) (f : Found m n j) (h : j < 8) where
   amounts-are : takenParts (decode m) n q ≡ parts q (table (periods (word m DAYS)) (amountAt m j))
@@ -85,8 +63,7 @@ module _ (m : List ℕ) (n q j : ℕ) (f : Found m n j) (h : j < 8) where
         let b : getD (takenParts (decode m) n q) p 0 ≡ getD (parts q (table (periods (word m DAYS)) (amountAt m j))) p 0 = ap (λ (t : List ℕ). getD t p 0)
         amounts-are in
         let c = within-at (parts q (table (periods (word m DAYS)) (amountAt m j))) (table (periods (word m DAYS)) (amountAt m j))
-        (no-part-exceeds q (table (periods (word m DAYS)) (amountAt m j)) (omega arith) most) p
-        (omega (arith, table-length (periods (word m DAYS)) (amountAt m j))) in
+        p (no-part-exceeds q (table (periods (word m DAYS)) (amountAt m j)) (omega arith) most) in
         let d = table-at (periods (word m DAYS)) (amountAt m j) p 0 k in
         omega arith
 
@@ -195,24 +172,24 @@ module _ (m : List ℕ) (u n q lent : ℕ) (s : soundIn m ≡ true) (e : 0 ≡ f
       < total (table (periods (word m DAYS)) (amountAt m j))
   take-less w h l = omega (arith, take-all w h, l)
 
-  pub part-asks : (l : List ℕ) → PartsLent m n q l → (soundIn m ≡ true) × (j < word m OFFERS) × (1 ≤ u) × (u ≤ word m UNITS) × (744 ≤ length l) × (4464 ≤ lent)
+  pub part-asks : (l : List ℕ) → 744 ≤ length l → PartsLent m n q l → (soundIn m ≡ true) × (j < word m OFFERS) × (1 ≤ u) × (u ≤ word m UNITS) × (744 ≤ length l) × (4464 ≤ lent)
       × (PartsThere m j l)
-  part-asks l p =
+  part-asks l room p =
       let t = passed .taker in
       let c = units-held m in
-      (s, f .there there, omega arith, omega arith, p .room, lent-enough, parts-there m n q j f there (p .behind) l (p .parts) take-some take-most)
+      (s, f .there there, omega arith, omega arith, room, lent-enough, parts-there m n q j f there (p .behind) l (p .parts) take-some take-most)
 
-  pub all-asks : (l : List ℕ) → PartsLent m n q l
+  pub all-asks : (l : List ℕ) → 744 ≤ length l → PartsLent m n q l
       → (soundIn m ≡ true) × (j < word m OFFERS) × (1 ≤ u) × (u ≤ word m UNITS) × (744 ≤ length l) × (4464 ≤ lent) × (PartsThere m j l)
       × (offerOpen (decode m) n ≡ true)
-  all-asks l p =
+  all-asks l room p =
       let t = passed .taker in
       let c = units-held m in (
         s,
         f .there there,
         omega arith,
         omega arith,
-        p .room,
+        room,
         lent-enough,
         parts-there m n q j f there (p .behind) l (p .parts) take-some take-most,
         found-offer m n j f there .1,

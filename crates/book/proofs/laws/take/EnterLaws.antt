@@ -45,7 +45,7 @@ use Rattle.book.proofs.laws.memory.WordLaws.{aside-by}
 use Rattle.book.proofs.laws.rows.SmallLaws.{noRow, row-written, rows-written, sound-small}
 use Rattle.book.proofs.laws.take.PartyLaws.{offer-sound}
 use Rattle.book.proofs.laws.check.ShareLaws.{getD-past}
-use Rattle.book.proofs.laws.take.GatherLaws.{at-most-total}
+use Rattle.book.proofs.laws.take.InPlaceLaws.{at-most-total}
 
 -- the rows from period p on name the two units, periods of the term and the parts
 module _ (m : List ℕ) (w s b pr : ℕ) (hs : In 1 (word m UNITS) s) (hb : In 1 (word m UNITS) b) where

@@ -1,16 +1,18 @@
 -- An offer with parts taken off, that stays: the book in memory.
-use Prim.Native.Nat.{ℕ, zero, suc, _+_, _-_, _*_, _≤_, _<_}
+use Prim.Native.Nat.{ℕ, _+_, _-_, _*_, _≤_, _<_}
 use mathlib.Core.Path.{_≡_, refl, sym, ap, _∙_}
-use mathlib.Core.List.{List, [], _∷_}
+use mathlib.Core.List.{List}
 use native.Mathlib.Omega.{arith}
 use native.Mathlib.Decide.{decLt}
 use lib.ListN.{length, getD, set, length-set}
 use lib.Seq.{getD-set-same, getD-set-other}
 use Rattle.measures.specs.Lists.{table}
+use Rattle.measures.specs.Sharing.{lessEach}
+use Rattle.measures.proofs.LessLaws.{less-length, less-at}
 use Rattle.measures.proofs.ListLaws.{table-length, table-at, table-is, table-ext, table-set}
 use Rattle.limits.specs.Units.{periods}
 use Rattle.book.specs.Book.{noOffer}
-use Rattle.book.specs.Take.{lessEach, offerLess}
+use Rattle.book.specs.Take.{offerLess}
 use Rattle.book.specs.Layout.{
   DAYS,
   FLOOR,
@@ -48,20 +50,7 @@ use Rattle.book.specs.inner.RowsIn.{AmountsLess, OfferLessened}
 use Rattle.book.proofs.laws.memory.WordLaws.{book-same}
 use Rattle.book.proofs.laws.rows.FigureLaws.{figures-same, unit-same, offer-same, orders-part-same}
 
-each-length : (l ps : List ℕ) → length (lessEach l ps) ≡ length l
-unfolding lessEach
-each-length [] ps = refl
-each-length (a ∷ l) [] = refl
-each-length (a ∷ l) (p ∷ ps) = ap suc (each-length l ps)
-
-each-at : (l ps : List ℕ) (i : ℕ) → getD (lessEach l ps) i 0 ≡ getD l i 0 - getD ps i 0
-unfolding lessEach
-each-at [] ps i = omega arith
-each-at (a ∷ l) [] i = omega arith
-each-at (a ∷ l) (p ∷ ps) zero = refl
-each-at (a ∷ l) (p ∷ ps) (suc i) = each-at l ps i
-
-module _ (m x : List ℕ) (j : ℕ) (l ps : List ℕ) (g : Readable m) (hj : j < word m OFFERS) (a : AmountsLess m x j l (24 * word m DAYS)) (same : (p : ℕ) → p
+module _ (m x : List ℕ) (j : ℕ) (l ps : List ℕ) (g : Readable m) (hj : j < word m OFFERS) (a : AmountsLess m x j l) (same : (p : ℕ) → p
     < 24 * word m DAYS → getD l p 0 ≡ getD ps p 0) where
   abbrev y : List ℕ
   y = set x (offerPlace j + TAKEN) 1
@@ -114,9 +103,9 @@ module _ (m x : List ℕ) (j : ℕ) (l ps : List ℕ) (g : Readable m) (hj : j <
       (low (offerPlace j + PARTNER) (omega arith) (λ z. absurd (omega arith)))
       (low (offerPlace j + PRICE) (omega arith) (λ z. absurd (omega arith))) (getD-set-same x (offerPlace j + TAKEN) 1 0 (omega (arith, a .long)))
       (table-is (periods (word m DAYS)) (amountAt y j) (lessEach (table (periods (word m DAYS)) (amountAt m j)) ps) 0
-      (each-length (table (periods (word m DAYS)) (amountAt m j)) ps ∙ table-length (periods (word m DAYS)) (amountAt m j))
+      (less-length (table (periods (word m DAYS)) (amountAt m j)) ps ∙ table-length (periods (word m DAYS)) (amountAt m j))
       (λ q hq. amount-own q hq ∙ ap (λ (t : ℕ). t - getD ps q 0) (sym (table-at (periods (word m DAYS)) (amountAt m j) q 0 hq))
-      ∙ sym (each-at (table (periods (word m DAYS)) (amountAt m j)) ps q)))
+      ∙ sym (less-at (table (periods (word m DAYS)) (amountAt m j)) ps q)))
 
   pub lessened : OfferLessened m y j ps
   unfolding decode

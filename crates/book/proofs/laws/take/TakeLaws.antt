@@ -10,14 +10,15 @@ use lib.ListN.{length, getD}
 use lib.Dec.{eqb}
 use borrow.Author.Tests.{eq-eqb, ne-eqb, eqb-true, eqb-false}
 use Rattle.measures.specs.Lists.{Each, keep}
-use Rattle.measures.specs.Sharing.{total}
+use Rattle.measures.specs.Sharing.{total, lessEach}
 use Rattle.measures.proofs.ListLaws.{both-ways, and-right-false}
-use Rattle.measures.proofs.SharingLaws.{Within}
+use Rattle.measures.proofs.SharingLaws.{Within, within-at}
+use Rattle.measures.proofs.LessLaws.{less-length, less-at, less-total}
 use Rattle.limits.specs.Units.{generator}
 use Rattle.matching.specs.Orders.{Row}
 use Rattle.book.specs.Book.{OpenOffer, noOffer, Book, unitOf}
 use Rattle.book.specs.Fit.{openOffers}
-use Rattle.book.specs.Take.{takeRowsFrom, takeRows, wayOf, lessEach, offerLess, offersLess}
+use Rattle.book.specs.Take.{takeRowsFrom, takeRows, wayOf, offerLess, offersLess}
 use Rattle.matching.proofs.laws.lists.RemainLaws.{Remains, gone, kept, ended, remains-all}
 use Rattle.book.proofs.laws.sound.FormedLaws.{LessOffer, same-offer}
 use Rattle.book.proofs.laws.rows.TradeLaws.{tradedBy, rowsRaise, rowsLower, Named}
@@ -77,38 +78,11 @@ module _ (way s t price : ℕ) (who : Row → ℕ) (v : ℕ) (is : (k q : ℕ) �
       one-part p k q (takeRowsFrom (suc k) way s t price ps)
       ∙ rw (and-right-false (eqb v u) (eqb k p) (ne-eqb k p (omega arith))) (let r = part-at p (suc k) j ps (omega arith) in omega arith)
 
--- what is left of each amount
-pub less-length : (as′ ps : List ℕ) → length (lessEach as′ ps) ≡ length as′
-unfolding lessEach
-less-length [] ps = refl
-less-length (a ∷ as′) [] = refl
-less-length (a ∷ as′) (p ∷ ps) = ap suc (less-length as′ ps)
-
-pub less-at : (as′ ps : List ℕ) (i : ℕ) → getD (lessEach as′ ps) i 0 ≡ getD as′ i 0 - getD ps i 0
-unfolding lessEach
-less-at [] ps i = omega arith
-less-at (a ∷ as′) [] i = omega arith
-less-at (a ∷ as′) (p ∷ ps) zero = refl
-less-at (a ∷ as′) (p ∷ ps) (suc i) = less-at as′ ps i
-
-pub less-total : (as′ ps : List ℕ) → total (lessEach as′ ps) ≤ total as′
-unfolding lessEach
-less-total [] ps = omega arith
-less-total (a ∷ as′) [] = omega arith
-less-total (a ∷ as′) (p ∷ ps) = let t = less-total as′ ps in omega arith
-
 -- of a total of nothing each amount is nothing
 none-at : (l : List ℕ) (i : ℕ) → total l ≡ 0 → getD l i 0 ≡ 0
 none-at [] i e = refl
 none-at (x ∷ l) zero e = omega arith
 none-at (x ∷ l) (suc i) e = none-at l i (omega arith)
-
-pub within-at : (ps rs : List ℕ) (i : ℕ) → Within ps rs → getD ps i 0 ≤ getD rs i 0
-within-at [] [] i w = omega arith
-within-at [] (r ∷ rs) i w = absurd w
-within-at (p ∷ ps) [] i w = absurd w
-within-at (p ∷ ps) (r ∷ rs) zero w = w .0
-within-at (p ∷ ps) (r ∷ rs) (suc i) w = within-at ps rs i (w .1)
 
 -- the offer of a number in a list
 abbrev pub offersNumbered : ℕ → List OpenOffer → List OpenOffer

@@ -1,21 +1,19 @@
--- A take's rows written one by one, and its parts taken off.
+-- A take's rows written one by one.
 use Prim.Native.Nat.{ℕ, _+_, _-_, _*_, _≤_, _<_}
 use mathlib.Core.Path.{_≡_, refl, sym, ap, _∙_}
 use mathlib.Core.List.{List, [], _∷_, _++_, append-assoc, append-nil}
 use native.Mathlib.Omega.{arith}
-use native.Mathlib.Decide.{ℕ-discrete}
 use native.Mathlib.Numerals.{add-one}
 use borrow.Author.Tests.{eq-eqb, ne-eqb}
-use lib.ListN.{length, getD, take, drop, set, length-set, length-append, drop-of-length-le}
-use lib.Seq.{drop-cons, getD-take, length-take-le, getD-set-same, getD-set-other}
+use lib.ListN.{length, getD, take, drop, length-append, drop-of-length-le}
+use lib.Seq.{drop-cons, getD-take, length-take-le}
 use lib.Dec.{eqb}
 use Rattle.measures.proofs.ListLaws.{cond-true, cond-false}
 use Rattle.matching.specs.Orders.{Row}
 use Rattle.matching.specs.Memory.{written}
 use Rattle.matching.proofs.laws.orders.RowLaws.{written-none}
 use Rattle.book.specs.Take.{takeRowsFrom}
-use Rattle.book.specs.Layout.{amountPlace, word}
-use Rattle.book.specs.inner.RowsIn.{RowsPut, AmountsLess}
+use Rattle.book.specs.inner.RowsIn.{RowsPut}
 
 abbrev rowAs : ℕ → ℕ → ℕ → ℕ → ℕ → ℕ → Row
 rowAs way s b pr p q = record { way = way; period = p; seller = s; buyer = b; quantity = q; price = pr }
@@ -88,31 +86,3 @@ module _ (way s b pr : ℕ) (l : List ℕ) (n : ℕ) (room : n ≤ length l) (m 
       let d : w .done ≡ takeRowsFrom 0 way s b pr (take n l) = sym (append-nil (w .done))
       ∙ ap (λ (t : List ℕ). w .done ++ takeRowsFrom p way s b pr t) (sym e) ∙ w .rest in
       record { count = sym (w .counted) ∙ ap (λ (rs : List Row). length rs) d; rows = w .kept ∙ ap (λ (rs : List Row). written m rs) d }
-
--- parts taken off, one by one
-module _ (m : List ℕ) (j : ℕ) (ps : List ℕ) where
-  pub less-none : AmountsLess m m j ps 0
-  less-none = record { long = refl; own = λ p h. absurd (omega arith); other = λ i n. refl }
-
-  module _ (x : List ℕ) (n : ℕ) (a : AmountsLess m x j ps n) where
-    amount-kept : word x (amountPlace j n) ≡ word m (amountPlace j n)
-    amount-kept = a .other (amountPlace j n) (λ p h e. absurd (omega arith))
-
-    pub less-more : (v : ℕ) → amountPlace j n < length m → v ≡ word x (amountPlace j n) - getD ps n 0
-        → AmountsLess m (set x (amountPlace j n) v) j ps (n + 1)
-    less-more v fits e = record {
-      long = simp length-set (a .long);
-      own = own;
-      other = λ i f. getD-set-other x (amountPlace j n) i v 0 (f n (omega arith)) ∙ a .other i (λ p h. f p (omega arith));
-    }
-      where
-        own : (p : ℕ) → p < n + 1 → word (set x (amountPlace j n) v) (amountPlace j p) ≡ word m (amountPlace j p) - getD ps p 0
-        own p h = go (ℕ-discrete p n)
-          where
-            go : Dec (p ≡ n) → word (set x (amountPlace j n) v) (amountPlace j p) ≡ word m (amountPlace j p) - getD ps p 0
-            go (yes q) =
-                rw q (getD-set-same x (amountPlace j n) v 0 (omega (arith, a .long)) ∙ e ∙ ap (λ (t : ℕ). t - getD ps n 0) amount-kept)
-            go (no q) = getD-set-other x (amountPlace j n) (amountPlace j p) v 0 (omega arith) ∙ a .own p (omega arith)
-
-  pub less-end : (x : List ℕ) (n t : ℕ) → n ≡ t → AmountsLess m x j ps n → AmountsLess m x j ps t
-  less-end x n t e a = rw e at a

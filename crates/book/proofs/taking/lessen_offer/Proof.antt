@@ -4,8 +4,8 @@ use borrow.Author.Needs.{needs}
 use Rattle.book.proofs.taking.lessen_offer.Statement.{statement}
 use Rattle.book.proofs.taking.lessen_offer.Tie as tie
 
-take-off-requires : tie.Need-take-off-requires
-take-off-requires c κs = search needs
+lessen-amounts-requires : tie.Need-lessen-amounts-requires
+lessen-amounts-requires c κs = search needs
 
 mul-book : tie.Need-mul-book
 mul-book c = search needs
@@ -25,7 +25,7 @@ same-length c = search needs
 returns : tie.Need-returns
 returns c ps e =
     let c6 = c .before .before .before .before .before .before in
-    lessened _ _ _ _ ps (c6 .pre .0) (c6 .pre .1) (c .before .before .take-off .ensures) e
+    lessened _ _ _ _ ps (c6 .pre .0) (c6 .pre .1) (c .before .before .lessen-amounts .ensures) e
 
 add-book-2 : tie.Need-add-book-2
 add-book-2 c = search needs
@@ -34,7 +34,7 @@ pub lessen-offer-spec : {M : Type 1} → statement M
 lessen-offer-spec =
     tie.close
     (tie.spec
-    take-off-requires
+    lessen-amounts-requires
     mul-book
     add-book
     add-book-2

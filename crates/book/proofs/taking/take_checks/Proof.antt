@@ -10,27 +10,23 @@ take-party-requires : tie.Need-take-party-requires
 take-party-requires c κs = search needs
 
 returns : tie.Need-returns
-returns c = checked-refused _ _ _ _ _ (c .before .before .before .before .pre .0) _ _ (omega arith) (c .before .take-party .ensures)
+returns c = checked-refused _ _ _ _ _ (c .before .before .before .pre .0) _ _ (omega arith) (c .before .take-party .ensures)
 
 find-offer-requires : tie.Need-find-offer-requires
-find-offer-requires c κs = sound-readable _ (c .before .before .before .before .pre .0)
+find-offer-requires c κs = sound-readable _ (c .before .before .before .pre .0)
 
 take-fit-requires : tie.Need-take-fit-requires
 take-fit-requires c κs =
     let c3 = c .before .before .before in
-    let c6 = c3 .before .before .before in
-    fit-asks _ _ _ _ _ (c6 .pre .0) _ (omega arith) (c3 .take-party .ensures) _ (c .before .find-offer .ensures) (c6 .args .parts .now) (c6 .pre .1)
-
-same-length : tie.Need-same-length
-same-length c = search needs
+    let c5 = c3 .before .before in
+    fit-asks _ _ _ _ _ (c5 .pre .0) _ (omega arith) (c3 .take-party .ensures) _ (c .before .find-offer .ensures) (c5 .args .parts .now) (c5 .pre .1)
 
 returns-2 : tie.Need-returns-2
 returns-2 c =
-    let c4 = c .before .before .before .before in
-    let c6 = c4 .before .before in
-    let c9 = c6 .before .before .before in
-    checked-fit _ _ _ _ _ (c9 .pre .0) (c6 .take-party .result) (omega arith) (c6 .take-party .ensures) _ (c4 .find-offer .ensures) _ _ _
-    (c .before .before .take-fit .ensures)
+    let c2 = c .before .before in
+    let c4 = c2 .before .before in
+    checked-fit _ _ _ _ _ (c4 .before .before .pre .0) (c4 .take-party .result) (omega arith) (c4 .take-party .ensures) _ (c2 .find-offer .ensures) _ _ _
+    (c .take-fit .ensures)
 
 pub take-checks-spec : {M : Type 1} → statement M
 take-checks-spec =
@@ -40,5 +36,4 @@ take-checks-spec =
     returns
     find-offer-requires
     take-fit-requires
-    same-length
     returns-2)

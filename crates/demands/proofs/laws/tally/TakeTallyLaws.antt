@@ -9,7 +9,7 @@ use lib.ListN.{length, getD, set, length-append}
 use lib.Seq.{getD-at, set-at}
 use lib.Dec.{eqb, ltb}
 use Rattle.measures.specs.Lists.{Each, keep, every}
-use Rattle.measures.specs.Sharing.{total}
+use Rattle.measures.specs.Sharing.{total, lessEach}
 use Rattle.measures.proofs.SharingLaws.{parts-length}
 use Rattle.measures.proofs.RangeLaws.{In, within}
 use Rattle.measures.proofs.ListLaws.{cond-case, and-left, and-right}
@@ -19,7 +19,7 @@ use Rattle.matching.proofs.laws.lists.EachLaws.{each-map, each-keep, each-at, k
 use Rattle.book.specs.Book.{OpenOffer, noOffer, Book, unitOf, offersOf, offerOf, withOffers}
 use Rattle.book.specs.Trades.{rowsBooked}
 use Rattle.book.specs.Refusals.{accepted}
-use Rattle.book.specs.Take.{takenParts, takeRefusal, takeRowsFrom, wayOf, takeRows, lessEach, offerLess, offersLess, taking}
+use Rattle.book.specs.Take.{takenParts, takeRefusal, takeRowsFrom, wayOf, takeRows, offerLess, offersLess, taking}
 use Rattle.book.specs.Calls.{callTake, outcome}
 use Rattle.demands.specs.Tally.{Amounts, Tally, lessAt, offerLessened, takeTallied, accounted}
 use Rattle.demands.proofs.laws.tally.AgreeLaws.{amountsOf, remains, Parties, Agree}

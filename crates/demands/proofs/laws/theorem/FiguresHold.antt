@@ -1,7 +1,7 @@
 -- The starred figures hold: the definitions compute them.
 use mathlib.Core.Path.{refl}
 use Rattle.measures.specs.Lists.{holds, sum, all, tableFrom}
-use Rattle.measures.specs.Sharing.{ahead, part, parts}
+use Rattle.measures.specs.Sharing.{ahead, part, parts, lessEach}
 use Rattle.measures.proofs.FiguresHold.{figure1-holds}
 use Rattle.limits.specs.Limits.{hourLimit, termLimit, volumeLimit}
 use Rattle.limits.proofs.FiguresHold.{figure5-holds, figure6-holds}
@@ -29,7 +29,7 @@ use Rattle.book.specs.Refusals.{firstOf}
 use Rattle.book.specs.Opening.{openingRefusal}
 use Rattle.book.specs.Enrol.{enrolRefusal, enrolment}
 use Rattle.book.specs.Offer.{offerRefusal, offering}
-use Rattle.book.specs.Take.{takeRefusal, takeRowsFrom, takeRows, lessEach, offersLess, taking}
+use Rattle.book.specs.Take.{takeRefusal, takeRowsFrom, takeRows, offersLess, taking}
 use Rattle.book.specs.Order.{orderRefusal, waiting, ordering}
 use Rattle.book.specs.Clear.{clearRefusal, clearing}
 use Rattle.book.specs.Close.{closing}
