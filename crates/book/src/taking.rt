@@ -192,7 +192,7 @@ fn write_rows(parts: &[u64], top: usize, rows: &mut [u64], deal: Deal) -> usize
 
 // Each amount of the offer at place j is left less its part, where it stands.
 fn lessen_amounts(book: &mut [u64], j: usize, parts: &[u64])
-    requires { ⌜ (Readable (now book)) × (j < 8) × (744 ≤ length (now parts)) × (PartsThere (now book) j (now parts)) ⌝ }
+    requires { ⌜ (Readable (now book)) × (j < 8) ⌝ }
     ensures { λ _. ⌜ AmountsLess (now (book .entry)) (now (book .exit)) j (now (parts .entry)) ⌝ }
 {
     let from = AMOUNTS + AMOUNT_WORDS * j;
@@ -202,7 +202,7 @@ fn lessen_amounts(book: &mut [u64], j: usize, parts: &[u64])
 
 // The parts are taken off the offer at place j, which stays.
 fn lessen_offer(book: &mut [u64], j: usize, parts: &[u64])
-    requires { ⌜ (Readable (now book)) × (j < word (now book) OFFERS) × (744 ≤ length (now parts)) × (PartsThere (now book) j (now parts)) ⌝ }
+    requires { ⌜ (Readable (now book)) × (j < word (now book) OFFERS) ⌝ }
     ensures { λ _. ⌜ ((ps : List ℕ) → ((p : ℕ) → p < 24 * word (now (book .entry)) DAYS → getD (now (parts .entry)) p 0 ≡ getD ps p 0)
         → OfferLessened (now (book .entry)) (now (book .exit)) j ps) ⌝ }
 {

@@ -1,9 +1,10 @@
 -- What is left of amounts when each is less its part.
-use Prim.Native.Nat.{ℕ, zero, suc, zero-le, _+_, _-_, _≤_, _<_}
+use Prim.Native.Nat.{ℕ, zero, suc, zero-le, _+_, _-_, _≤_, _<_, min}
 use mathlib.Core.Path.{_≡_, refl, sym, ap, _∙_}
 use mathlib.Core.List.{List, [], _∷_}
 use native.Mathlib.Omega.{arith}
-use lib.ListN.{length, getD, set}
+use native.Mathlib.Decide.{decLt}
+use lib.ListN.{length, getD, set, List·getD-eq-default}
 use lib.Seq.{ext-getD}
 use Rattle.measures.specs.Sharing.{total, parts, lessEach}
 use Rattle.measures.specs.inner.Cuts.{Written}
@@ -40,11 +41,16 @@ less-and-parts (r ∷ rs) (p ∷ ps) w = let h = less-and-parts rs ps (w .1) in 
 pub less-parts : (d : ℕ) (rs : List ℕ) → 0 < d → d ≤ total rs → total (lessEach rs (parts d rs)) + d ≡ total rs
 less-parts d rs some most = omega (arith, less-and-parts rs (parts d rs) (no-part-exceeds d rs some most), parts-sum d rs (omega arith))
 
--- `take_off`: one amount more is less, and all are
+-- `take_off`: one amount more is less, and all that have a part are
 pub less-more : (rs ps rs′ : List ℕ) (i v : ℕ) → i < length rs′ → Written 0 i (λ j. getD rs j 0 - getD ps j 0) rs rs′ → v ≡ getD rs′ i 0 - getD ps i 0
     → Written 0 (i + 1) (λ j. getD rs j 0 - getD ps j 0) rs (set rs′ i v)
 less-more rs ps rs′ i v h w e = written-more 0 i (λ j. getD rs j 0 - getD ps j 0) rs rs′ v zero-le h w
     (e ∙ ap (λ (r : ℕ). r - getD ps i 0) (w .past i (omega arith)))
 
-pub less-end : (rs ps rs′ : List ℕ) → length rs′ ≡ length rs → Written 0 (length rs) (λ j. getD rs j 0 - getD ps j 0) rs rs′ → rs′ ≡ lessEach rs ps
-less-end rs ps rs′ e w = ext-getD 0 rs′ (lessEach rs ps) (e ∙ sym (less-length rs ps)) (λ j h. w .each j zero-le (omega arith) ∙ sym (less-at rs ps j))
+pub less-end : (rs ps rs′ : List ℕ) → length rs′ ≡ length rs
+    → Written 0 (min (length rs) (length ps)) (λ j. getD rs j 0 - getD ps j 0) rs rs′ → rs′ ≡ lessEach rs ps
+less-end rs ps rs′ e w = ext-getD 0 rs′ (lessEach rs ps) (e ∙ sym (less-length rs ps)) (λ j h. at j h (decLt j (length ps)) ∙ sym (less-at rs ps j))
+  where
+    at : (j : ℕ) → j < length rs′ → Dec (j < length ps) → getD rs′ j 0 ≡ getD rs j 0 - getD ps j 0
+    at j h (yes l) = w .each j zero-le (omega arith)
+    at j h (no l) = let z = List·getD-eq-default ps 0 {n = j} (omega arith) in omega (arith, w .past j (omega arith))

@@ -2,9 +2,8 @@
 mod sharing;
 
 ghost use mathlib.Core.Path.{_≡_};
-ghost use Prim.Native.Nat.{ℕ, _+_, _*_, _-_, _/_, _≤_, _<_, min, max};
+ghost use Prim.Native.Nat.{_+_, _*_, _-_, _/_, min, max};
 ghost use lib.Dec.{leb, ltb, eqb};
-ghost use lib.ListN.{length, getD};
 ghost use Rattle.measures.specs.Ranges.{mostEnergy, mostPrice, mostNumber};
 ghost use Rattle.measures.specs.Sharing.{total, lessEach, sharing, Is};
 
@@ -185,15 +184,22 @@ pub fn share(amount: Energy, amounts: &[u64], parts: &mut [u64]) -> u64
     0
 }
 
-// Leaves each amount less its part, where it stands.
+// The lesser of two counts.
+fn fewer(a: usize, b: usize) -> usize
+    ensures { λ r. ⌜ r ≡ min a b ⌝ }
+{
+    if b < a { b } else { a }
+}
+
+// Leaves each amount less its part, where it stands: nothing, where that is more. Amounts without a part stay.
 pub fn take_off(amounts: &mut [u64], parts: &[u64])
-    requires { ⌜ (length (now amounts) ≤ length (now parts)) × ((j : ℕ) → j < length (now amounts) → getD (now parts) j 0 ≤ getD (now amounts) j 0) ⌝ }
     ensures { λ _. ⌜ now (amounts .exit) ≡ lessEach (now (amounts .entry)) (now (parts .entry)) ⌝ }
 {
-    let n = amounts.len();
+    let n = fewer(amounts.len(), parts.len());
     let mut i = 0;
     while i < n {
-        amounts[i] -= parts[i];
+        let left = Energy(amounts[i]).minus(Energy(parts[i]));
+        amounts[i] = left.0;
         i += 1;
     }
 }

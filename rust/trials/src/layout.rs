@@ -22,6 +22,7 @@ pub const UNIT: usize = 3;
 const OFFERS: usize = 1_344;
 const OFFER_WORDS: usize = 8;
 pub const OFFER: usize = 5;
+pub const TAKEN: usize = 3;
 /// Orders of six: number, unit, direction, period, price, quantity.
 const ORDERS: usize = 1_536;
 pub const ORDER: usize = 6;

@@ -16,4 +16,6 @@ pub mod lists;
 pub mod plain;
 pub mod random;
 pub mod sharing;
+pub mod stack;
+pub mod takes;
 pub mod timing;

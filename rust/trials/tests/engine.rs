@@ -3,13 +3,15 @@
 use second::book::{Order, BUY, CALL, ROLLING, SELL};
 use second::calls::{Call, ROWS_LENT};
 use second::manners::{Manner, MANNERS, MONTH, NUMBERS};
-use trials::books::book;
+use trials::books::{book, each_call};
 use trials::deep::run_deep;
 use trials::engine::{published, safe, Trial};
 use trials::exported;
 use trials::layout::{decode, encode, words};
 use trials::lists::{run_list, run_lists, Counts, Plan, TERM};
 use trials::random::Random;
+use trials::stack::stack_of;
+use trials::takes::run_takes;
 
 /// Lists with damaged books between their calls.
 const PLAN: Plan = Plan { engine: exported::make, damage: [8, 4] };
@@ -76,6 +78,24 @@ fn deep_books() {
     run_deep(PLAN.engine, 8, 20_000, &mut counts).unwrap();
     print!("{counts}");
     assert!(counts.most_rows["order"] > 200 && counts.most_rows["clear"] > 200);
+}
+
+/// Takes from eight listings, each word of them looked at.
+#[test]
+fn takes_in_place() {
+    let [lessened, words] = run_takes(PLAN.engine, 2, 400).unwrap();
+    println!("{lessened} amounts went down, of {words} words");
+    assert!(lessened > 30_000);
+}
+
+/// No call needs more stack than the README promises.
+#[test]
+fn stack_of_each_call() {
+    for (name, book, call) in each_call(31, 64, 255) {
+        let bytes = stack_of(book, call);
+        println!("{name}: {bytes} bytes of stack");
+        assert!(bytes < 80 << 10, "{name} needs {bytes} bytes");
+    }
 }
 
 /// Marks of ways 3 and 4 that no calls make, each with each: what orders, a clear and a close make of them.

@@ -6,10 +6,11 @@ use second::manners::{Manner, MANNERS};
 use trials::engine::{Engine, Told};
 use trials::exported;
 use trials::layout::{
-    held_at, unit_at, words, DAYS, EACH, GIVEN, LAYOUT, LAYOUT_NUMBER, LOWERED, MARK, ORDER_COUNT,
-    PHASE, RAISED, UNIT_COUNT,
+    amount_at, held_at, unit_at, words, DAYS, EACH, GIVEN, LAYOUT, LAYOUT_NUMBER, LOWERED, MARK,
+    ORDER_COUNT, PHASE, RAISED, UNIT_COUNT,
 };
 use trials::lists::{run_list, Counts, Plan};
+use trials::takes::run_takes;
 
 /// Manners by their places.
 const TIGHT: &Manner = &MANNERS[0];
@@ -217,6 +218,40 @@ fn wrong_engines_are_found() {
             .find_map(|seed| run_list(plan, seed, manner, manner.length, &mut counts).err());
         let found = found.unwrap_or_else(|| panic!("{name} was not found"));
         println!("{name}: after {} calls and {} damaged books", counts.made(), counts.damages()[0]);
+        assert!(found.starts_with(fault), "{name}: {found}");
+    }
+}
+
+/// Takes with one fault each.
+const WRONG_TAKES: [(&str, &str, Engine); 3] = [
+    ("parts of amounts already lessened", "other rows", |call, book, rows| {
+        then(If::Accepted, call, book, rows, |told, book, rows| {
+            let (mut book, mut again) = (book.to_vec(), rows.to_vec());
+            if exported::make(call, &mut book, &mut again).refusal == 0 {
+                let words = 6 * told.count as usize;
+                rows[..words].copy_from_slice(&again[..words]);
+            }
+        })
+    }),
+    ("a kWh of the next listing", "another book", |call, book, rows| {
+        then(If::Accepted, call, book, rows, |_, book, _| {
+            let Call::Take { number, .. } = *call else { return };
+            book[amount_at(number as usize % 8, 0)] -= 1;
+        })
+    }),
+    ("a word past a listing's term", "a word of an offer", |call, book, rows| {
+        then(If::Accepted, call, book, rows, |_, book, _| {
+            if book[DAYS] < 31 {
+                book[amount_at(3, 24 * book[DAYS] as usize)] ^= 1;
+            }
+        })
+    }),
+];
+
+#[test]
+fn wrong_takes_are_found() {
+    for (name, fault, engine) in WRONG_TAKES {
+        let found = run_takes(engine, 1, 40).expect_err(name);
         assert!(found.starts_with(fault), "{name}: {found}");
     }
 }

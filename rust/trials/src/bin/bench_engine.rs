@@ -1,11 +1,12 @@
-//! Times every call of the engine beside the second engine and beside a plain read of the book's memory, and prints
-//! tables. With a file's name, as docs/COST.md, the tables take the place of those that stand in it.
+//! Times every call of the engine beside the second engine and beside a plain read of the book's memory, looks how much
+//! stack it needs, and prints tables. With a file's name, as docs/COST.md, the tables take the place of those that stand in it.
 
 use second::book::Book;
 use second::calls::{Call, ROWS_LENT};
 use std::fmt::Write;
 use std::fs;
 use trials::books::{check_alone, crossing, each_call, listed, month, spread, sweep, waiting};
+use trials::stack::stack_of;
 use trials::timing::{times, Times};
 
 const DAYS: [u64; 3] = [1, 7, 31];
@@ -50,6 +51,7 @@ fn main() {
     calls(&sizes, &mut text);
     matching(&matched, &mut text);
     growth(&grown, &mut text);
+    stacks(&mut text);
     print!("{text}");
     if let Some(file) = std::env::args().nth(1) {
         replace(&file, &text);
@@ -387,6 +389,23 @@ fn line(name: &str, less: Times, more: Times, count: u64, text: &mut String) {
     let each = |of: fn(&Times) -> f64| 1_000.0 * (of(&more) - of(&less)) / count as f64;
     let (engine, second) = (each(|times| times.engine), each(|times| times.second));
     writeln!(text, "| {name} | {engine:.2} | {second:.2} |").unwrap();
+}
+
+/// The stack that each call needs, on a book of the largest size or with the most rows.
+fn stacks(text: &mut String) {
+    let title = "The most stack that a call was seen to need, in bytes; less than 512 is 0.";
+    head(title, &["call", "bytes"], text);
+    for (name, book, call) in each_call(31, 64, 255) {
+        let mut cases = vec![(book, call)];
+        match name {
+            TAKE => cases.push(month(64, MONTHS[2].1)),
+            "order" => cases.push((waiting(255), sweep(255))),
+            "clear" => cases.push((crossing(256, 1, false), Call::Clear { lent: ROWS_LENT })),
+            _ => {}
+        }
+        let most = cases.into_iter().map(|(book, call)| stack_of(book, call)).max();
+        writeln!(text, "| {name} | {} |", most.unwrap()).unwrap();
+    }
 }
 
 /// Puts the tables between the marks of a page.

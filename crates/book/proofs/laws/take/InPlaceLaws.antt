@@ -23,7 +23,7 @@ use Rattle.book.specs.Offer.{raisingAmounts}
 use Rattle.book.specs.Layout.{DAYS, UNITS, OFFERS, amountsPlace, amountPlace, word, unitAt, amountAt, decode}
 use Rattle.book.specs.Contract.{soundIn}
 use Rattle.book.specs.inner.Readable.{Readable, Ranged, unitFieldsIn, marksIn, declared, Fitted, small}
-use Rattle.book.specs.inner.RowsIn.{fitChecks, partsAt, Nothing, TakeFit, AmountsLess, PartsThere}
+use Rattle.book.specs.inner.RowsIn.{fitChecks, partsAt, Nothing, TakeFit, AmountsLess}
 use Rattle.book.proofs.laws.memory.RangeFacts.{units-held, unit-at}
 use Rattle.book.proofs.laws.answer.MadeLaws.{sound-book, sound-readable}
 use Rattle.book.proofs.laws.check.MisfitLaws.{zeros-at, misfit-ext, misfit-declared}
@@ -59,46 +59,35 @@ module _ (m : List ℕ) (j : ℕ) (g : Readable m) (hj : j < 8) where
       i .memory ∙ ap (λ (x : List ℕ). sharing q x l .memory) amounts-stand
       ∙ sym (is-shared q rs l (omega (arith, g .daysTo)) (omega arith) small most (ap (λ (k : ℕ). parts q rs ++ drop k l) (sym n)) .memory)
 
-  -- `lessen_amounts`: each part is there to be taken, and what then stands there is the amounts, each less its part
-  module _ (ps : List ℕ) where
-    pub less-asks : 744 ≤ length ps → PartsThere m j ps
-        → (length (take (e - a) (drop a m)) ≤ length ps)
-        × ((i : ℕ) → i < length (take (e - a) (drop a m)) → getD ps i 0 ≤ getD (take (e - a) (drop a m)) i 0)
-    less-asks room there =
-        let n = table-length (periods (word m DAYS)) (amountAt m j) in
-        rw amounts-stand (
-          omega (arith, n, g .daysTo),
-          λ i h. rw (table-at (periods (word m DAYS)) (amountAt m j) i 0 (omega (arith, n))) (there i (omega (arith, n))),
-        )
+  -- `lessen_amounts`: what stands there is the amounts, each less its part
+  module _ (ps ys : List ℕ) (less : ys ≡ lessEach (take (e - a) (drop a m)) ps) where
+    same : length ys ≡ length (take (e - a) (drop a m))
+    same = ap (λ (l : List ℕ). length l) less ∙ less-length (take (e - a) (drop a m)) ps
 
-    module _ (ys : List ℕ) (less : ys ≡ lessEach (take (e - a) (drop a m)) ps) where
-      same : length ys ≡ length (take (e - a) (drop a m))
-      same = ap (λ (l : List ℕ). length l) less ∙ less-length (take (e - a) (drop a m)) ps
+    before : length (take a m) ≡ a
+    before = length-take-le a m (omega (arith, fits))
 
-      before : length (take a m) ≡ a
-      before = length-take-le a m (omega (arith, fits))
+    own : (p : ℕ) → p < 24 * word m DAYS → word (putMid a (e - a) m ys) (amountPlace j p) ≡ word m (amountPlace j p) - getD ps p 0
+    own p h =
+        ap (λ (i : ℕ). getD (putMid a (e - a) m ys) (i + p) 0) (sym before) ∙ getD-append-add (take a m) (ys ++ postOf a (e - a) m) p 0
+        ∙ List·getD-append ys (postOf a (e - a) m) 0 p (omega (arith, same, mid-len a e m fits)) ∙ ap (λ (l : List ℕ). getD l p 0) less
+        ∙ less-at (take (e - a) (drop a m)) ps p
+        ∙ ap (λ (r : ℕ). r - getD ps p 0) (getD-take (e - a) (drop a m) p 0 (omega arith) ∙ getD-drop a m p 0)
 
-      own : (p : ℕ) → p < 24 * word m DAYS → word (putMid a (e - a) m ys) (amountPlace j p) ≡ word m (amountPlace j p) - getD ps p 0
-      own p h =
-          ap (λ (i : ℕ). getD (putMid a (e - a) m ys) (i + p) 0) (sym before) ∙ getD-append-add (take a m) (ys ++ postOf a (e - a) m) p 0
-          ∙ List·getD-append ys (postOf a (e - a) m) 0 p (omega (arith, same, mid-len a e m fits)) ∙ ap (λ (l : List ℕ). getD l p 0) less
-          ∙ less-at (take (e - a) (drop a m)) ps p
-          ∙ ap (λ (r : ℕ). r - getD ps p 0) (getD-take (e - a) (drop a m) p 0 (omega arith) ∙ getD-drop a m p 0)
+    other : (i : ℕ) → ((p : ℕ) → p < 24 * word m DAYS → i ≡ amountPlace j p → ⊥) → word (putMid a (e - a) m ys) i ≡ word m i
+    other i n = go (decLt i a) (decLt i e)
+      where
+        go : Dec (i < a) → Dec (i < e) → word (putMid a (e - a) m ys) i ≡ word m i
+        go (yes h) z = List·getD-append (take a m) (ys ++ postOf a (e - a) m) 0 i (omega (arith, before)) ∙ getD-take a m i 0 h
+        go (no h) (yes k) = absurd (n (i - a) (omega arith) (omega arith))
+        go (no h) (no k) =
+            let at : i ≡ e + (i - e) = omega arith in
+            ap (λ (l : ℕ). getD (putMid a (e - a) m ys) l 0) at ∙ sym (getD-drop e (putMid a (e - a) m ys) (i - e) 0)
+            ∙ ap (λ (l : List ℕ). getD l (i - e) 0) (drop-put a e m ys (omega arith) fits (same ∙ mid-len a e m fits))
+            ∙ getD-drop e m (i - e) 0 ∙ ap (λ (l : ℕ). getD m l 0) (sym at)
 
-      other : (i : ℕ) → ((p : ℕ) → p < 24 * word m DAYS → i ≡ amountPlace j p → ⊥) → word (putMid a (e - a) m ys) i ≡ word m i
-      other i n = go (decLt i a) (decLt i e)
-        where
-          go : Dec (i < a) → Dec (i < e) → word (putMid a (e - a) m ys) i ≡ word m i
-          go (yes h) z = List·getD-append (take a m) (ys ++ postOf a (e - a) m) 0 i (omega (arith, before)) ∙ getD-take a m i 0 h
-          go (no h) (yes k) = absurd (n (i - a) (omega arith) (omega arith))
-          go (no h) (no k) =
-              let at : i ≡ e + (i - e) = omega arith in
-              ap (λ (l : ℕ). getD (putMid a (e - a) m ys) l 0) at ∙ sym (getD-drop e (putMid a (e - a) m ys) (i - e) 0)
-              ∙ ap (λ (l : List ℕ). getD l (i - e) 0) (drop-put a e m ys (omega arith) fits (same ∙ mid-len a e m fits))
-              ∙ getD-drop e m (i - e) 0 ∙ ap (λ (l : ℕ). getD m l 0) (sym at)
-
-      pub amounts-less : AmountsLess m (putMid a (e - a) m ys) j ps
-      amounts-less = record { long = same-len-mid a (e - a) m ys same; own = own; other = other }
+    pub amounts-less : AmountsLess m (putMid a (e - a) m ys) j ps
+    amounts-less = record { long = same-len-mid a (e - a) m ys same; own = own; other = other }
 
 -- zeros behind a list change nothing that is read
 pub padded-at : (l zs : List ℕ) → ((i : ℕ) → getD zs i 0 ≡ 0) → (i : ℕ) → getD (l ++ zs) i 0 ≡ getD l i 0

@@ -1,5 +1,5 @@
 -- `lessen_amounts`: the amounts are lent as they stand, and come back less.
-use Rattle.book.proofs.laws.take.InPlaceLaws.{less-asks, amounts-less}
+use Rattle.book.proofs.laws.take.InPlaceLaws.{amounts-less}
 use borrow.Author.Needs.{needs}
 use Rattle.book.proofs.taking.lessen_amounts.Statement.{statement}
 use Rattle.book.proofs.taking.lessen_amounts.Tie as tie
@@ -32,10 +32,7 @@ part-take-off-end : tie.Need-part-take-off-end
 part-take-off-end c = search needs
 
 take-off-requires : tie.Need-take-off-requires
-take-off-requires c κs =
-    let c4 = c .before .before .before .before in
-    let p = c4 .pre in
-    less-asks (c4 .args .book .now) (c4 .args .j) (p .0) (p .1) (c4 .args .parts .now) (p .2) (p .3)
+take-off-requires c κs = search needs
 
 same-length : tie.Need-same-length
 same-length c = search needs

@@ -20,7 +20,7 @@ lessen-offer-requires c κs =
     let c9 = c .before .before .before .before .before .before .before .before .before in
     let a = c9 .args in
     let p = c9 .pre in
-    (sound-readable (a .book .now) (p .0), p .1, p .4, p .6)
+    (sound-readable (a .book .now) (p .0), p .1)
 
 book-rows-requires : tie.Need-book-rows-requires
 book-rows-requires c κs =
