@@ -22,7 +22,7 @@ pub record LeftInPlace (m m′ : List ℕ) (n q : ℕ) : Type 0 where
   -- "other offers' amounts stay"
   pub others : (k : ℕ) → (k ≡ n → ⊥) → amountsOf m′ k ≡ amountsOf m k
 
--- so every take leaves the memory that is accepted
+-- every accepted take leaves the memory so
 abbrev pub EveryTake : Type 0
 EveryTake =
     (m rows : List ℕ) (u n q : ℕ) (a : Answer) (m′ rows′ : List ℕ) → Made m rows (callTake u n q (length rows)) a m′ rows′

@@ -7,7 +7,7 @@ use lib.ListN.{length, getD, set, take, drop}
 use lib.Dec.{eqb}
 use Rattle.measures.specs.Ranges.{mostEnergy}
 use Rattle.measures.specs.Lists.{keep, table}
-use Rattle.measures.specs.Sharing.{parts}
+use Rattle.measures.specs.Sharing.{total, parts}
 use Rattle.limits.specs.Units.{periods}
 use Rattle.matching.specs.Orders.{Row}
 use Rattle.matching.specs.Memory.{rowAt, rowsIn, written}
@@ -36,6 +36,7 @@ use Rattle.book.specs.Layout.{
   OFFERS,
   offersStart,
   offerPlace,
+  TAKEN,
   amountPlace,
   figuresStart,
   figurePlace,
@@ -160,6 +161,12 @@ pub record AmountsLess (m x : List ℕ) (j : ℕ) (ps : List ℕ) : Type 0 where
   pub own : (p : ℕ) → p < 24 * word m DAYS → word x (amountPlace j p) ≡ word m (amountPlace j p) - getD ps p 0
   pub other : (i : ℕ) → ((p : ℕ) → p < 24 * word m DAYS → i ≡ amountPlace j p → ⊥) → word x i ≡ word m i
 
+-- x is m with its part taken off each amount of the offer at place j; no other word before the figures differs, but the offer's mark
+pub record AmountsLeft (m x : List ℕ) (j : ℕ) (ps : List ℕ) : Type 0 where
+  pub own : (p : ℕ) → p < 24 * word m DAYS → word x (amountPlace j p) ≡ word m (amountPlace j p) - getD ps p 0
+  pub others : (i : ℕ) → i < figuresStart → (i ≡ offerPlace j + TAKEN → ⊥) → ((p : ℕ) → p < 24 * word m DAYS → i ≡ amountPlace j p → ⊥)
+      → word x i ≡ word m i
+
 -- each part is there to be taken
 abbrev pub PartsThere : List ℕ → ℕ → List ℕ → Type 0
 PartsThere m j ps = (p : ℕ) → p < 24 * word m DAYS → getD ps p 0 ≤ word m (amountPlace j p)
@@ -170,6 +177,7 @@ pub record OfferLessened (m x : List ℕ) (j : ℕ) (ps : List ℕ) : Type 0 whe
   pub long : length x ≡ length m
   pub head : (i : ℕ) → i < offersStart → word x i ≡ word m i
   pub figures : (i : ℕ) → figuresStart ≤ i → word x i ≡ word m i
+  pub left : AmountsLeft m x j ps
 
 -- x is m after a take by unit u of parts l from the offer at place j, which stays; its rows stand in the lent memory
 pub record PartTaken (m x : List ℕ) (u j : ℕ) (l lent out : List ℕ) (k : ℕ) : Type 0 where
@@ -177,6 +185,7 @@ pub record PartTaken (m x : List ℕ) (u j : ℕ) (l lent out : List ℕ) (k : �
   pub book : decode x ≡ rowsBooked (takeRows (decode m) (offerAt m (word m DAYS) j) u (take (24 * word m DAYS) l))
       (withOffers (decode m) (set (decode m .offers) j (offerLess (offerAt m (word m DAYS) j) (take (24 * word m DAYS) l))))
   pub aside : Aside m x
+  pub left : AmountsLeft m x j (take (24 * word m DAYS) l)
 
 -- x is m after a take of all that is left of the offer of number n at place j
 pub record WholeTaken (m x : List ℕ) (u n j : ℕ) (l lent out : List ℕ) (k : ℕ) : Type 0 where
@@ -196,3 +205,7 @@ pub record TakeMade (m x : List ℕ) (u n q : ℕ) (lent out : List ℕ) (k : �
       (withOffers (decode m) (offersLess n (takenParts (decode m) n q) (decode m .offers)))
   pub rows : RowsPut lent out k (takeRows (decode m) (offerOf (decode m) n) u (takenParts (decode m) n q))
   pub aside : Aside m x
+  -- where the offer stands, and what the take left there
+  pub place : ℕ
+  pub found : Found m n place
+  pub left : q < total (table (periods (word m DAYS)) (amountAt m place)) → AmountsLeft m x place (partsAt m place q)

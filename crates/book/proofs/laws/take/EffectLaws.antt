@@ -1,6 +1,6 @@
 -- From a take by place to the take of a number: what its effect promises.
 use Prim.Native.Nat.{ℕ, _+_, _*_, _≤_, _<_, min}
-use mathlib.Core.Path.{_≡_, refl, sym, ap, _∙_}
+use mathlib.Core.Path.{_≡_, refl, sym, ap, _∙_, subst}
 use mathlib.Core.Bool.{true, not}
 use mathlib.Core.List.{List, _++_}
 use native.Mathlib.Omega.{arith}
@@ -24,7 +24,7 @@ use Rattle.book.specs.Take.{takenParts, takeChecks, takeRefusal, takeRow
 use Rattle.book.specs.Refusals.{firstOf}
 use Rattle.book.specs.Layout.{DAYS, UNITS, OFFERS, word, amountAt, offerAt, decode}
 use Rattle.book.specs.Contract.{soundIn}
-use Rattle.book.specs.inner.RowsIn.{Found, PartsThere, RowsPut, PartTaken, WholeTaken, PartsLent, TakeMade}
+use Rattle.book.specs.inner.RowsIn.{Found, partsAt, AmountsLeft, PartsThere, RowsPut, PartTaken, WholeTaken, PartsLent, TakeMade}
 use Rattle.book.proofs.laws.memory.RangeFacts.{units-held, offers-held}
 use Rattle.book.proofs.laws.answer.RefusalLaws.{none-applies}
 use Rattle.book.proofs.laws.sound.SoundLaws.{sound-facts}
@@ -119,10 +119,14 @@ module _ (m : List ℕ) (n q j : ℕ) (f : Found m n j) (h : j < 8) where
           ∙ ap (λ (z : List OpenOffer). rowsBooked (takeRows (decode m) (offerOf (decode m) n) u (takenParts (decode m) n q)) (withOffers (decode m) z)) g
 
       pub part-made : PartTaken m x u j l lent out k → 1 ≤ q → q < total (table (periods (word m DAYS)) (amountAt m j)) → TakeMade m x u n q lent out k
+      unfolding partsAt
       part-made t some less = record {
         book = taken-book (set (decode m .offers) j (offerLess (offerAt m (word m DAYS) j) (take (24 * word m DAYS) l))) (t .book) (less-are some less);
         rows = taken-rows (t .rows);
         aside = t .aside;
+        place = j;
+        found = f;
+        left = λ y. subst (AmountsLeft m x j) (parts-taken ∙ amounts-are) (t .left);
       }
 
       pub whole-made : WholeTaken m x u n j l lent out k → soundIn m ≡ true → 1 ≤ q → q ≡ total (table (periods (word m DAYS)) (amountAt m j))
@@ -131,6 +135,9 @@ module _ (m : List ℕ) (n q j : ℕ) (f : Found m n j) (h : j < 8) where
         book = taken-book (keep (λ (o : OpenOffer). not (eqb (o .number) n)) (decode m .offers)) (t .book) (gone-are s some all);
         rows = taken-rows (t .rows);
         aside = t .aside;
+        place = j;
+        found = f;
+        left = λ y. absurd (omega arith);
       }
 
 -- what a passed take asks of its effect

@@ -32,6 +32,7 @@ use Rattle.book.specs.Layout.{
   RAISED,
   LOWERED,
   VOLUME,
+  amountPlace,
   word,
   amountAt,
   offerAt,
@@ -189,6 +190,10 @@ module _ (m : List ℕ) (u j : ℕ) (l : List ℕ) (s : soundIn m ≡ true) (hj 
             ∙ ap (λ (z : Book). rowsBooked (takeRows (decode m) (offerAt m (word m DAYS) j) u (take (24 * word m DAYS) l)) z) (f .book);
         aside = aside-by y m (t .kept .long ∙ f .long) (t .kept .head LAYOUT (omega arith) ∙ f .head LAYOUT (omega arith))
             (λ i h. t .kept .past i (omega arith) ∙ f .figures i (omega arith));
+        left = record {
+          own = λ p h. t .kept .head (amountPlace j p) (omega (arith, sound-readable m s)) ∙ f .left .own p h;
+          others = λ i h n o. t .kept .head i h ∙ f .left .others i h n o;
+        };
       }
 
   pub rows-asks : (rows : List ℕ) → 4464 ≤ length rows

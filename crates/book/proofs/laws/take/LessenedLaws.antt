@@ -127,4 +127,5 @@ module _ (m x : List ℕ) (j : ℕ) (l ps : List ℕ) (g : Readable m) (hj : j <
         long = long;
         head = λ i h. low i (omega arith) (λ z. absurd (omega arith));
         figures = high;
+        left = record { own = amount-own; others = λ i h n f. other i n f };
       }
