@@ -1,10 +1,9 @@
 -- "Take: a unit, a number, a quantity. A bilateral offer is taken by its partner, for exactly its total. A listing is
 -- taken by a unit of the other side, for 1 up to its remainder, shared over its remaining amounts."
 use Prim.Native.Nat.{ℕ, suc}
-use mathlib.Core.Bool.{cond, not, _&&_}
+use mathlib.Core.Bool.{cond}
 use mathlib.Core.List.{List, [], _∷_}
 use lib.Dec.{eqb}
-use Rattle.measures.specs.Lists.{keep}
 use Rattle.measures.specs.Sharing.{total, parts, lessEach}
 use Rattle.limits.specs.Units.{generator}
 use Rattle.matching.specs.Orders.{Row}

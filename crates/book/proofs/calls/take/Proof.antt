@@ -1,6 +1,5 @@
 -- `take`: not a sound book, a check that applies, or the effect.
 use mathlib.Core.Path.{refl, sym, _∙_}
-use native.Mathlib.Omega.{arith}
 use borrow.Author.Tests.{not-true, not-false}
 use lib.ListN.{length}
 use Rattle.book.specs.Calls.{callTake}

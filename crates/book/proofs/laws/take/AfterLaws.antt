@@ -1,22 +1,19 @@
 -- What a take leaves of the offers, by their numbers (specs/InPlace.antt).
-use Prim.Native.Nat.{ℕ, _+_, _<_}
+use Prim.Native.Nat.{ℕ, _<_}
 use mathlib.Core.Path.{_≡_, refl, sym, ap, _∙_}
 use mathlib.Core.Bool.{Bool, true, false, cond}
 use mathlib.Core.List.{List, [], _∷_}
 use native.Mathlib.Omega.{arith}
 use lib.ListN.{length, getD}
 use lib.Dec.{eqb}
-use borrow.Author.Tests.{eq-eqb, ne-eqb, eqb-true}
+use borrow.Author.Tests.{ne-eqb, eqb-true}
 use Rattle.measures.specs.Sharing.{total, parts, lessEach}
 use Rattle.measures.proofs.LessLaws.{less-parts}
-use Rattle.matching.specs.Orders.{Row}
 use Rattle.book.specs.Book.{OpenOffer, noOffer, Book, offerOf, withOffers}
-use Rattle.book.specs.Trades.{rowsBooked}
 use Rattle.book.specs.Take.{takenParts, takeRefusal, takeRows, offerLess, offersLess, taking}
 use Rattle.book.specs.Refusals.{Outcome}
-use Rattle.book.specs.Layout.{laidOut, decode}
-use Rattle.book.specs.Calls.{Call, callTake, outcome}
-use Rattle.book.specs.Contract.{outcomeOn}
+use Rattle.book.specs.Layout.{decode}
+use Rattle.book.specs.Calls.{callTake}
 use Rattle.book.specs.InPlace.{EveryTake}
 use Rattle.book.proofs.laws.answer.MadeLaws.{decided-accepted, outcome-accepted}
 use Rattle.book.proofs.laws.answer.RefusalLaws.{not-refused, first-passed}
@@ -56,7 +53,8 @@ module _ (n : ℕ) (ps : List ℕ) where
       others : List OpenOffer
       others = offersNumbered n os
 
-      go : (t : Bool) → eqb (o .number) n ≡ t → 0 < length (cond t (o ∷ others) others) → (total (lessEach (getD (cond t (o ∷ others) others) 0 noOffer .amounts) ps) ≡ 0 → ⊥)
+      go : (t : Bool) → eqb (o .number) n ≡ t → 0 < length (cond t (o ∷ others) others)
+          → (total (lessEach (getD (cond t (o ∷ others) others) 0 noOffer .amounts) ps) ≡ 0 → ⊥)
           → (0 < length others → (total (lessEach (offerNumbered n os .amounts) ps) ≡ 0 → ⊥)
           → offerNumbered n (offersLess n ps os) ≡ offerLess (offerNumbered n os) ps)
           → offerNumbered n (cond t (cond (eqb (total (lessEach (o .amounts) ps)) 0) os (offerLess o ps ∷ os)) (o ∷ offersLess n ps os))
