@@ -2,7 +2,7 @@
 use Prim.Native.Nat.{ℕ}
 use mathlib.Core.Path.{_≡_}
 use mathlib.Core.List.{List, [], _∷_}
-use Rattle.measures.specs.Sharing.{parts}
+use Rattle.measures.specs.Sharing.{parts, lessEach}
 
 pub record Shared : Type 0 where
   pub amount : ℕ
@@ -20,6 +20,10 @@ figure1 =
     record { amount = 4; over = 3 ∷ 3 ∷ 3 ∷ []; gives = 2 ∷ 1 ∷ 1 ∷ [] }
     ∷ record { amount = 2; over = 1 ∷ 2 ∷ 2 ∷ []; gives = 0 ∷ 1 ∷ 1 ∷ [] }
     ∷ []
+
+-- what 4 over 3,3,3 leaves, which 2 are then shared over
+abbrev pub LeftByFigure1 : Type 0
+LeftByFigure1 = lessEach (3 ∷ 3 ∷ 3 ∷ []) (parts 4 (3 ∷ 3 ∷ 3 ∷ [])) ≡ 1 ∷ 2 ∷ 2 ∷ []
 
 -- and shares that tell the rule from others: equal fractions by lowest place, not to the larger amount; fractions compared exactly; an
 -- amount over R
