@@ -74,6 +74,10 @@ abbrev pub Meets : List ℕ → List ℕ → ℕ → Order → Matched → List 
 Meets m rows n i a m′ rows′ =
     Matches m rows n (fit m n rows) (meet i (ordersIn m n) .rows) (meet i (ordersIn m n) .orders) (meet i (ordersIn m n) .left) a m′ rows′
 
+-- what would be left of an incoming order if it met the n orders; all of it where none stands there
+unfoldable pub leftOver : List ℕ → ℕ → Order → ℕ
+leftOver m n i = cond (placeIn m n 0) (meet i (ordersIn m n) .left) (i .quantity)
+
 -- a period of the n orders was cleared
 abbrev pub Clears : List ℕ → List ℕ → ℕ → ℕ → Matched → List ℕ → List ℕ → Type 0
 Clears m rows n period a m′ rows′ =

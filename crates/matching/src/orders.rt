@@ -160,7 +160,7 @@ fn remove_at(orders: &mut [u64], n: usize, k: usize)
 }
 
 // Whether place k is one of the first n orders, which all stand there.
-fn is_place(orders: &[u64], n: usize, k: usize) -> bool
+pub(crate) fn is_place(orders: &[u64], n: usize, k: usize) -> bool
     ensures { λ r. ⌜ r ≡ placeIn (now (orders .entry)) n k ⌝ }
 {
     if n > Order::MOST as usize {

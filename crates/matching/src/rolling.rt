@@ -9,15 +9,15 @@ use crate::orders::Order;
 use crate::orders::Row;
 use measures::Energy;
 ghost use mathlib.Core.Path.{_≡_};
-ghost use mathlib.Core.Bool.{true};
+ghost use mathlib.Core.Bool.{true, cond};
 ghost use mathlib.Core.List.{List, [], _∷_, _++_};
 ghost use Prim.Native.Nat.{ℕ, _+_, _-_, _*_, _<_, _≤_, min};
 ghost use lib.ListN.{length};
 ghost use Rattle.matching.specs.Orders.{Row as RowRecord, rising, numbers};
 ghost use Rattle.matching.specs.Memory.{orderWords, rowWords, asOrder, asRow, orderAt, ordersIn, written};
-ghost use Rattle.matching.specs.Rolling.{matchRow};
+ghost use Rattle.matching.specs.Rolling.{candidate, matchRow, meet};
 ghost use Rattle.matching.specs.inner.Runs.{keyOf, RunsMet, MetInTurn};
-ghost use Rattle.matching.specs.Answers.{Meets};
+ghost use Rattle.matching.specs.Answers.{Meets, leftOver};
 
 // What is left of an incoming order, and how many orders it met.
 pub struct Meeting {
@@ -203,4 +203,62 @@ pub fn meet(orders: &mut [u64], n: usize, incoming: Order, rows: &mut [u64]) -> 
     let standing = crate::rests::leave_rest(orders, n, &met, &taken, meeting.count);
     let left = meeting.left;
     Matched::Done(left, meeting.count, standing)
+}
+
+// Whether an incoming order can meet a waiting one.
+fn can_meet(incoming: Order, o: Order) -> bool
+    ensures { λ r. ⌜ r ≡ candidate (asOrder incoming) (asOrder o) ⌝ }
+{
+    if o.period != incoming.period {
+        return false;
+    }
+    if incoming.direction == 1 {
+        if o.direction != 0 {
+            return false;
+        }
+        return incoming.price.meets(o.price);
+    }
+    if incoming.direction != 0 {
+        return false;
+    }
+    if o.direction != 1 {
+        return false;
+    }
+    o.price.meets(incoming.price)
+}
+
+// What is left of `left` if the incoming order meets the one at place k too.
+fn left_past(orders: &[u64], k: usize, incoming: Order, left: Energy) -> Energy
+    requires { ⌜ (orderWords * k + orderWords ≤ length (now orders)) × (k < 256) ⌝ }
+    ensures { λ r. ⌜ r .0 ≡ left .0 - cond (candidate (asOrder incoming) (orderAt (now (orders .entry)) k)) (orderAt (now (orders .entry)) k .quantity) 0 ⌝ }
+{
+    let o = orders::read(orders, k);
+    if !can_meet(incoming, o) {
+        return left;
+    }
+    left.minus(o.quantity)
+}
+
+// What would be left of an incoming order if it met the first n orders: nothing is matched, what it can meet is taken off.
+fn left_behind(orders: &[u64], n: usize, incoming: Order) -> Energy
+    requires { ⌜ (orderWords * n ≤ length (now orders)) × (n ≤ 256) ⌝ }
+    ensures { λ r. ⌜ r .0 ≡ meet (asOrder incoming) (ordersIn (now (orders .entry)) n) .left ⌝ }
+{
+    let mut left = incoming.quantity;
+    let mut k: usize = 0;
+    while k < n {
+        left = left_past(orders, k, incoming, left);
+        k += 1;
+    }
+    left
+}
+
+// The same for any n and any memory: all of it where no order stands there.
+pub fn left_over(orders: &[u64], n: usize, incoming: Order) -> Energy
+    ensures { λ r. ⌜ r .0 ≡ leftOver (now (orders .entry)) n (asOrder incoming) ⌝ }
+{
+    if !orders::is_place(orders, n, 0) {
+        return incoming.quantity;
+    }
+    left_behind(orders, n, incoming)
 }

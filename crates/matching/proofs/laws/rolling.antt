@@ -4,4 +4,5 @@ pub mod MeetingLaws
 pub mod MetLaws
 pub mod TurnLaws
 pub mod RollingLaws
+pub mod LeftOverLaws
 pub mod RollingFigure

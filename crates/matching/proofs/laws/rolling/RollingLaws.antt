@@ -21,7 +21,7 @@ use Rattle.matching.proofs.laws.orders.TakeOffLaws.{lessen-rises}
 use Rattle.matching.proofs.laws.rolling.MeetingLaws.{match, matches-none, matched, matched-after, matched-length}
 
 -- one match and the rest, or none
-matches-case : (P : List Match → Type 0) (q : ℕ) (o : Order) (cs : List Order)
+pub matches-case : (P : List Match → Type 0) (q : ℕ) (o : Order) (cs : List Order)
     → (q ≡ 0 → P []) → ((q ≡ 0 → ⊥) → P (match o (min q (o .quantity)) ∷ matches (q - min q (o .quantity)) cs)) → P (matches q (o ∷ cs))
 unfolding matches
 matches-case P q o cs h k = cond-case P (eqb q 0) [] _ (λ e. h (eqb-true q 0 e)) (λ e. k (eqb-false q 0 e))
