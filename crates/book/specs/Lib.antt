@@ -17,4 +17,5 @@ pub mod Calls
 pub mod Layout
 pub mod Contract
 pub mod InPlace
+pub mod NoPlace
 pub mod inner

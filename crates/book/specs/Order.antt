@@ -38,17 +38,21 @@ orderDeclares b u d p q =
       lowering = λ p′. cond (eqb p′ p) (cond (lowers (unitOf b u .kind) d) q 0) 0;
     }
 
-abbrev pub orderChecks : Book → ℕ → ℕ → ℕ → ℕ → ℕ → ℕ → List Check
-orderChecks b u d p price q lent =
+abbrev pub newOrder : Book → ℕ → ℕ → ℕ → ℕ → ℕ → OpenOrder
+newOrder b u d p price q = orderWith (nextNumber b) u d p price q
+
+-- the checks of an order, with this one as its 17
+abbrev pub orderChecksWith : Check → Book → ℕ → ℕ → ℕ → ℕ → ℕ → ℕ → List Check
+orderChecksWith full b u d p price q lent =
     unknownUnit b u ∷ fewRows lent ∷ badPrice b price ∷ badQuantity q ∷ badPeriod b p ∷ badDirection d
-    ∷ otherDirection b u d p ∷ twoOpen b u p ∷ ordersFull b ∷ numbersUsed b
+    ∷ otherDirection b u d p ∷ twoOpen b u p ∷ full ∷ numbersUsed b
     ∷ hourMisfit b u (orderDeclares b u d p q) ∷ termMisfit b u (orderDeclares b u d p q) ∷ volumeMisfit b u (orderDeclares b u d p q) ∷ []
+
+abbrev pub orderChecks : Book → ℕ → ℕ → ℕ → ℕ → ℕ → ℕ → List Check
+orderChecks b u d p price q lent = orderChecksWith (ordersFull b (newOrder b u d p price q)) b u d p price q lent
 
 unfoldable pub orderRefusal : Book → ℕ → ℕ → ℕ → ℕ → ℕ → ℕ → ℕ
 orderRefusal b u d p price q lent = firstOf (unsound b ∷ orderChecks b u d p price q lent)
-
-abbrev pub newOrder : Book → ℕ → ℕ → ℕ → ℕ → ℕ → OpenOrder
-newOrder b u d p price q = orderWith (nextNumber b) u d p price q
 
 -- "the rest waits"
 unfoldable pub waiting : OpenOrder → List OpenOrder
@@ -64,9 +68,11 @@ orderedInRolling b o =
     let m = meet o (b .orders) in
     accepted (o .number) (m .rows) (numbered (rowsBooked (m .rows) (withOrders b (m .orders ++ waiting (leaving o (m .left))))))
 
-unfoldable pub ordering : Book → ℕ → ℕ → ℕ → ℕ → ℕ → ℕ → Outcome
-ordering b u d p price q lent =
-    let o = newOrder b u d p price q in
+abbrev pub ordered : Book → OpenOrder → Outcome
+ordered b o =
     let called = orderedInCall b o in
     let rolled = orderedInRolling b o in
-    decided (orderRefusal b u d p price q lent) b (cond (eqb (b .phase) callPhase) called rolled)
+    cond (eqb (b .phase) callPhase) called rolled
+
+unfoldable pub ordering : Book → ℕ → ℕ → ℕ → ℕ → ℕ → ℕ → Outcome
+ordering b u d p price q lent = decided (orderRefusal b u d p price q lent) b (ordered b (newOrder b u d p price q))

@@ -9,6 +9,7 @@ use Rattle.measures.specs.Lists.{keep}
 use Rattle.measures.specs.Sharing.{total}
 use Rattle.limits.specs.Units.{daysIn, periods, periodIn, kindIn, generator, capacityIn, assetIn}
 use Rattle.matching.specs.Orders.{Order as OpenOrder, Row, sells, buys}
+use Rattle.matching.specs.Rolling.{meet}
 use Rattle.book.specs.Book.{
   Rules,
   OpenOffer,
@@ -168,12 +169,16 @@ otherDirection b u d p =
 abbrev pub twoOpen : Book → ℕ → ℕ → Check
 twoOpen b u p = check 16 (eqb (b .phase) callPhase && leb 2 (length (ordersOfUnit b u p)))
 
--- 17, tables: "8 offers or 256 orders already open, even if it would match"
+-- 17, tables: "8 offers or 256 orders already open"
 abbrev pub offersFull : Book → Check
 offersFull b = check 17 (leb mostOffers (length (b .offers)))
 
-abbrev pub ordersFull : Book → Check
-ordersFull b = check 17 (leb mostOrders (length (b .orders)))
+-- "Check 17 stays for an order with a remainder, and in the call phase." (paper 02, job 4)
+unfoldable pub needsPlace : Book → OpenOrder → Bool
+needsPlace b o = eqb (b .phase) callPhase || ltb 0 (meet o (b .orders) .left)
+
+abbrev pub ordersFull : Book → OpenOrder → Check
+ordersFull b o = check 17 (leb mostOrders (length (b .orders)) && needsPlace b o)
 
 -- 18, tables: "65,535 numbers used"
 abbrev pub numbersUsed : Book → Check

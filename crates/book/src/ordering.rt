@@ -37,7 +37,7 @@ ghost use Rattle.matching.specs.Orders.{leaving};
 ghost use Rattle.matching.specs.Memory.{asOrder, ordersIn};
 ghost use Rattle.book.specs.Book.{numbered};
 ghost use Rattle.book.specs.Layout.{DAYS, PHASE, GIVEN, UNITS, ORDERS, amountsStart, word, ordersPart, decode, Aside};
-ghost use Rattle.book.specs.Refusals.{firstOf, markedAgainst};
+ghost use Rattle.book.specs.Refusals.{firstOf, markedAgainst, ordersFull};
 ghost use Rattle.book.specs.inner.Readable.{Readable};
 ghost use Rattle.book.specs.Contract.{soundIn};
 ghost use Rattle.book.specs.Order.{orderChecks, newOrder, orderedInCall, waiting};
@@ -145,10 +145,10 @@ fn counted(book: &[u64], stand: u64) -> u64
     requires { ⌜ Readable (now book) ⌝ }
     ensures { λ r. ⌜ r ≡ cond (eqb (word (now (book .entry)) PHASE) 0) stand 0 ⌝ }
 {
-    if book[PHASE] == 0 {
-        return stand;
+    if book[PHASE] != 0 {
+        return 0;
     }
-    0
+    stand
 }
 
 // Whether today's mark has the other direction.
@@ -162,11 +162,38 @@ fn marked_against(direction: u64, mark: u64) -> bool
     mark == 2 - direction
 }
 
+// Whether 256 orders stand open and this one, or some of it, would wait. Its number is not given yet; matching does not ask
+// for it.
+fn lacks_place(book: &[u64], wanted: Wanted) -> bool
+    requires { ⌜ Readable (now book) ⌝ }
+    ensures { λ r. ⌜ r ≡ ordersFull (decode (now (book .entry))) (newOrder (decode (now (book .entry))) (wanted .unit) (wanted .direction) (wanted .period)
+        (wanted .price .0) (wanted .quantity .0)) .applies ⌝ }
+{
+    if book[ORDERS] < Order::MOST {
+        return false;
+    }
+    if book[PHASE] == 0 {
+        return true;
+    }
+    let o = Order::fresh(
+        0,
+        wanted.unit,
+        wanted.direction,
+        wanted.period,
+        wanted.price,
+        wanted.quantity,
+    );
+    let n = book[ORDERS] as usize;
+    let left = matching::rolling::left_over(&book[ORDER_TABLE..AMOUNTS], n, o);
+    !left.is_zero()
+}
+
 // The checks of the day and the tables.
 fn order_days(book: &[u64], wanted: Wanted) -> u64
     requires { ⌜ (Readable (now book)) × (1 ≤ wanted .unit) × (wanted .unit ≤ word (now book) UNITS) × (wanted .direction ≤ 1)
         × (wanted .period < 24 * word (now book) DAYS) ⌝ }
-    ensures { λ r. ⌜ r ≡ firstOf (dayChecks (decode (now (book .entry))) (wanted .unit) (wanted .direction) (wanted .period)) ⌝ }
+    ensures { λ r. ⌜ r ≡ firstOf (dayChecks (decode (now (book .entry))) (wanted .unit) (wanted .direction) (wanted .period) (wanted .price .0)
+        (wanted .quantity .0)) ⌝ }
 {
     let seen = unit_orders(book, wanted.unit, wanted.direction, wanted.period);
     if 0 < seen.against {
@@ -183,7 +210,7 @@ fn order_days(book: &[u64], wanted: Wanted) -> u64
     if 1 < two {
         return 16;
     }
-    if Order::MOST <= book[ORDERS] {
+    if lacks_place(book, wanted) {
         return 17;
     }
     if Offer::NUMBERS <= book[GIVEN] {
@@ -299,7 +326,7 @@ fn meet_orders(book: &mut [u64], o: Order, rows: &mut [u64]) -> Rest
 
 // "the rest waits"
 fn rest_waits(book: &mut [u64], o: Order, left: Energy)
-    requires { ⌜ (amountsStart ≤ length (now book)) × (word (now book) ORDERS < 256) ⌝ }
+    requires { ⌜ (amountsStart ≤ length (now book)) × (0 < left .0 → word (now book) ORDERS < 256) ⌝ }
     ensures { λ _. ⌜ OrdersPut (now (book .entry)) (now (book .exit)) (ordersIn (ordersPart (now (book .entry))) (word (now (book .entry)) ORDERS)
         ++ waiting (leaving (asOrder o) (left .0))) ⌝ }
 {

@@ -234,9 +234,15 @@ fn states_days_and_tables() {
     lent.refuses(17, |lent| lent.order(2, BUY, 255, 500, 101));
     assert_eq!(lent::clear(&mut lent.book, &mut lent.rows), Ok(0));
     lent.refuses(14, |lent| lent::clear(&mut lent.book, &mut lent.rows));
-    // Freed places serve again.
-    assert_eq!(lent::cancel(&mut lent.book, 1, 2), Ok(()));
+    // With 256 open an order passes that trades whole, and none with a rest, though its matches would free places.
+    lent.refuses(17, |lent| lent.order(2, BUY, 0, 500, 3));
+    lent.refuses(17, |lent| lent.order(2, BUY, 0, 499, 1));
     assert_eq!(lent.order(2, BUY, 0, 500, 1), Ok((265, 1)));
+    assert_eq!(lent.order(1, SELL, 255, 500, 1), Ok((266, 0)));
+    lent.refuses(17, |lent| lent.order(1, SELL, 255, 500, 101));
+    // Freed places serve again.
+    assert_eq!(lent::cancel(&mut lent.book, 1, 266), Ok(()));
+    assert_eq!(lent.order(2, BUY, 0, 500, 2), Ok((267, 1)));
 }
 
 #[test]

@@ -1,5 +1,5 @@
 //! Order with its matching, and clear.
-//! Paper: "Order" and "Clear" in "The eight calls"; checks 15 and 16.
+//! Papers: "Order" and "Clear" in "The eight calls"; checks 15 and 16; 02, Job 4, for check 17.
 
 use crate::book::{Book, Order, BUY, CALL, ROLLING, SELL};
 use crate::calls::{check, energy_in_range, Answer, Row, ROWS_LENT};
@@ -30,14 +30,14 @@ impl Book {
         let marked = figures.marked(if direction == SELL { BUY } else { SELL });
         check(other == 0 && !marked, 15)?;
         check(self.phase == ROLLING || open < 2, 16)?;
-        check(self.orders.len() < Order::MOST, 17)?;
+        let number = self.given + 1;
+        let mut incoming = Order { number, unit, direction, period, price, quantity };
+        check(self.orders.len() < Order::MOST || self.trades_whole(&incoming), 17)?;
         check(self.given < Book::MOST_NUMBERS, 18)?;
         let mut open = Open::of(self, unit);
         open.add(self.unit(unit).raises(direction), period as usize, quantity);
         self.fit(unit, &open)?;
-        self.given += 1;
-        let number = self.given;
-        let mut incoming = Order { number, unit, direction, period, price, quantity };
+        self.given = number;
         let rows = if self.phase == CALL { Vec::new() } else { self.meet(&mut incoming) };
         if incoming.quantity > 0 {
             self.orders.push(incoming);
@@ -58,6 +58,13 @@ impl Book {
             }
         }
         (other, open)
+    }
+
+    /// Would nothing of an incoming order wait?
+    fn trades_whole(&self, incoming: &Order) -> bool {
+        let counterparts = self.counterparts(incoming);
+        let met: u64 = counterparts.iter().map(|&place| self.orders[place].quantity).sum();
+        self.phase == ROLLING && met >= incoming.quantity
     }
 
     /// Matches an incoming order with the waiting ones and lessens both.

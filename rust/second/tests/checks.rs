@@ -108,6 +108,34 @@ fn order() {
     }
 }
 
+/// Paper 02, Job 4: with 256 open, what trades whole in the rolling phase passes, and nothing else.
+#[test]
+fn order_with_256_open() {
+    let mut full = book();
+    full.orders.extend(sells(1, 256));
+    full.given = 256;
+    let tries = [
+        (ROLLING, 7, 9, 256, None),
+        (ROLLING, 7, 9, 1, None),
+        (ROLLING, 7, 9, 257, Some(17)),
+        (ROLLING, 7, 8, 1, Some(17)),
+        (ROLLING, 8, 9, 1, Some(17)),
+        (CALL, 7, 9, 1, Some(17)),
+        // Before the limit of 1,000 in an hour.
+        (ROLLING, 7, 9, 1_001, Some(17)),
+    ];
+    for (phase, period, price, quantity, refusal) in tries {
+        let mut book = Book { phase, ..full.clone() };
+        assert!(sound(&book));
+        let made = book.order(3, BUY, period, price, quantity, ROWS_LENT);
+        assert_eq!(made.as_ref().err(), refusal.as_ref());
+        if let Ok(answer) = made {
+            assert_eq!((answer.number, answer.rows.len() as u64), (257, quantity));
+            assert_eq!(book.orders.len() as u64, 256 - quantity);
+        }
+    }
+}
+
 #[test]
 fn offer() {
     let mut book = book();

@@ -18,18 +18,19 @@ pub fn run_deep(engine: Engine, seed: u64, books: u64, counts: &mut Counts) -> R
         if !sound(&book) {
             continue;
         }
+        let before = book.orders.len();
         trial.forge(book);
         let made = trial.call(&call, words(1), &mut random);
         let (told, written) =
             made.map_err(|fault| format!("{fault}: {call:?}; deep book {at} seed {seed}"))?;
         counts.deep += 1;
-        counts.count(&call, told, &written, &trial.second);
+        counts.count(&call, told, &written, before, &trial.second);
     }
     Ok(())
 }
 
-/// A book of a day with orders in few periods, which nearly always is sound, and a call on it: a clear, or an order
-/// that crosses many.
+/// A book of a day with orders in few periods, which nearly always is sound, and a call on it: in the call phase mostly a
+/// clear, else an order that crosses many.
 fn deep(random: &mut Random) -> (Book, Call) {
     let phase = random.of(&[CALL, ROLLING]);
     let periods = random.of(&[1, 1, 2, 24]);
@@ -50,20 +51,25 @@ fn deep(random: &mut Random) -> (Book, Call) {
     };
     let orders: Vec<Order> = (1..=count).map(draw).collect();
     let call = match phase {
-        CALL => Call::Clear { lent: ROWS_LENT },
+        CALL if random.to(3) > 0 => Call::Clear { lent: ROWS_LENT },
         _ => meeting(&orders, prices, random),
     };
     (book(1, 64, phase, orders), call)
 }
 
-/// An order of one of the last two units, which have none, against one of those that wait.
+/// An order of one of the last two units, which have none, against one of those that wait: for a part of what crosses it,
+/// for all of it, for a kWh less or more, or for more than its hour lets.
 fn meeting(orders: &[Order], prices: u64, random: &mut Random) -> Call {
     let met = random.of(orders);
     let (unit, direction) = if met.direction == SELL { (64, BUY) } else { (63, SELL) };
     let all = if direction == BUY { 1_000 + 2 * prices + 1 } else { 1_000 };
     let price = random.of(&[met.price, all]);
-    let open: u64 = orders.iter().map(|order| order.quantity).sum();
+    let crosses = |order: &&Order| {
+        let [bid, ask] = if direction == BUY { [price, order.price] } else { [order.price, price] };
+        order.direction != direction && order.period == met.period && bid >= ask
+    };
+    let open: u64 = orders.iter().filter(crosses).map(|order| order.quantity).sum();
     let some = 1 + random.to(open);
-    let quantity = random.of(&[some, open]);
+    let quantity = random.of(&[some, open, open, open + 1, open.max(2) - 1, 2_000_000]);
     Call::Order { unit, direction, period: met.period, price, quantity, lent: ROWS_LENT }
 }

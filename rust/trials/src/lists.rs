@@ -4,7 +4,7 @@ use crate::damaged;
 use crate::engine::{Engine, Told, Trial};
 use crate::layout::words;
 use crate::random::Random;
-use second::book::{Book, MOST_PRICE};
+use second::book::{Book, Order, MOST_PRICE, ROLLING};
 use second::calls::{Call, POINTS_LENT, ROWS_LENT};
 use second::generate::Generator;
 use second::limits::days_in_range;
@@ -49,6 +49,8 @@ pub struct Counts {
     pub edges: u64,
     /// Calls on deep books.
     pub deep: u64,
+    /// Orders with 256 open: those that traded whole, those of which some would wait, and those in the call phase.
+    pub full: [u64; 3],
 }
 
 impl Counts {
@@ -69,9 +71,25 @@ impl Counts {
             .fold([0; 2], |[all, unsound], more| [all + more[0], unsound + more[1]])
     }
 
-    pub(crate) fn count(&mut self, call: &Call, told: Told, written: &[u64], book: &Book) {
+    /// Counts a call, by how many orders were open before it and the book after it.
+    pub(crate) fn count(
+        &mut self,
+        call: &Call,
+        told: Told,
+        written: &[u64],
+        before: usize,
+        book: &Book,
+    ) {
         let name = name(call);
         *self.calls.entry((name, told.refusal)).or_default() += 1;
+        if before == Order::MOST && matches!(call, Call::Order { .. }) {
+            match (told.refusal, book.phase) {
+                (0, _) => self.full[0] += 1,
+                (17, ROLLING) => self.full[1] += 1,
+                (17, _) => self.full[2] += 1,
+                _ => {}
+            }
+        }
         match *call {
             Call::Curve { .. } => self.curves += u64::from(told.refusal == 0),
             Call::Open { days, .. } if told.refusal == 0 => {
@@ -106,6 +124,9 @@ impl fmt::Display for Counts {
         writeln!(f, "; most of a call {:?}", self.most_rows)?;
         write!(f, "curves {}, terms of {} lengths", self.curves, self.days.len())?;
         writeln!(f, ", calls on deep books {}", self.deep)?;
+        let [whole, rest, call] = self.full;
+        write!(f, "orders with 256 open: whole {whole}, with a rest {rest}")?;
+        writeln!(f, ", in the call phase {call}")?;
         write!(f, "most units {}, offers {}", self.most_units, self.most_offers)?;
         writeln!(f, ", orders {}, numbers of a day {}", self.most_orders, self.most_given)?;
         let [damaged, unsound] = self.damages();
@@ -194,10 +215,11 @@ fn step(
 ) -> Result<(), String> {
     let (call, length) = lend(generator.call(&trial.second), trial, random);
     let short = !matches!(call, Call::Open { .. }) && length < trial.needed();
+    let before = trial.second.orders.len();
     let made = trial.call(&call, length, random);
     let (told, written) = made.map_err(|fault| format!("{fault}: {call:?}"))?;
     counts.short += u64::from(short);
-    counts.count(&call, told, &written, &trial.second);
+    counts.count(&call, told, &written, before, &trial.second);
     Ok(())
 }
 

@@ -71,13 +71,14 @@ fn all_numbers_of_a_day() {
     }
 }
 
-/// Orders that meet up to 255, and clears of up to 256 orders.
+/// Orders that meet up to 256, and clears of up to 256 orders; orders with 256 open, of which nothing, some or all waits.
 #[test]
 fn deep_books() {
     let mut counts = Counts::default();
     run_deep(PLAN.engine, 8, 20_000, &mut counts).unwrap();
     print!("{counts}");
-    assert!(counts.most_rows["order"] > 200 && counts.most_rows["clear"] > 200);
+    assert!(counts.most_rows["order"] == 256 && counts.most_rows["clear"] > 200);
+    assert!(counts.full.iter().all(|&orders| orders > 300), "{:?}", counts.full);
 }
 
 /// Takes from eight listings, each word of them looked at.

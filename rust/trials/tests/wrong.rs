@@ -3,6 +3,7 @@
 use second::book::{BUY, ROLLING};
 use second::calls::Call;
 use second::manners::{Manner, MANNERS};
+use trials::deep::run_deep;
 use trials::engine::{Engine, Told};
 use trials::exported;
 use trials::layout::{
@@ -219,6 +220,62 @@ fn wrong_engines_are_found() {
         let found = found.unwrap_or_else(|| panic!("{name} was not found"));
         println!("{name}: after {} calls and {} damaged books", counts.made(), counts.damages()[0]);
         assert!(found.starts_with(fault), "{name}: {found}");
+    }
+}
+
+/// The same call while the last of 256 open orders is not counted.
+fn with_a_place(call: &Call, book: &mut [u64], rows: &mut [u64]) -> Told {
+    with(call, book, rows, &[(ORDER_COUNT, 255)])
+}
+
+/// Check 17 of an order with one fault each: what an engine tells that found 256 orders open, by what it should tell.
+const WRONG_PLACES: [(&str, Engine); 4] = [
+    ("an order with a remainder let through", |call, book, rows| {
+        let told = exported::make(call, book, rows);
+        let rest = told.refusal == 17 && book[PHASE] == ROLLING;
+        if rest {
+            with_a_place(call, book, rows)
+        } else {
+            told
+        }
+    }),
+    ("a full table in the call phase passed", |call, book, rows| {
+        let told = exported::make(call, book, rows);
+        let waits = told.refusal == 17 && book[PHASE] != ROLLING;
+        if waits {
+            with_a_place(call, book, rows)
+        } else {
+            told
+        }
+    }),
+    ("17 judged after the limits", |call, book, rows| {
+        let told = exported::make(call, book, rows);
+        if told.refusal == 17 {
+            let other = with_a_place(call, &mut book.to_vec(), &mut rows.to_vec());
+            return if other.refusal > 0 { other } else { told };
+        }
+        told
+    }),
+    ("an exact fill refused", |call, book, rows| {
+        let full = book[ORDER_COUNT] == 256 && matches!(call, Call::Order { .. });
+        let (mut after, mut handed) = (book.to_vec(), rows.to_vec());
+        let told = exported::make(call, &mut after, &mut handed);
+        if full && told.refusal == 0 {
+            return Told::of(17);
+        }
+        book.copy_from_slice(&after);
+        rows.copy_from_slice(&handed);
+        told
+    }),
+];
+
+#[test]
+fn wrong_places_are_found() {
+    for (name, engine) in WRONG_PLACES {
+        let mut counts = Counts::default();
+        let found = run_deep(engine, 4, 2_000, &mut counts).expect_err(name);
+        println!("{name}: after {} deep books", counts.deep);
+        assert!(found.starts_with("another refusal"), "{name}: {found}");
     }
 }
 

@@ -2,6 +2,8 @@ pub mod OrderCheckLaws
 pub mod OrderFitLaws
 pub mod OrderingLaws
 pub mod RolledLaws
+pub mod PlaceNeedLaws
+pub mod NoPlaceLaws
 pub mod RollCallLaws
 pub mod RestWaitLaws
 pub mod WaitLaws

@@ -35,8 +35,8 @@ unfoldable pub nameChecks : Book → ℕ → ℕ → ℕ → ℕ → ℕ → ℕ
 nameChecks b u d p price q lent =
     unknownUnit b u ∷ fewRows lent ∷ badPrice b price ∷ badQuantity q ∷ badPeriod b p ∷ badDirection d ∷ []
 
-unfoldable pub dayChecks : Book → ℕ → ℕ → ℕ → List Check
-dayChecks b u d p = otherDirection b u d p ∷ twoOpen b u p ∷ ordersFull b ∷ numbersUsed b ∷ []
+unfoldable pub dayChecks : Book → ℕ → ℕ → ℕ → ℕ → ℕ → List Check
+dayChecks b u d p price q = otherDirection b u d p ∷ twoOpen b u p ∷ ordersFull b (newOrder b u d p price q) ∷ numbersUsed b ∷ []
 
 unfoldable pub orderFitChecks : Book → ℕ → ℕ → ℕ → ℕ → List Check
 orderFitChecks b u d p q =

@@ -300,7 +300,10 @@ fn matched() -> Vec<Matched> {
             cases.push((format!("take of 744, {units} units, {manner}"), book, call));
         }
     }
-    for sells in [16, 64, 255] {
+    for open in [255, 256] {
+        cases.push((format!("order that meets 1 of {open}"), waiting(open), sweep(1)));
+    }
+    for sells in [16, 64, 255, 256] {
         cases.push((format!("order that meets {sells}"), waiting(sells), sweep(sells)));
     }
     let manners = [
@@ -399,7 +402,7 @@ fn stacks(text: &mut String) {
         let mut cases = vec![(book, call)];
         match name {
             TAKE => cases.push(month(64, MONTHS[2].1)),
-            "order" => cases.push((waiting(255), sweep(255))),
+            "order" => cases.push((waiting(256), sweep(256))),
             "clear" => cases.push((crossing(256, 1, false), Call::Clear { lent: ROWS_LENT })),
             _ => {}
         }

@@ -67,7 +67,7 @@ order-in-call-requires c κs =
       (sym (c8 .sound-book .ensures) ∙ not-false _ (c7 .if1 .left)),
       orders-left (c12 .args .book .now) (c12 .args .rows .now) (c12 .args .unit)
           (c12 .args .direction) (c12 .args .period) (c12 .args .price) (c12 .args .quantity) (sym (c8 .sound-book .ensures)
-          ∙ not-false _ (c7 .if1 .left)) (sym (c4 .if2 .left) ∙ c5 .order-checks .ensures),
+          ∙ not-false _ (c7 .if1 .left)) (sym (c4 .if2 .left) ∙ c5 .order-checks .ensures) (c .before .if3 .taken),
       number-left (c12 .args .book .now) (c12 .args .rows .now)
           (c12 .args .unit) (c12 .args .direction) (c12 .args .period) (c12 .args .price) (c12 .args .quantity) (sym (c8 .sound-book .ensures)
           ∙ not-false _ (c7 .if1 .left)) (sym (c4 .if2 .left) ∙ c5 .order-checks .ensures),

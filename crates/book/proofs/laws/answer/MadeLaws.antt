@@ -26,7 +26,7 @@ use Rattle.book.specs.Enrol.{enrolment, enrolRefusal, enrolChecks, enrol
 use Rattle.book.specs.Offer.{offering, offerRefusal, offerChecks, offered}
 use Rattle.book.specs.Take.{taking, takeRefusal, takeChecks, takenParts, takeRows, offersLess}
 use Rattle.book.specs.Withdraw.{withdrawal, withdrawRefusal, withdrawChecks}
-use Rattle.book.specs.Order.{ordering, orderRefusal, orderChecks, newOrder, orderedInCall, orderedInRolling}
+use Rattle.book.specs.Order.{ordering, orderRefusal, orderChecks, newOrder, orderedInCall, orderedInRolling, ordered}
 use Rattle.book.specs.Cancel.{cancellation, cancelRefusal, cancelChecks}
 use Rattle.book.specs.Clear.{clearing, clearRefusal, clearChecks}
 use Rattle.book.specs.Close.{closing, dayClosed}
@@ -135,10 +135,7 @@ effectOf b (callTake unit number quantity lent) =
     (rowsBooked (takeRows b (offerOf b number) unit (takenParts b number quantity))
     (withOffers b (offersLess number (takenParts b number quantity) (b .offers))))
 effectOf b (callWithdraw unit number) = accepted 0 [] (withOffers b (keep (λ o. not (eqb (o .number) number)) (b .offers)))
-effectOf b (callOrder unit direction period price quantity lent) =
-    cond (eqb (b .phase) callPhase)
-    (orderedInCall b (newOrder b unit direction period price quantity))
-    (orderedInRolling b (newOrder b unit direction period price quantity))
+effectOf b (callOrder unit direction period price quantity lent) = ordered b (newOrder b unit direction period price quantity)
 effectOf b (callCancel unit number) = accepted 0 [] (withOrders b (keep (λ o. not (eqb (o .number) number)) (b .orders)))
 effectOf b (callClear lent) =
     accepted 0 (clearFrom 0 (periods (b .rules .days)) (b .orders) .rows)

@@ -19,10 +19,10 @@ use Rattle.matching.proofs.laws.clearing.ClearingLaws.{AskOf, BidOf, row-sides}
 use Rattle.matching.proofs.laws.clearing.RestLaws.{numbers-rise-after, rests-each, rests-two, rests-positive}
 use Rattle.matching.proofs.laws.clearing.CrossLaws.{nothing-crosses-after}
 use Rattle.matching.proofs.laws.orders.ExchangeLaws.{Exchanged, exchanged-none, exchanged-append, period-exchanged}
-use Rattle.book.specs.Book.{Book, rollingPhase}
+use Rattle.book.specs.Book.{Book, rollingPhase, mostOrders}
 use Rattle.book.specs.Sound.{apart, eachTwo, sound}
 use Rattle.book.specs.Clear.{clearRefusal, clearing}
-use Rattle.matching.proofs.laws.lists.RemainLaws.{each-holds, each-imp, Remains, remains-all, remains-each}
+use Rattle.matching.proofs.laws.lists.RemainLaws.{each-holds, each-imp, Remains, remains-all, remains-each, remains-length}
 use Rattle.book.proofs.laws.sound.SoundLaws.{OrderRanges, Sound, sound-facts}
 use Rattle.book.proofs.laws.answer.RefusalLaws.{decided-sound}
 use Rattle.matching.proofs.laws.orders.LeftLaws.{LessOrder, same-order, remains-then, less-then, cleared-remain}
@@ -157,5 +157,6 @@ clearing-sound b lent e =
     (λ z.
     let s = sound-facts b e in
     let c = clear-clears b s in
-    exchanged-sound b (after b s .orders) (after b s .rows) rollingPhase s (c .remain) (c .exchanged)
-    (two-named (length (b .units)) (after b s .rows) (c .units)) (omega arith) (λ r. clear-apart b s))
+    let h = s .formed .head .orders in
+    exchanged-sound mostOrders b (after b s .orders) (after b s .rows) rollingPhase s (c .remain) (c .exchanged)
+    (two-named (length (b .units)) (after b s .rows) (c .units)) (omega (arith, remains-length LessOrder (c .remain))) (omega arith) (λ r. clear-apart b s))

@@ -49,7 +49,7 @@ use Rattle.book.specs.Layout.{
   ordersPart,
   decode,
 }
-use Rattle.book.specs.Order.{orderChecks}
+use Rattle.book.specs.Order.{orderChecks, newOrder}
 use Rattle.book.specs.inner.Ordering.{nameChecks, dayChecks, orderFitChecks, NameChecked, ofUnitAt, againstAt}
 use Rattle.book.proofs.laws.memory.RangeFacts.{units-held, orders-held, order-word}
 use Rattle.book.proofs.laws.check.NumberLaws.{orders-from}
@@ -264,11 +264,11 @@ mark-one (suc zero) mark h n = rw (ne-eqb mark 3 n) (sym (or-none (eqb mark 1)))
 mark-one (suc (suc d)) mark h n = absurd (omega arith)
 
 -- the second part, by cases
-module _ (m : List ℕ) (u d p : ℕ) (few : word m ORDERS ≤ 256) (hu : In 1 (word m UNITS) u) (hd : d ≤ 1) (hp : p < 24 * word m DAYS) where
+module _ (m : List ℕ) (u d p price q : ℕ) (few : word m ORDERS ≤ 256) (hu : In 1 (word m UNITS) u) (hd : d ≤ 1) (hp : p < 24 * word m DAYS) where
   mark-held : figuresOf (decode m) u p .mark ≡ word m (figurePlace (u - 1) p + MARK)
   mark-held = ap (λ (f : Figures). f .mark) (figures-at m u p hu hp)
 
-  pub days-against : (a : ℕ) → a ≡ sum (word m ORDERS) (againstAt m u d p) → 0 < a → 15 ≡ firstOf (dayChecks (decode m) u d p)
+  pub days-against : (a : ℕ) → a ≡ sum (word m ORDERS) (againstAt m u d p) → 0 < a → 15 ≡ firstOf (dayChecks (decode m) u d p price q)
   unfolding dayChecks
   days-against a e h =
       applies-first (otherDirection (decode m) u d p) _
@@ -276,7 +276,7 @@ module _ (m : List ℕ) (u d p : ℕ) (few : word m ORDERS ≤ 256) (hu : In 1 (
       (markedAgainst d (figuresOf (decode m) u p .mark))
       (lt-ltb 0 (length (keep (λ (o : OpenOrder). not (eqb (o .direction) d)) (ordersOfUnit (decode m) u p))) (rw (against-count m u d p few, ← e) h)))
 
-  pub days-mark : (r : Bool) → r ≡ markedAgainst d (word m (figurePlace (u - 1) p + MARK)) → r ≡ true → 15 ≡ firstOf (dayChecks (decode m) u d p)
+  pub days-mark : (r : Bool) → r ≡ markedAgainst d (word m (figurePlace (u - 1) p + MARK)) → r ≡ true → 15 ≡ firstOf (dayChecks (decode m) u d p price q)
   unfolding dayChecks
   days-mark r e t =
       applies-first (otherDirection (decode m) u d p) _
@@ -304,7 +304,7 @@ module _ (m : List ℕ) (u d p : ℕ) (few : word m ORDERS ≤ 256) (hu : In 1 (
       unfolding decode
       two-applies = ap (λ (x : ℕ). eqb (word m PHASE) 0 && leb 2 x) stand-is
 
-      pub days-two : 1 < r → 16 ≡ firstOf (dayChecks (decode m) u d p)
+      pub days-two : 1 < r → 16 ≡ firstOf (dayChecks (decode m) u d p price q)
       unfolding dayChecks
       days-two h =
           passes-first (otherDirection (decode m) u d p) _ 16 other-no
@@ -314,35 +314,33 @@ module _ (m : List ℕ) (u d p : ℕ) (few : word m ORDERS ≤ 256) (hu : In 1 (
         two-no : twoOpen (decode m) u p .applies ≡ false
         two-no = two-applies ∙ two-is (eqb (word m PHASE) 0) er .1 nr
 
-        pub days-full : 256 ≤ word m ORDERS → 17 ≡ firstOf (dayChecks (decode m) u d p)
+        abbrev full : Check
+        full = ordersFull (decode m) (newOrder (decode m) u d p price q)
+
+        pub days-full : full .applies ≡ true → 17 ≡ firstOf (dayChecks (decode m) u d p price q)
         unfolding dayChecks
         days-full h =
-            passes-first (otherDirection (decode m) u d p) _ 17 other-no
-            (passes-first (twoOpen (decode m) u p) _ 17 two-no
-            (applies-first (ordersFull (decode m)) _ (le-leb 256 (length (decode m .orders)) (rw (orders-held m) h))))
+            passes-first (otherDirection (decode m) u d p) _ 17 other-no (passes-first (twoOpen (decode m) u p) _ 17 two-no (applies-first full _ h))
 
-        module _ (nf : word m ORDERS < 256) where
-          full-no : ordersFull (decode m) .applies ≡ false
-          full-no = lt-leb 256 (length (decode m .orders)) (rw (orders-held m) nf)
-
+        module _ (full-no : full .applies ≡ false) where
           given-is : decode m .given ≡ word m GIVEN
           unfolding decode
           given-is = refl
 
-          pub days-used : 65535 ≤ word m GIVEN → 18 ≡ firstOf (dayChecks (decode m) u d p)
+          pub days-used : 65535 ≤ word m GIVEN → 18 ≡ firstOf (dayChecks (decode m) u d p price q)
           unfolding dayChecks
           days-used h =
               passes-first (otherDirection (decode m) u d p) _ 18 other-no
               (passes-first (twoOpen (decode m) u p) _ 18 two-no
-              (passes-first (ordersFull (decode m)) _ 18 full-no
+              (passes-first full _ 18 full-no
               (applies-first (numbersUsed (decode m)) [] (le-leb 65535 (decode m .given) (rw given-is h)))))
 
-          pub days-pass : word m GIVEN < 65535 → 0 ≡ firstOf (dayChecks (decode m) u d p)
+          pub days-pass : word m GIVEN < 65535 → 0 ≡ firstOf (dayChecks (decode m) u d p price q)
           unfolding dayChecks
           days-pass h =
               passes-first (otherDirection (decode m) u d p) _ 0 other-no
               (passes-first (twoOpen (decode m) u p) _ 0 two-no
-              (passes-first (ordersFull (decode m)) _ 0 full-no
+              (passes-first full _ 0 full-no
               (passes-first (numbersUsed (decode m)) [] 0 (lt-leb 65535 (decode m .given) (rw given-is h)) none-first)))
 
 -- the count by phase
@@ -356,20 +354,20 @@ counted-rolling x s n = rw (ne-eqb x 0 n) refl
 module _ (b : Book) (u d p price q lent r : ℕ) where
   pub order-names-first : (r ≡ 0 → ⊥) → r ≡ firstOf (nameChecks b u d p price q lent) → r ≡ firstOf (orderChecks b u d p price q lent)
   unfolding nameChecks dayChecks orderFitChecks
-  order-names-first n e = first-part (nameChecks b u d p price q lent) (dayChecks b u d p ++ orderFitChecks b u d p q) r n e
+  order-names-first n e = first-part (nameChecks b u d p price q lent) (dayChecks b u d p price q ++ orderFitChecks b u d p q) r n e
 
-  pub order-days-first : 0 ≡ firstOf (nameChecks b u d p price q lent) → (r ≡ 0 → ⊥) → r ≡ firstOf (dayChecks b u d p) → r
+  pub order-days-first : 0 ≡ firstOf (nameChecks b u d p price q lent) → (r ≡ 0 → ⊥) → r ≡ firstOf (dayChecks b u d p price q) → r
       ≡ firstOf (orderChecks b u d p price q lent)
   unfolding nameChecks dayChecks orderFitChecks
   order-days-first z n e =
-      next-part (nameChecks b u d p price q lent) (dayChecks b u d p ++ orderFitChecks b u d p q) r
+      next-part (nameChecks b u d p price q lent) (dayChecks b u d p price q ++ orderFitChecks b u d p q) r
       (omega arith, (omega arith, (omega arith, (omega arith, (omega arith, (omega arith, tt)))))) z
-      (first-part (dayChecks b u d p) (orderFitChecks b u d p q) r n e)
+      (first-part (dayChecks b u d p price q) (orderFitChecks b u d p q) r n e)
 
-  pub order-fit-first : 0 ≡ firstOf (nameChecks b u d p price q lent) → 0 ≡ firstOf (dayChecks b u d p) → r ≡ firstOf (orderFitChecks b u d p q) → r
+  pub order-fit-first : 0 ≡ firstOf (nameChecks b u d p price q lent) → 0 ≡ firstOf (dayChecks b u d p price q) → r ≡ firstOf (orderFitChecks b u d p q) → r
       ≡ firstOf (orderChecks b u d p price q lent)
   unfolding nameChecks dayChecks orderFitChecks
   order-fit-first z y e =
-      next-part (nameChecks b u d p price q lent) (dayChecks b u d p ++ orderFitChecks b u d p q) r
+      next-part (nameChecks b u d p price q lent) (dayChecks b u d p price q ++ orderFitChecks b u d p q) r
       (omega arith, (omega arith, (omega arith, (omega arith, (omega arith, (omega arith, tt)))))) z
-      (next-part (dayChecks b u d p) (orderFitChecks b u d p q) r (omega arith, (omega arith, (omega arith, (omega arith, tt)))) y e)
+      (next-part (dayChecks b u d p price q) (orderFitChecks b u d p q) r (omega arith, (omega arith, (omega arith, (omega arith, tt)))) y e)

@@ -7,12 +7,13 @@ use native.Mathlib.Omega.{arith}
 use native.Mathlib.Decide.{ℕ-discrete}
 use lib.ListN.{length}
 use lib.Dec.{eqb, ltb}
-use borrow.Author.Tests.{leb-true, leb-false, ltb-true, ltb-false, eqb-true, eq-eqb, ne-eqb, not-false}
+use borrow.Author.Tests.{leb-true, leb-false, ltb-true, ltb-false, lt-ltb, eqb-true, eq-eqb, ne-eqb, not-false}
 use Rattle.measures.specs.Ranges.{mostEnergy}
 use Rattle.measures.specs.Lists.{Each, keep}
 use Rattle.measures.proofs.RangeLaws.{In, within}
-use Rattle.measures.proofs.ListLaws.{and-true, not-both}
+use Rattle.measures.proofs.ListLaws.{and-true, or-left, or-right, not-both}
 use Rattle.matching.specs.Orders.{Order as OpenOrder, sells}
+use Rattle.matching.specs.Rolling.{meet}
 use Rattle.book.specs.Book.{Book, callPhase, mostOrders, mostNumbers, unitOf, figuresOf}
 use Rattle.book.specs.Trades.{raises, lowers}
 use Rattle.book.specs.Fit.{Declaration, nothing}
@@ -30,6 +31,7 @@ use Rattle.book.specs.Refusals.{
   badDirection,
   otherDirection,
   twoOpen,
+  needsPlace,
   ordersFull,
   numbersUsed,
   hourMisfit,
@@ -76,9 +78,22 @@ one-direction u d p (x ∷ os) e = go (eqb (x .unit) u && eqb (x .period) p) ref
       ih h,
     )
 
-or-neither : (a c : Bool) → (a || c) ≡ false → (a ≡ false) × (c ≡ false)
+pub or-neither : (a c : Bool) → (a || c) ≡ false → (a ≡ false) × (c ≡ false)
 or-neither true c e = absurd (not-both true refl e)
 or-neither false c e = (refl, e)
+
+needed-not : (a c : Bool) → (a && c) ≡ false → c ≡ true → a ≡ false
+needed-not true c e n = absurd (not-both c n e)
+needed-not false c e n = refl
+
+-- an order that would wait needs a place, and so does one with a remainder
+pub call-needs : (b : Book) (o : OpenOrder) → b .phase ≡ callPhase → needsPlace b o ≡ true
+unfolding needsPlace
+call-needs b o c = or-left (eqb (b .phase) callPhase) (ltb 0 (meet o (b .orders) .left)) (eq-eqb (b .phase) callPhase c)
+
+pub rest-needs : (b : Book) (o : OpenOrder) → 0 < meet o (b .orders) .left → needsPlace b o ≡ true
+unfolding needsPlace
+rest-needs b o l = or-right (eqb (b .phase) callPhase) (ltb 0 (meet o (b .orders) .left)) (lt-ltb 0 (meet o (b .orders) .left) l)
 
 module _ (b : Book) (u d p price q : ℕ) where
   -- what an accepted order passed
@@ -86,7 +101,7 @@ module _ (b : Book) (u d p price q : ℕ) where
     pub ranges : OrderRanges (withOrder b (newOrder b u d p price q)) (newOrder b u d p price q)
     pub follows : Each (Follows u d p) (b .orders)
     pub mark : markedAgainst d (figuresOf b u p .mark) ≡ false
-    pub room : length (b .orders) < mostOrders
+    pub room : needsPlace b (newOrder b u d p price q) ≡ true → length (b .orders) < mostOrders
     pub left : b .given < mostNumbers
     pub fits : Fits b u (orderDeclares b u d p q)
 
@@ -107,7 +122,7 @@ module _ (b : Book) (u d p price q : ℕ) where
             let h : n ≤ 0 = ltb-false 0 n (day .0) in
             one-direction u d p (b .orders) (omega arith);
         mark = day .1;
-        room = leb-false _ _ (t .1 .1 .1 .1 .1 .1 .1 .1 .1 .0);
+        room = λ n. leb-false _ _ (needed-not _ _ (t .1 .1 .1 .1 .1 .1 .1 .1 .1 .0) n);
         left = leb-false _ _ (t .1 .1 .1 .1 .1 .1 .1 .1 .1 .1 .0);
         fits =
             fits-with b u (orderDeclares b u d p q) (s .fits u named) (not-false _ (t .1 .1 .1 .1 .1 .1 .1 .1 .1 .1 .1 .0))
@@ -120,7 +135,7 @@ module _ (b : Book) (u d p price q : ℕ) where
 
       t : NoneApplies
           (unsound b ∷ unknownUnit b u ∷ fewRows lent ∷ badPrice b price ∷ badQuantity q ∷ badPeriod b p ∷ badDirection d ∷ otherDirection b u d p
-          ∷ twoOpen b u p ∷ ordersFull b ∷ numbersUsed b ∷ hourMisfit b u e ∷ termMisfit b u e ∷ volumeMisfit b u e ∷ [])
+          ∷ twoOpen b u p ∷ ordersFull b (newOrder b u d p price q) ∷ numbersUsed b ∷ hourMisfit b u e ∷ termMisfit b u e ∷ volumeMisfit b u e ∷ [])
       t = none-applies _ (omega arith) z
 
       named : In 1 (length (b .units)) u
@@ -149,7 +164,8 @@ one-direction-beside o os h =
 
 -- the other units declare nothing by it
 module _ (b : Book) (u d p price q : ℕ) where
-  pub order-fits : Sound b → OrderPassed b u d p price q → (v : ℕ) → In 1 (length (b .units)) v → Fits (withOrder b (newOrder b u d p price q)) v nothing
+  pub order-fits : Sound b → Fits b u (orderDeclares b u d p q) → (v : ℕ) → In 1 (length (b .units)) v
+      → Fits (withOrder b (newOrder b u d p price q)) v nothing
   order-fits s a v i = fit (ℕ-discrete u v)
     where
       fit : Dec (u ≡ v) → Fits (withOrder b (newOrder b u d p price q)) v nothing
@@ -159,7 +175,7 @@ module _ (b : Book) (u d p price q : ℕ) where
           (moved-order b u (orderDeclares b u d p q) (newOrder b u d p price q)
           (λ at. omega (arith, declares-opens (raises (unitOf b u .kind)) u d p q at))
           (λ at. omega (arith, declares-opens (lowers (unitOf b u .kind)) u d p q at)))
-          (a .fits))
+          a)
       fit (no n) =
           fits-after b (withOrder b (newOrder b u d p price q)) v nothing
           (moved-order b v nothing (newOrder b u d p price q) (λ at. rw (ne-eqb u v n) (omega arith)) (λ at. rw (ne-eqb u v n) (omega arith)))
@@ -178,7 +194,7 @@ module _ (b : Book) (u d p price q : ℕ) where
       more a =
           record {
             formed =
-                formed-order b (newOrder b u d p price q) (s .formed) (a .ranges) refl (a .room) (a .left)
+                formed-order mostOrders b (newOrder b u d p price q) (s .formed) (a .ranges) refl (a .room (call-needs b (newOrder b u d p price q) c)) (a .left)
                 (one-direction-beside (newOrder b u d p price q) (b .orders) (a .follows)) (λ r. absurd (omega arith));
-            fits = order-fits s a;
+            fits = order-fits s (a .fits);
           }

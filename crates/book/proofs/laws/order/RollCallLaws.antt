@@ -20,7 +20,7 @@ use Rattle.matching.proofs.laws.orders.LaidLaws.{laid-length}
 use Rattle.matching.proofs.laws.rolling.RollingLaws.{Sides, row-sides, traded-and-left}
 use Rattle.book.specs.Book.{Book, numbered}
 use Rattle.book.specs.Trades.{rowsBooked}
-use Rattle.book.specs.Layout.{DAYS, GIVEN, UNITS, OFFERS, ORDERS, amountsStart, figurePlace, RAISED, LOWERED, VOLUME, word, ordersPart, decode, Aside}
+use Rattle.book.specs.Layout.{DAYS, PHASE, GIVEN, UNITS, OFFERS, ORDERS, amountsStart, figurePlace, RAISED, LOWERED, VOLUME, word, ordersPart, decode, Aside}
 use Rattle.book.specs.Refusals.{firstOf}
 use Rattle.book.specs.inner.Readable.{Readable}
 use Rattle.book.specs.Contract.{soundIn}
@@ -34,9 +34,9 @@ use Rattle.book.proofs.laws.answer.RefusalLaws.{none-applies}
 use Rattle.book.proofs.laws.sound.SoundLaws.{Sound, sound-facts}
 use Rattle.matching.proofs.laws.lists.RemainLaws.{remains-length}
 use Rattle.matching.proofs.laws.orders.LeftLaws.{LessOrder, met-remain}
-use Rattle.book.proofs.laws.order.OrderingLaws.{OrderPassed, order-passed}
+use Rattle.book.proofs.laws.order.OrderingLaws.{OrderPassed, call-needs, rest-needs, order-passed}
 use Rattle.book.proofs.laws.order.LeftLaws.{TwoUnits}
-use Rattle.book.proofs.laws.order.RolledLaws.{rolled-two-units}
+use Rattle.book.proofs.laws.order.RolledLaws.{rolled-few, rolled-two-units}
 use Rattle.book.proofs.laws.rows.SmallLaws.{sound-small, row-written, rows-written}
 use Rattle.book.proofs.laws.rows.BookingLaws.{kept-aside}
 use Rattle.book.proofs.laws.memory.WordLaws.{aside-then}
@@ -44,10 +44,6 @@ use Rattle.book.proofs.laws.order.WaitLaws.{put-decoded, put-aside, new
 
 abbrev noRow : Row
 noRow = record { way = 0; period = 0; seller = 0; buyer = 0; quantity = 0; price = 0 }
-
-waiting-few : (o : OpenOrder) → length (waiting o) ≤ 1
-unfolding waiting
-waiting-few o = cond-case (λ (l : List OpenOrder). length l ≤ 1) (eqb (o .quantity) 0) [] (o ∷ []) (λ e. omega arith) (λ e. omega arith)
 
 -- no more rows than orders
 matches-length : (q : ℕ) (cs : List OpenOrder) → length (matches q cs) ≤ length cs
@@ -92,6 +88,10 @@ module _ (m rows : List ℕ) (u d p price q : ℕ) (e : soundIn m ≡ true) (z :
   unfolding decode
   days-held = refl
 
+  phase-held : decode m .phase ≡ word m PHASE
+  unfolding decode
+  phase-held = refl
+
   given-held : decode m .given ≡ word m GIVEN
   unfolding decode
   given-held = refl
@@ -117,8 +117,8 @@ module _ (m rows : List ℕ) (u d p price q : ℕ) (e : soundIn m ≡ true) (z :
   pub number-left : word m GIVEN < 65535
   number-left = let t = passed .left in omega (arith, given-held)
 
-  pub orders-left : word m ORDERS < 256
-  orders-left = let t = passed .room in omega (arith, orders-held m)
+  pub orders-left : word m PHASE ≡ 0 → word m ORDERS < 256
+  orders-left c = let t = passed .room (call-needs (decode m) arrived (phase-held ∙ c)) in omega (arith, orders-held m)
 
   each-fits : Each (RowFits m) (met .rows)
   each-fits = each-has (RowFits m) (met .rows) one
@@ -150,15 +150,17 @@ module _ (m rows : List ℕ) (u d p price q : ℕ) (e : soundIn m ≡ true) (z :
     orders-is : ordersIn (ordersPart x) (word x ORDERS) ≡ met .orders
     orders-is = h .orders .orders ∙ ap (λ (t : Met). t .orders) met-is
 
-    pub rest-room : (amountsStart ≤ length x) × (word x ORDERS < 256)
-    rest-room =
-        let r = sound-readable m e in
-        let l = h .orders .long in
-        let a = orders-length (ordersPart x) (word x ORDERS) in
-        let b = ap (λ (t : List OpenOrder). length t) orders-is in
-        let c = remains-length LessOrder (met-remain arrived (decode m .orders)) in
-        let k = passed .room in
-        (omega arith, omega arith)
+    pub rest-room : (amountsStart ≤ length x) × (0 < left → word x ORDERS < 256)
+    rest-room = let r = sound-readable m e in let l = h .orders .long in (omega arith, room)
+      where
+        room : 0 < left → word x ORDERS < 256
+        room some =
+            let a = orders-length (ordersPart x) (word x ORDERS) in
+            let b = ap (λ (t : List OpenOrder). length t) orders-is in
+            let c = remains-length LessOrder (met-remain arrived (decode m .orders)) in
+            let i = h .left ∙ ap (λ (t : Met). t .left) met-is in
+            let k = passed .room (rest-needs (decode m) arrived (omega arith)) in
+            omega arith
 
     module _ (y : List ℕ) (w : OrdersPut x y (ordersIn (ordersPart x) (word x ORDERS) ++ waiting
         (leaving (orderWith (word m GIVEN + 1) u d p price q) left))) where
@@ -184,10 +186,7 @@ module _ (m rows : List ℕ) (u d p price q : ℕ) (e : soundIn m ≡ true) (z :
           let l = both-put .long in
           let a = orders-length (ordersPart y) (word y ORDERS) in
           let b = ap (λ (t : List OpenOrder). length t) (both-put .orders) in
-          let c = remains-length LessOrder (met-remain arrived (decode m .orders)) in
-          let k = passed .room in
-          let f = length-append (met .orders) (waiting (leaving arrived (met .left))) in
-          let g = waiting-few (leaving arrived (met .left)) in
+          let k = rolled-few (decode m) u d p price q facts passed in
           let h0 = head-same DAYS (omega arith) in
           let h5 = head-same UNITS (omega arith) in
           let h6 = head-same OFFERS (omega arith) in

@@ -1,12 +1,12 @@
 -- Order in the rolling phase leaves a sound book: as if it first only waited, and then traded.
-use Prim.Native.Nat.{ℕ, _-_, _≤_, _<_}
+use Prim.Native.Nat.{ℕ, _+_, _-_, _≤_, _<_}
 use mathlib.Core.Path.{_≡_, refl, sym, ap, _∙_}
 use mathlib.Core.Logic.{_⊎_, inl, inr}
 use mathlib.Core.Bool.{Bool, true, false, cond}
 use mathlib.Core.List.{List, [], _∷_, _++_, append-nil}
 use native.Mathlib.Omega.{arith}
 use native.Mathlib.Decide.{ℕ-discrete, decLt}
-use lib.ListN.{length, getD, set}
+use lib.ListN.{length, getD, set, length-append}
 use lib.Dec.{eqb}
 use borrow.Author.Tests.{eq-eqb, ne-eqb, le-leb}
 use Rattle.measures.specs.Lists.{Each}
@@ -18,18 +18,18 @@ use Rattle.matching.proofs.laws.rolling.RollingLaws.{Sides, row-sides, traded-a
 use Rattle.matching.proofs.laws.orders.ExchangeLaws.{isOf, openOf, Exchanged}
 use Rattle.matching.proofs.laws.rolling.MetLaws.{met-exchanged}
 use Rattle.matching.proofs.laws.orders.LeftLaws.{LessOrder, same-order, remains-append, met-remain}
-use Rattle.book.specs.Book.{EnrolledUnit, noUnit, Book, callPhase, rollingPhase, withUnits, withOrders, inPhase, numbered}
+use Rattle.book.specs.Book.{EnrolledUnit, noUnit, Book, callPhase, rollingPhase, mostOrders, withUnits, withOrders, inPhase, numbered}
 use Rattle.book.specs.Trades.{unitTraded, booked, rowBooked, rowsBooked}
 use Rattle.book.specs.Fit.{Declaration, openRaising, openLowering, nothing}
 use Rattle.book.specs.Sound.{apart, eachTwo, sound}
 use Rattle.book.specs.Order.{orderDeclares, orderRefusal, newOrder, waiting, orderedInRolling, ordering}
-use Rattle.matching.proofs.laws.lists.RemainLaws.{each-holds, Remains, ended, gone, kept, remains-all}
+use Rattle.matching.proofs.laws.lists.RemainLaws.{each-holds, Remains, ended, gone, kept, remains-all, remains-length}
 use Rattle.book.proofs.laws.sound.FitLaws.{Fits}
-use Rattle.book.proofs.laws.sound.SoundLaws.{OrderRanges, Sound, sound-facts}
+use Rattle.book.proofs.laws.sound.SoundLaws.{OrderRanges, SoundUpTo, Sound, sound-facts}
 use Rattle.book.proofs.laws.answer.RefusalLaws.{decided-sound}
 use Rattle.book.proofs.laws.sound.FormedLaws.{LessOffer, same-offer, order-after, two-remain, formed-remaining}
 use Rattle.book.proofs.laws.sound.DeclareLaws.{withOrder, two-more, formed-order}
-use Rattle.book.proofs.laws.order.OrderingLaws.{Follows, OrderPassed, order-passed, one-direction-beside, order-fits}
+use Rattle.book.proofs.laws.order.OrderingLaws.{Follows, OrderPassed, rest-needs, order-passed, one-direction-beside, order-fits}
 use Rattle.book.proofs.laws.rows.TradeLaws.{kept-rows}
 use Rattle.book.proofs.laws.rows.ExchangedLaws.{exchanged-sound}
 use Rattle.book.proofs.laws.order.LeftLaws.{Far, far-apart, TwoUnits, two-named}
@@ -133,38 +133,40 @@ module _ (b : Book) (u d p price q : ℕ) (s : Sound b) (a : OrderPassed b u d p
   abbrev waited : Book
   waited = withOrder (inPhase b callPhase) incoming
 
-  passed-in-call : OrderPassed (inPhase b callPhase) u d p price q
-  passed-in-call =
-      record {
-        ranges = order-after (withOrder b incoming) waited (record {
-          days = refl;
-          floor = refl;
-          ceiling = refl;
-          given = omega arith;
-          count = omega arith;
-          kinds = λ v i. refl;
-        }) incoming incoming (same-order incoming) (a .ranges);
-        follows = a .follows;
-        mark = a .mark;
-        room = a .room;
-        left = a .left;
-        fits = fits-in-phase b callPhase u (orderDeclares b u d p q) (a .fits);
-      }
+  waited-ranges : OrderRanges waited incoming
+  waited-ranges =
+      order-after (withOrder b incoming) waited (record {
+        days = refl;
+        floor = refl;
+        ceiling = refl;
+        given = omega arith;
+        count = omega arith;
+        kinds = λ v i. refl;
+      }) incoming incoming (same-order incoming) (a .ranges)
 
-  waited-sound : Sound waited
+  -- one order more may stand there than there are places
+  waited-sound : SoundUpTo (mostOrders + 1) waited
   waited-sound =
       let c = in-call-sound b s in
-      let t = passed-in-call in
+      let h = s .formed .head .orders in
       record {
-        formed = formed-order (inPhase b callPhase) incoming (c .formed) (t .ranges) refl (a .room) (a .left)
+        formed = formed-order (mostOrders + 1) (inPhase b callPhase) incoming (c .formed) waited-ranges refl (omega arith) (a .left)
             (one-direction-beside incoming (b .orders) (a .follows)) (λ r. absurd (omega arith));
-        fits = order-fits (inPhase b callPhase) u d p price q c t;
+        fits = order-fits (inPhase b callPhase) u d p price q c (fits-in-phase b callPhase u (orderDeclares b u d p q) (a .fits));
       }
 
   rolled-remains : Remains LessOrder left (waited .orders)
   rolled-remains =
       let t = traded-and-left incoming (b .orders) in
       remains-append LessOrder (met-remain incoming (b .orders)) (waiting-remains incoming (met .left) (omega arith))
+
+  -- what waits has a place
+  pub rolled-few : length left ≤ mostOrders
+  rolled-few =
+      let h = s .formed .head .orders in
+      let k = remains-length LessOrder (met-remain incoming (b .orders)) in
+      waiting-case incoming (met .left) (λ l. length (met .orders ++ l) ≤ mostOrders) (λ e. rw append-nil (omega arith))
+      (λ some. let r = a .room (rest-needs b incoming some) in omega (arith, length-append (met .orders) (leaving incoming (met .left) ∷ [])))
 
   rolled-exchanged : Exchanged (waited .orders) left (met .rows)
   rolled-exchanged = met-exchanged incoming (b .orders) (waiting (leaving incoming (met .left))) (s .formed .ordersRise) (a .ranges .direction)
@@ -228,8 +230,8 @@ module _ (b : Book) (u d p price q : ℕ) (s : Sound b) (a : OrderPassed b u d p
   pub rolled-sound : sound (orderedInRolling b incoming .book) ≡ true
   rolled-sound =
       ap sound rolled-book
-      ∙ exchanged-sound waited left (met .rows) (b .phase) waited-sound rolled-remains rolled-exchanged
-      (two-named (length (b .units)) (met .rows) rolled-two-units) (s .formed .head .phase) rolled-apart
+      ∙ exchanged-sound (mostOrders + 1) waited left (met .rows) (b .phase) waited-sound rolled-remains rolled-exchanged
+      (two-named (length (b .units)) (met .rows) rolled-two-units) rolled-few (s .formed .head .phase) rolled-apart
 
 -- "Rolling phase: it meets opposite orders of its period"
 pub ordering-in-rolling-sound : (b : Book) (u d p price q lent : ℕ) → (b .phase ≡ callPhase → ⊥) → sound b ≡ true

@@ -11,15 +11,15 @@ use Rattle.limits.specs.Units.{periods, generator}
 use Rattle.matching.specs.Orders.{Order as OpenOrder, Row, sells, buys}
 use Rattle.matching.proofs.laws.orders.ExchangeLaws.{Exchanged}
 use Rattle.matching.proofs.laws.orders.LeftLaws.{LessOrder}
-use Rattle.book.specs.Book.{noUnit, Book, rollingPhase, unitOf, figuresOf, withUnits, withOrders, inPhase}
+use Rattle.book.specs.Book.{noUnit, Book, rollingPhase, mostOrders, unitOf, figuresOf, withUnits, withOrders, inPhase}
 use Rattle.book.specs.Trades.{raises, lowers, rowsBooked}
 use Rattle.book.specs.Fit.{openOrders, openRaising, openLowering, nothing}
 use Rattle.book.specs.Sound.{apart, eachTwo, sound}
 use Rattle.matching.proofs.laws.lists.EachLaws.{each-at}
 use Rattle.matching.proofs.laws.lists.RemainLaws.{Remains, remains-all}
 use Rattle.book.proofs.laws.sound.FitLaws.{Moved, fits-after}
-use Rattle.book.proofs.laws.sound.SoundLaws.{UnitRanges, Sound, sound-holds}
-use Rattle.book.proofs.laws.sound.FormedLaws.{LessOffer, same-offer, Remaining, formed-remaining}
+use Rattle.book.proofs.laws.sound.SoundLaws.{UnitRanges, SoundUpTo, sound-holds}
+use Rattle.book.proofs.laws.sound.FormedLaws.{LessOffer, same-offer, Remaining, formed-left}
 use Rattle.book.proofs.laws.rows.TradeLaws.{tradedBy, sold, bought, rowsRaise, rowsLower, Named, Kept, kept-rows, grown-rows}
 
 -- a unit's orders lose what it raises by the rows, and what it lowers
@@ -42,9 +42,9 @@ module _ (os os′ : List OpenOrder) (rs : List Row) (x : Exchanged os os′ rs)
       go true = x .bought u p
       go false = x .sold u p
 
--- a sound book of which the orders os are left, and whose rows trade the rest
-module _ (b : Book) (os : List OpenOrder) (rs : List Row) (phase : ℕ) (s : Sound b) (r : Remains LessOrder os (b .orders)) (x : Exchanged (b .orders) os rs)
-    (n : Each Named rs) where
+-- a sound book, whatever the count of its orders, of which the orders os are left, and whose rows trade the rest
+module _ (most : ℕ) (b : Book) (os : List OpenOrder) (rs : List Row) (phase : ℕ) (s : SoundUpTo most b) (r : Remains LessOrder os (b .orders))
+    (x : Exchanged (b .orders) os rs) (n : Each Named rs) where
   abbrev traded : Book
   traded = rowsBooked rs (withOrders b os)
 
@@ -89,11 +89,11 @@ module _ (b : Book) (os : List OpenOrder) (rs : List Row) (phase : ℕ) (s : Sou
         volume = λ p h. let g = exchanged-figures u p i h in omega arith;
       }
 
-  pub exchanged-sound : phase ≤ rollingPhase → (phase ≡ rollingPhase → eachTwo apart os ≡ true) → sound (inPhase traded phase) ≡ true
-  exchanged-sound low far =
+  pub exchanged-sound : length os ≤ mostOrders → phase ≤ rollingPhase → (phase ≡ rollingPhase → eachTwo apart os ≡ true) → sound (inPhase traded phase) ≡ true
+  exchanged-sound few low far =
       ap (λ (y : Book). sound (inPhase y phase)) (keeps .rest)
       ∙ sound-holds after (record {
-        formed = formed-remaining b after left (s .formed);
+        formed = formed-left most b after few left (s .formed);
         fits = λ u i. let j : In 1 (length (b .units)) u = omega (arith, keeps .count) in fits-after b after u nothing (moved-exchanged u j) (s .fits u j);
       })
     where

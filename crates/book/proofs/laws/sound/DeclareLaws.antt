@@ -12,13 +12,13 @@ use Rattle.measures.specs.Lists.{every, Each}
 use Rattle.measures.proofs.ListLaws.{and-true, not-fails}
 use Rattle.matching.specs.Orders.{Order as OpenOrder}
 use Rattle.matching.proofs.laws.orders.LeftLaws.{same-order}
-use Rattle.book.specs.Book.{OpenOffer, Book, rollingPhase, mostOffers, mostOrders, mostNumbers, unitOf, withOffers, withOrders, nextNumber, numbered}
+use Rattle.book.specs.Book.{OpenOffer, Book, rollingPhase, mostOffers, mostNumbers, unitOf, withOffers, withOrders, nextNumber, numbered}
 use Rattle.book.specs.Trades.{raises, lowers}
 use Rattle.book.specs.Fit.{openRaising, openLowering, Declaration}
 use Rattle.book.specs.Sound.{oneDirection, apart, eachTwo}
 use Rattle.matching.proofs.laws.lists.EachLaws.{each-append}
 use Rattle.matching.proofs.laws.lists.RemainLaws.{each-holds, each-imp, every-append, every-both, rising-append}
-use Rattle.book.proofs.laws.sound.SoundLaws.{HeadRanges, OfferRanges, OrderRanges, otherNumber, Formed}
+use Rattle.book.proofs.laws.sound.SoundLaws.{HeadUpTo, HeadRanges, OfferRanges, OrderRanges, otherNumber, FormedUpTo, Formed}
 use Rattle.book.proofs.laws.sound.FitLaws.{Moved}
 use Rattle.book.proofs.laws.sound.OpenLaws.{offerOpens, orderOpens, offers-more, orders-more}
 use Rattle.book.proofs.laws.sound.FormedLaws.{same-offer, Names, offer-after, order-after}
@@ -100,9 +100,9 @@ pub record Beside (f : OpenOrder → OpenOrder → Bool) (o : OpenOrder) (os : L
   pub from : every (λ a. f a o) os ≡ true
   pub self : f o o ≡ true
 
-pub formed-order : (b : Book) (o : OpenOrder) → Formed b → OrderRanges (withOrder b o) o → o .number ≡ nextNumber b → length (b .orders) < mostOrders
-    → b .given < mostNumbers → Beside oneDirection o (b .orders) → (b .phase ≡ rollingPhase → Beside apart o (b .orders)) → Formed (withOrder b o)
-formed-order b o f r e few left way cross =
+pub formed-order : (n : ℕ) (b : Book) (o : OpenOrder) → Formed b → OrderRanges (withOrder b o) o → o .number ≡ nextNumber b → length (b .orders) < n
+    → b .given < mostNumbers → Beside oneDirection o (b .orders) → (b .phase ≡ rollingPhase → Beside apart o (b .orders)) → FormedUpTo n (withOrder b o)
+formed-order n b o f r e few left way cross =
     record {
       head = head;
       units = f .units;
@@ -128,7 +128,7 @@ formed-order b o f r e few left way cross =
     names : Names b (withOrder b o)
     names = record { days = refl; floor = refl; ceiling = refl; given = omega arith; count = omega arith; kinds = λ u i. refl }
 
-    head : HeadRanges (withOrder b o)
+    head : HeadUpTo n (withOrder b o)
     head =
         let h = f .head in
         let l = length-append (b .orders) (o ∷ []) in

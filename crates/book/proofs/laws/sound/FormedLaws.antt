@@ -10,11 +10,11 @@ use Rattle.measures.specs.Sharing.{total}
 use Rattle.measures.proofs.RangeLaws.{In}
 use Rattle.limits.specs.Units.{generator}
 use Rattle.matching.specs.Orders.{Order as OpenOrder, leaving}
-use Rattle.book.specs.Book.{OpenOffer, Book, rollingPhase, mostUnits, mostNumbers, unitOf}
+use Rattle.book.specs.Book.{OpenOffer, Book, rollingPhase, mostUnits, mostOrders, mostNumbers, unitOf}
 use Rattle.book.specs.Sound.{oneDirection, apart, eachTwo}
 use Rattle.matching.proofs.laws.orders.LeftLaws.{LessOrder}
 use Rattle.matching.proofs.laws.lists.RemainLaws.{Remains, remains-each, remains-every, remains-length, remains-rising}
-use Rattle.book.proofs.laws.sound.SoundLaws.{HeadRanges, UnitRanges, Sides, OfferRanges, OrderRanges, otherNumber, numbersApart, Formed}
+use Rattle.book.proofs.laws.sound.SoundLaws.{HeadRanges, UnitRanges, Sides, OfferRanges, OrderRanges, otherNumber, numbersApart, FormedUpTo, Formed}
 
 -- an offer with other amounts left
 abbrev pub offerLeaving : OpenOffer → ℕ → List ℕ → OpenOffer
@@ -114,8 +114,9 @@ pub record Remaining (b b′ : Book) : Type 0 where
   pub orders : Remains LessOrder (b′ .orders) (b .orders)
   pub apart : b′ .phase ≡ rollingPhase → eachTwo apart (b′ .orders) ≡ true
 
-pub formed-remaining : (b b′ : Book) → Remaining b b′ → Formed b → Formed b′
-formed-remaining b b′ r f =
+-- whatever the count of its orders was, they are few enough now
+pub formed-left : (n : ℕ) (b b′ : Book) → length (b′ .orders) ≤ mostOrders → Remaining b b′ → FormedUpTo n b → Formed b′
+formed-left n b b′ few r f =
     record {
       head = head;
       units = r .units;
@@ -133,7 +134,6 @@ formed-remaining b b′ r f =
         let h = f .head in
         let n = r .names in
         let k = remains-length LessOffer (r .offers) in
-        let l = remains-length LessOrder (r .orders) in
         record {
           days = omega arith;
           prices = omega arith;
@@ -142,5 +142,10 @@ formed-remaining b b′ r f =
           given = r .given;
           units = r .most;
           offers = omega arith;
-          orders = omega arith;
+          orders = few;
         }
+
+pub formed-remaining : (b b′ : Book) → Remaining b b′ → Formed b → Formed b′
+formed-remaining b b′ r f =
+    let h = f .head .orders in
+    formed-left mostOrders b b′ (omega (arith, remains-length LessOrder (r .orders))) r f

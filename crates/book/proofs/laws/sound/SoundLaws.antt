@@ -21,8 +21,8 @@ use Rattle.book.specs.Sound.{headIn, unitIn, bilateralSides, offerSides,
 use Rattle.matching.proofs.laws.lists.RemainLaws.{each-of, each-holds}
 use Rattle.book.proofs.laws.sound.FitLaws.{Fits, unit-fits, fits-unit}
 
--- the ranges of the book's own figures
-pub record HeadRanges (b : Book) : Type 0 where
+-- the ranges of the book's own figures, with n orders at most
+pub record HeadUpTo (n : ℕ) (b : Book) : Type 0 where
   pub days : In 1 mostDays (b .rules .days)
   pub prices : b .rules .floor ≤ b .rules .ceiling
   pub ceiling : b .rules .ceiling ≤ mostPrice
@@ -30,7 +30,10 @@ pub record HeadRanges (b : Book) : Type 0 where
   pub given : b .given ≤ mostNumbers
   pub units : length (b .units) ≤ mostUnits
   pub offers : length (b .offers) ≤ mostOffers
-  pub orders : length (b .orders) ≤ mostOrders
+  pub orders : length (b .orders) ≤ n
+
+abbrev pub HeadRanges : Book → Type 0
+HeadRanges b = HeadUpTo mostOrders b
 
 pub head-ranges : (b : Book) → headIn b ≡ true → HeadRanges b
 unfolding headIn
@@ -221,9 +224,9 @@ otherNumber n o = not (eqb n (o .number))
 abbrev pub numbersApart : List OpenOffer → List OpenOrder → Bool
 numbersApart fs os = every (λ (f : OpenOffer). every (otherNumber (f .number)) os) fs
 
--- all that a sound book is, but for the limits
-pub record Formed (b : Book) : Type 0 where
-  pub head : HeadRanges b
+-- all that a sound book is, but for the limits, with n orders at most
+pub record FormedUpTo (n : ℕ) (b : Book) : Type 0 where
+  pub head : HeadUpTo n b
   pub units : Each (UnitRanges (b .rules .days)) (b .units)
   pub offers : Each (OfferRanges b) (b .offers)
   pub orders : Each (OrderRanges b) (b .orders)
@@ -233,10 +236,16 @@ pub record Formed (b : Book) : Type 0 where
   pub oneDirection : eachTwo oneDirection (b .orders) ≡ true
   pub apart : b .phase ≡ rollingPhase → eachTwo apart (b .orders) ≡ true
 
--- a sound book
-pub record Sound (b : Book) : Type 0 where
-  pub formed : Formed b
+abbrev pub Formed : Book → Type 0
+Formed b = FormedUpTo mostOrders b
+
+-- a sound book, with n orders at most
+pub record SoundUpTo (n : ℕ) (b : Book) : Type 0 where
+  pub formed : FormedUpTo n b
   pub fits : (u : ℕ) → In 1 (length (b .units)) u → Fits b u nothing
+
+abbrev pub Sound : Book → Type 0
+Sound b = SoundUpTo mostOrders b
 
 module _ (b : Book) where
   all-fit : all (length (b .units)) (λ k. unitFits b (k + 1)) ≡ true → (u : ℕ) → In 1 (length (b .units)) u → Fits b u nothing

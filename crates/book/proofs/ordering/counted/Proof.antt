@@ -10,10 +10,10 @@ shared-slice-read-if1 : tie.Need-shared-slice-read-if1
 shared-slice-read-if1 c = search needs
 
 returns : tie.Need-returns
-returns c = counted-call (word (c .before .before .args .book .now) PHASE) _ (omega arith)
+returns c = counted-rolling (word (c .before .before .args .book .now) PHASE) _ (omega arith)
 
 returns-2 : tie.Need-returns-2
-returns-2 c = counted-rolling (word (c .before .before .args .book .now) PHASE) _ (omega arith)
+returns-2 c = counted-call (word (c .before .before .args .book .now) PHASE) _ (omega arith)
 
 pub counted-spec : {M : Type 1} → statement M
 counted-spec = tie.close (tie.spec

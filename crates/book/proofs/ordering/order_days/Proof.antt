@@ -1,4 +1,5 @@
 -- `order_days`: each test is a check of the second part; the sums are the lengths of what the checks keep.
+use mathlib.Core.Path.{sym, _∙_}
 use native.Mathlib.Omega.{arith}
 use Rattle.book.proofs.laws.order.OrderCheckLaws.{days-against, days-mark, days-two, days-full, days-used, days-pass}
 use borrow.Author.Needs.{needs}
@@ -9,7 +10,7 @@ unit-orders-requires : tie.Need-unit-orders-requires
 unit-orders-requires c κs = search needs
 
 returns : tie.Need-returns
-returns c = days-against _ _ _ _ (omega arith) (omega arith) (omega arith) (omega arith) _ (c .before .before .unit-orders .ensures .1) (omega arith)
+returns c = days-against _ _ _ _ _ _ (omega arith) (omega arith) (omega arith) (omega arith) _ (c .before .before .unit-orders .ensures .1) (omega arith)
 
 sub-k : tie.Need-sub-k
 sub-k c = search needs
@@ -43,7 +44,7 @@ marked-against-requires c κs = search needs
 
 returns-2 : tie.Need-returns-2
 returns-2 c =
-    days-mark _ _ _ _ (omega arith) (omega arith) (omega arith) (omega arith) _ (c .before .marked-against .ensures) (c .if2 .taken)
+    days-mark _ _ _ _ _ _ (omega arith) (omega arith) (omega arith) (omega arith) _ (c .before .marked-against .ensures) (c .if2 .taken)
 
 counted-requires : tie.Need-counted-requires
 counted-requires c κs = search needs
@@ -52,18 +53,18 @@ returns-3 : tie.Need-returns-3
 returns-3 c =
     let s = c .before .before .before .before .before .before .before .unit-orders .ensures in
     let w = c .before .before .before .marked-against .ensures in
-    days-two _ _ _ _ (omega arith) (omega arith) (omega arith) (omega arith) _ (s .1) (omega arith) _ w (c .before .before .if2 .left)
+    days-two _ _ _ _ _ _ (omega arith) (omega arith) (omega arith) (omega arith) _ (s .1) (omega arith) _ w (c .before .before .if2 .left)
     _ _ (s .0) (c .before .counted .ensures) (omega arith)
 
-shared-slice-read-if4 : tie.Need-shared-slice-read-if4
-shared-slice-read-if4 c = search needs
+lacks-place-requires : tie.Need-lacks-place-requires
+lacks-place-requires c κs = search needs
 
 returns-4 : tie.Need-returns-4
 returns-4 c =
     let s = c .before .before .before .before .before .before .before .before .before .unit-orders .ensures in
     let w = c .before .before .before .before .before .marked-against .ensures in
-    days-full _ _ _ _ (omega arith) (omega arith) (omega arith) (omega arith) _ (s .1) (omega arith) _ w (c .before .before .before .before .if2 .left)
-    _ _ (s .0) (c .before .before .before .counted .ensures) (omega arith) (omega arith)
+    days-full _ _ _ _ _ _ (omega arith) (omega arith) (omega arith) (omega arith) _ (s .1) (omega arith) _ w (c .before .before .before .before .if2 .left)
+    _ _ (s .0) (c .before .before .before .counted .ensures) (omega arith) (sym (c .before .lacks-place .ensures) ∙ c .if4 .taken)
 
 shared-slice-read-if5 : tie.Need-shared-slice-read-if5
 shared-slice-read-if5 c = search needs
@@ -72,15 +73,17 @@ returns-5 : tie.Need-returns-5
 returns-5 c =
     let c5 = c .before .before .before .before .before in
     let s = c5 .before .before .before .before .before .before .unit-orders .ensures in
-    days-used _ _ _ _ (omega arith) (omega arith) (omega arith) (omega arith) _ (s .1) (omega arith) _ (c5 .before .before .marked-against .ensures)
-    (c5 .before .if2 .left) _ _ (s .0) (c5 .counted .ensures) (omega arith) (omega arith) (omega arith)
+    days-used _ _ _ _ _ _ (omega arith) (omega arith) (omega arith) (omega arith) _ (s .1) (omega arith) _ (c5 .before .before .marked-against .ensures)
+    (c5 .before .if2 .left) _ _ (s .0) (c5 .counted .ensures) (omega arith)
+    (sym (c .before .before .before .lacks-place .ensures) ∙ c .before .before .if4 .left) (omega arith)
 
 returns-6 : tie.Need-returns-6
 returns-6 c =
     let c5 = c .before .before .before .before .before in
     let s = c5 .before .before .before .before .before .before .unit-orders .ensures in
-    days-pass _ _ _ _ (omega arith) (omega arith) (omega arith) (omega arith) _ (s .1) (omega arith) _ (c5 .before .before .marked-against .ensures)
-    (c5 .before .if2 .left) _ _ (s .0) (c5 .counted .ensures) (omega arith) (omega arith) (omega arith)
+    days-pass _ _ _ _ _ _ (omega arith) (omega arith) (omega arith) (omega arith) _ (s .1) (omega arith) _ (c5 .before .before .marked-against .ensures)
+    (c5 .before .if2 .left) _ _ (s .0) (c5 .counted .ensures) (omega arith)
+    (sym (c .before .before .before .lacks-place .ensures) ∙ c .before .before .if4 .left) (omega arith)
 
 pub order-days-spec : {M : Type 1} → statement M
 order-days-spec =
@@ -101,7 +104,7 @@ order-days-spec =
     returns-2
     counted-requires
     returns-3
-    shared-slice-read-if4
+    lacks-place-requires
     returns-4
     shared-slice-read-if5
     returns-5

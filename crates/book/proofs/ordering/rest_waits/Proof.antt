@@ -1,5 +1,6 @@
 -- `rest_waits`: nothing waits where nothing is left.
 use mathlib.Core.Path.{sym, _∙_}
+use native.Mathlib.Omega.{arith}
 use borrow.Author.Tests.{eqb-true, eqb-false}
 use Rattle.matching.specs.Memory.{asOrder}
 use Rattle.book.proofs.laws.order.RestWaitLaws.{rest-none, rest-some, put-same}
@@ -19,7 +20,11 @@ leaving-requires : tie.Need-leaving-requires
 leaving-requires c κs = search needs
 
 append-requires : tie.Need-append-requires
-append-requires c κs = search needs
+append-requires c κs =
+    let i = c .before .before in
+    let s = i .before .before .before in
+    let n = eqb-false (s .args .left .0) 0 (sym (i .before .is-zero .ensures) ∙ i .if1 .left) in
+    (s .pre .0, s .pre .1 (omega arith))
 
 same-length : tie.Need-same-length
 same-length c = search needs
