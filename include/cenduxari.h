@@ -55,7 +55,7 @@ uint64_t cenduxari_take(uint64_t *book, size_t book_len, uint64_t unit, uint64_t
 /* Removes an own offer of which nothing is taken. */
 uint64_t cenduxari_withdraw(uint64_t *book, size_t book_len, uint64_t unit, uint64_t number, uint64_t out[2]);
 
-/* Orders a quantity of a period. Directions: 0 sell, 1 buy. */
+/* Orders a quantity of a period. Directions: 0 sell, 1 buy. With 256 open, only one that trades whole is let through. */
 uint64_t cenduxari_order(uint64_t *book, size_t book_len, uint64_t unit, uint64_t direction, uint64_t period,
                          uint64_t price, uint64_t quantity, uint64_t *rows, size_t rows_len, uint64_t out[2]);
 

@@ -34,8 +34,8 @@ SameAsBefore =
     → ordering b u d p price q lent ≡ orderingBefore b u d p price q lent
 
 -- "Check 17 stays for an order with a remainder, and in the call phase."
-abbrev pub Stays : Type 0
-Stays =
+abbrev pub Check17Stays : Type 0
+Check17Stays =
     (b : Book) (u d p price q lent : ℕ) → needsPlace b (newOrder b u d p price q) ≡ true
     → ordering b u d p price q lent ≡ orderingBefore b u d p price q lent
 

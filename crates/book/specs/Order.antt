@@ -3,8 +3,8 @@ use Prim.Native.Nat.{ℕ}
 use mathlib.Core.Bool.{cond}
 use mathlib.Core.List.{List, [], _∷_, _++_}
 use lib.Dec.{eqb}
-use Rattle.matching.specs.Orders.{Order as OpenOrder, Row, leaving, orderWith}
-use Rattle.matching.specs.Rolling.{Met, meet}
+use Rattle.matching.specs.Orders.{Order as OpenOrder, leaving, orderWith}
+use Rattle.matching.specs.Rolling.{meet}
 use Rattle.book.specs.Book.{Book, callPhase, unitOf, withOrders, nextNumber, numbered}
 use Rattle.book.specs.Trades.{raises, lowers, rowsBooked}
 use Rattle.book.specs.Fit.{Declaration}

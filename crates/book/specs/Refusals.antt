@@ -1,5 +1,5 @@
 -- The table "Refusals by place of check" (paper 01): each condition by its number, in the table's order.
-use Prim.Native.Nat.{ℕ, _+_}
+use Prim.Native.Nat.{ℕ}
 use mathlib.Core.Bool.{Bool, cond, not, _&&_, _||_}
 use mathlib.Core.List.{List, [], _∷_}
 use lib.ListN.{length}
@@ -8,7 +8,7 @@ use Rattle.measures.specs.Ranges.{between}
 use Rattle.measures.specs.Lists.{keep}
 use Rattle.measures.specs.Sharing.{total}
 use Rattle.limits.specs.Units.{daysIn, periods, periodIn, kindIn, generator, capacityIn, assetIn}
-use Rattle.matching.specs.Orders.{Order as OpenOrder, Row, sells, buys}
+use Rattle.matching.specs.Orders.{Order as OpenOrder, Row, sells}
 use Rattle.matching.specs.Rolling.{meet}
 use Rattle.book.specs.Book.{
   Rules,

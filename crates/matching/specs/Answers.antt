@@ -10,8 +10,8 @@ use Rattle.matching.specs.declared.orders.Matched.{Matched}
 use Rattle.matching.specs.declared.orders.Matched.the-variants.{Unfit, Done}
 use Rattle.matching.specs.Orders.{Order, Row, rising, numbers, quantities}
 use Rattle.matching.specs.Memory.{orderWords, rowWords, ordersIn, placeIn, roomFor, written}
-use Rattle.matching.specs.Rolling.{Met, meet}
-use Rattle.matching.specs.Clearing.{Cleared, clearPeriod, clearFrom}
+use Rattle.matching.specs.Rolling.{meet}
+use Rattle.matching.specs.Clearing.{clearPeriod, clearFrom}
 
 -- n orders, at most 256, all in the memory, whose numbers rise
 unfoldable pub numbersRise : List ℕ → ℕ → Bool

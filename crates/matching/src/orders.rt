@@ -4,7 +4,7 @@ use measures::Price;
 ghost use mathlib.Core.Path.{_≡_};
 ghost use mathlib.Core.List.{List, [], _∷_, _++_};
 ghost use Prim.Native.Nat.{ℕ, _+_, _*_, _-_, _<_, _≤_};
-ghost use lib.ListN.{length, getD, set, drop, take};
+ghost use lib.ListN.{length, set, drop, take};
 ghost use Rattle.matching.specs.Orders.{Row as RowRecord, orderWith, leaving};
 ghost use Rattle.matching.specs.Memory.{orderWords, rowWords, asOrder, asRow, orderAt, ordersIn, placeIn, written};
 ghost use Rattle.matching.specs.Answers.{Written, Removed, RowPut};

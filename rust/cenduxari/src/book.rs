@@ -130,7 +130,8 @@ impl Book {
     /// Orders a quantity of a period.
     ///
     /// In the call phase it waits. In the rolling phase it meets opposite orders of its period, best price first, then
-    /// lowest number, each at the waiting order's price; the rest waits. At most 256 stand open.
+    /// lowest number, each at the waiting order's price; the rest waits. At most 256 stand open; one that trades whole
+    /// needs no place.
     ///
     /// # Errors
     ///

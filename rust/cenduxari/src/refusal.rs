@@ -50,7 +50,7 @@ pub enum Refusal {
     OtherDirection = 15,
     /// 16: order in the call phase: unit has two open in that period.
     TwoOpen = 16,
-    /// 17: 8 offers or 256 orders already open.
+    /// 17: 8 offers already open, or 256 orders, unless the order trades whole at once.
     TableFull = 17,
     /// 18: 65,535 numbers used.
     NumbersUsed = 18,
@@ -128,7 +128,9 @@ impl fmt::Display for Refusal {
                 "the unit has an open order or a trade of way 3 or 4 today, same period, other direction"
             }
             Refusal::TwoOpen => "the unit has two orders open in that period",
-            Refusal::TableFull => "8 offers or 256 orders are already open",
+            Refusal::TableFull => {
+                "8 offers are already open, or 256 orders, and some of this one would wait"
+            }
             Refusal::NumbersUsed => "65,535 numbers are used",
             Refusal::HourLimit => {
                 "the declaration doesn't fit the hour limit, or lowers more than was held"

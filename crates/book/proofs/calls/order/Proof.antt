@@ -1,13 +1,10 @@
 -- `order`: not a sound book, a check that applies, or the effect in its phase.
-use Prim.Native.Nat.{ℕ, _≤_, _<_, _+_, _*_}
-use mathlib.Core.Path.{_≡_, refl, sym, ap, _∙_}
-use mathlib.Core.Bool.{Bool, true, false}
-use mathlib.Core.List.{List, []}
+use mathlib.Core.Path.{refl, sym, _∙_}
+use mathlib.Core.List.{[]}
 use native.Mathlib.Omega.{arith}
 use borrow.Author.Tests.{not-true, not-false}
-use lib.ListN.{length, getD}
+use lib.ListN.{length}
 use Rattle.matching.proofs.laws.orders.RowLaws.{written-none}
-use Rattle.book.specs.Contract.{soundIn}
 use Rattle.book.specs.Calls.{callOrder}
 use Rattle.book.proofs.laws.answer.MadeLaws.{made-unsound, made-checked, made-done, order-called, order-rolled, sound-readable, sound-head}
 use Rattle.book.proofs.laws.order.RollCallLaws.{orders-left, number-left}

@@ -1,25 +1,24 @@
 -- From an outcome to the contract of a call: a law for the refused and one for the accepted.
-use Prim.Native.Nat.{ℕ, zero, suc, _+_, _*_, _≤_, _<_}
+use Prim.Native.Nat.{ℕ, _+_, _≤_}
 use mathlib.Core.Path.{_≡_, refl, sym, ap, ap₂, _∙_}
 use mathlib.Core.Bool.{Bool, true, false, cond, not, _&&_}
 use mathlib.Core.List.{List, [], _∷_}
 use native.Mathlib.Omega.{arith}
 use borrow.Author.Tests.{eq-eqb, ne-eqb, leb-true, ltb-false}
-use lib.ListN.{length, drop, length-append}
+use lib.ListN.{length, length-append}
 use lib.Dec.{eqb, leb}
-use Rattle.measures.proofs.ListLaws.{cond-true, cond-false, and-left, and-right, all-true, both-ways, not-fails}
+use Rattle.measures.proofs.ListLaws.{cond-true, cond-false, and-left, and-right, all-true, both-ways}
 use Rattle.matching.specs.Orders.{Row}
 use Rattle.matching.specs.Memory.{written}
-use Rattle.matching.proofs.laws.orders.RowLaws.{written-none}
 use Rattle.book.specs.declared.Answer.{Answer}
 use Rattle.book.specs.declared.Answer.the-variants.{Done, Refused}
 use Rattle.limits.specs.Units.{periods}
 use Rattle.measures.specs.Lists.{keep}
-use Rattle.matching.specs.Clearing.{Cleared, clearFrom}
-use Rattle.matching.specs.Rolling.{Met, meet}
+use Rattle.matching.specs.Clearing.{clearFrom}
+use Rattle.matching.specs.Rolling.{meet}
 use Rattle.book.specs.Trades.{rowsBooked}
-use Rattle.book.specs.Book.{Book, callPhase, rollingPhase, offerOf, withOffers, withOrders, inPhase, nextNumber}
-use Rattle.book.specs.Sound.{sound, headIn}
+use Rattle.book.specs.Book.{Book, rollingPhase, offerOf, withOffers, withOrders, inPhase, nextNumber}
+use Rattle.book.specs.Sound.{sound}
 use Rattle.book.specs.Layout.{DAYS, PHASE, GIVEN, UNITS, LAYOUT, layoutNumber, bookWords, word, decode, laidOut, Aside}
 use Rattle.book.specs.Refusals.{Outcome, Check, check, firstOf, decided, accepted, unsound}
 use Rattle.book.specs.Enrol.{enrolment, enrolRefusal, enrolChecks, enrolled}
@@ -32,7 +31,7 @@ use Rattle.book.specs.Clear.{clearing, clearRefusal, clearChecks}
 use Rattle.book.specs.Close.{closing, dayClosed}
 use Rattle.book.specs.Calls.{Call, callEnrol, callOffer, callTake, callWithdraw, callOrder, callCancel, callClear, callClose, outcome}
 use Rattle.book.specs.Contract.{Told, toldBy, soundIn, outcomeOn, Made}
-use Rattle.book.specs.inner.Readable.{Readable, Ranged, unitsFieldsIn}
+use Rattle.book.specs.inner.Readable.{Readable}
 use Rattle.book.proofs.laws.memory.RangeFacts.{Head, head-facts, readable, units-held}
 use Rattle.book.proofs.laws.answer.RefusalLaws.{none-applies}
 

@@ -1,13 +1,12 @@
 -- Whether memory holds a sound book: the tests that the code makes, one by one, are the definition's.
-use Prim.Native.Nat.{ℕ, _+_, _-_, _*_, _≤_, _<_}
+use Prim.Native.Nat.{ℕ, _+_, _≤_, _<_}
 use mathlib.Core.Path.{_≡_, refl, sym, ap, _∙_}
 use mathlib.Core.Bool.{Bool, true, false, not, _&&_, _||_}
-use mathlib.Core.List.{List, [], _∷_}
+use mathlib.Core.List.{List}
 use native.Mathlib.Omega.{arith}
 use borrow.Author.Tests.{leb-true, le-leb, eq-eqb, eqb-true}
-use lib.ListN.{length, getD, replicate}
+use lib.ListN.{length}
 use lib.Dec.{eqb, leb}
-use Rattle.measures.specs.Ranges.{mostEnergy}
 use Rattle.measures.specs.Lists.{holds, every, all}
 use Rattle.measures.proofs.ListLaws.{
   both-ways,
@@ -23,15 +22,13 @@ use Rattle.measures.proofs.ListLaws.{
   every-table,
   table-length,
 }
-use Rattle.measures.proofs.RangeLaws.{In}
-use Rattle.limits.specs.Units.{periods, kindIn, capacityIn, assetIn}
-use Rattle.book.specs.Book.{Figures, EnrolledUnit, Book, rollingPhase, unitOf}
+use Rattle.book.specs.Book.{Figures, EnrolledUnit, unitOf}
 use Rattle.book.specs.Fit.{unitFits}
 use Rattle.book.specs.Sound.{headIn, unitIn, offerIn, orderIn, numbersDiffer, oneDirection, apart, eachTwo, sound}
 use Rattle.book.specs.Layout.{DAYS, PHASE, UNITS, LAYOUT, layoutNumber, figuresStart, bookWords, word, unitAt, decode, laidOut}
 use Rattle.book.specs.Contract.{soundIn}
-use Rattle.book.specs.inner.Readable.{Readable, Ranged, unitFieldsIn, unitsFieldsIn, marksIn, unitWhole, unitsWhole, pairsFit}
-use Rattle.book.proofs.laws.memory.RangeFacts.{Head, head-facts, head-holds, readable, units-held, unit-at}
+use Rattle.book.specs.inner.Readable.{Ranged, unitFieldsIn, unitsFieldsIn, marksIn, unitWhole, unitsWhole, pairsFit}
+use Rattle.book.proofs.laws.memory.RangeFacts.{head-facts, readable, units-held, unit-at, phase-held}
 
 -- a unit in memory is in range if its fields and its directions are
 module _ (m : List ℕ) (k : ℕ) (h : k < word m UNITS) where
@@ -81,10 +78,6 @@ units-every : (m : List ℕ) → every (unitIn (decode m .rules .days)) (decode 
     ≡ all (word m UNITS) (λ k. unitIn (word m DAYS) (unitAt m (word m DAYS) k))
 unfolding decode
 units-every m = every-table (unitIn (word m DAYS)) (word m UNITS) (unitAt m (word m DAYS))
-
-phase-held : (m : List ℕ) → decode m .phase ≡ word m PHASE
-unfolding decode
-phase-held m = refl
 
 pub sound-words : (m : List ℕ) → soundIn m ≡ true → SoundWords m
 unfolding soundIn sound pairsFit unitsWhole unitWhole

@@ -1,14 +1,14 @@
 -- The tests of ranges as facts, of a plain book and of one in memory.
 use Prim.Native.Nat.{ℕ, _+_, _-_, _*_, _≤_, _<_}
 use mathlib.Core.Path.{_≡_, refl, sym, ap, _∙_}
-use mathlib.Core.Bool.{Bool, true, false, cond, not, _&&_, _||_}
-use mathlib.Core.List.{List, [], _∷_}
+use mathlib.Core.Bool.{Bool, true, false, not}
+use mathlib.Core.List.{List}
 use native.Mathlib.Omega.{arith}
-use lib.ListN.{length, getD, take, drop}
+use lib.ListN.{length, getD, drop}
 use lib.Seq.{getD-take, getD-drop}
-use lib.Dec.{eqb, leb, ltb}
-use borrow.Author.Tests.{leb-true, le-leb, lt-leb, eq-eqb, ne-eqb, ltb-true, lt-ltb}
-use Rattle.measures.specs.Ranges.{between, mostEnergy, mostPrice}
+use lib.Dec.{leb}
+use borrow.Author.Tests.{leb-true, le-leb, eq-eqb, ne-eqb, ltb-true, lt-ltb}
+use Rattle.measures.specs.Ranges.{mostEnergy, mostPrice}
 use Rattle.measures.specs.Lists.{holds, every, all, table}
 use Rattle.measures.specs.Sharing.{total}
 use Rattle.measures.proofs.RangeLaws.{In, inside, outside, within}
@@ -26,11 +26,11 @@ use Rattle.measures.proofs.ListLaws.{
   every-table,
   not-both,
 }
-use Rattle.limits.specs.Units.{mostDays, mostCapacity, daysIn, periods, kindIn, generator, capacityIn, assetIn}
+use Rattle.limits.specs.Units.{mostDays, mostCapacity, periods, generator}
 use Rattle.matching.specs.Memory.{orderAt, ordersIn}
 use Rattle.matching.proofs.laws.orders.OrderLaws.{orders-length}
 use Rattle.book.specs.Book.{EnrolledUnit, Book, noUnit, unitOf}
-use Rattle.book.specs.Sound.{headIn, pricesIn, bilateralSides, offerSides, offerIn, orderIn}
+use Rattle.book.specs.Sound.{headIn, bilateralSides, offerIn, orderIn}
 use Rattle.book.specs.Layout.{
   DAYS,
   FLOOR,
@@ -76,6 +76,10 @@ offers-held m = table-length _ _
 pub orders-held : (m : List ℕ) → length (decode m .orders) ≡ word m ORDERS
 unfolding decode
 orders-held m = orders-length (ordersPart m) (word m ORDERS)
+
+pub phase-held : (m : List ℕ) → decode m .phase ≡ word m PHASE
+unfolding decode
+phase-held m = refl
 
 -- the head of a book in memory
 pub record Head (m : List ℕ) : Type 0 where

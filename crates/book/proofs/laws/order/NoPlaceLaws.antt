@@ -1,21 +1,41 @@
 -- An order that needs no place: what was accepted is so still, and what is let through trades whole.
-use Prim.Native.Nat.{ℕ, _+_, _≤_, _<_}
-use mathlib.Core.Path.{_≡_, refl, sym, ap, _∙_}
-use mathlib.Core.Bool.{Bool, true, false, cond, _&&_, _||_}
+use Prim.Native.Nat.{ℕ, _+_, _≤_}
+use mathlib.Core.Path.{_≡_, refl, ap, _∙_}
+use mathlib.Core.Bool.{Bool, true, false, cond, _&&_}
 use mathlib.Core.List.{List, [], _∷_, _++_, append-nil}
 use native.Mathlib.Omega.{arith}
 use lib.ListN.{length}
 use lib.Dec.{eqb, leb, ltb}
 use borrow.Author.Tests.{eqb-false, eq-eqb, ne-eqb, ltb-false}
 use Rattle.measures.specs.Lists.{sumOf}
-use Rattle.measures.proofs.ListLaws.{cond-false}
+use Rattle.measures.proofs.ListLaws.{cond-false, and-right-false}
 use Rattle.matching.specs.Orders.{Order as OpenOrder, leaving}
 use Rattle.matching.specs.Rolling.{Met, meet}
 use Rattle.matching.proofs.laws.rolling.RollingLaws.{traded-and-left}
 use Rattle.book.specs.Book.{Book, callPhase, mostOrders, withOrders}
-use Rattle.book.specs.Refusals.{Outcome, Check, check, firstOf, decided, unsound, needsPlace, unknownUnit, fewRows, badPrice, badQuantity, badPeriod, badDirection, otherDirection, twoOpen, numbersUsed, hourMisfit, termMisfit, volumeMisfit}
-use Rattle.book.specs.Order.{orderDeclares, newOrder, orderChecksWith, orderRefusal, waiting, ordered, orderedInCall, orderedInRolling, ordering}
-use Rattle.book.specs.NoPlace.{orderingWith, orderingBefore, LetThrough, SameAsBefore, Stays, TradesWhole, WholeOnFull}
+use Rattle.book.specs.Refusals.{
+  Outcome,
+  Check,
+  check,
+  firstOf,
+  decided,
+  unsound,
+  needsPlace,
+  unknownUnit,
+  fewRows,
+  badPrice,
+  badQuantity,
+  badPeriod,
+  badDirection,
+  otherDirection,
+  twoOpen,
+  numbersUsed,
+  hourMisfit,
+  termMisfit,
+  volumeMisfit,
+}
+use Rattle.book.specs.Order.{orderDeclares, newOrder, orderRefusal, waiting, ordered, orderedInCall, orderedInRolling, ordering}
+use Rattle.book.specs.NoPlace.{orderingWith, LetThrough, SameAsBefore, Check17Stays, TradesWhole, WholeOnFull}
 use Rattle.book.proofs.laws.answer.RefusalLaws.{not-refused, first-passed}
 use Rattle.book.proofs.laws.answer.MadeLaws.{decided-refused, decided-accepted}
 use Rattle.book.proofs.laws.sound.SoundLaws.{sound-facts}
@@ -35,13 +55,9 @@ earlier-first (c ∷ pre) post n t h = go (c .applies) (λ k. earlier-first pre 
     go true ih k = refl
     go false ih k = ih k
 
-and-no : (a c : Bool) → c ≡ false → (a && c) ≡ false
-and-no true c e = e
-and-no false c e = refl
-
-and-yes : (a c : Bool) → c ≡ true → (a && c) ≡ a
-and-yes true c e = e
-and-yes false c e = refl
+and-true-right : (a c : Bool) → c ≡ true → (a && c) ≡ a
+and-true-right true c e = e
+and-true-right false c e = refl
 
 module _ (b : Book) (u d p price q lent : ℕ) where
   abbrev arriving : OpenOrder
@@ -71,12 +87,13 @@ module _ (b : Book) (u d p price q lent : ℕ) where
 
 pub let-through : LetThrough
 let-through b u d p price q lent e =
-    by-check b u d p price q lent ∙ same-check b u d p price q lent _ false (and-no (full b u d p price q lent) (needsPlace b (newOrder b u d p price q)) e)
-
-pub stays : Stays
-stays b u d p price q lent e =
     by-check b u d p price q lent
-    ∙ same-check b u d p price q lent _ _ (and-yes (full b u d p price q lent) (needsPlace b (newOrder b u d p price q)) e)
+    ∙ same-check b u d p price q lent _ false (and-right-false (full b u d p price q lent) (needsPlace b (newOrder b u d p price q)) e)
+
+pub check-17-stays : Check17Stays
+check-17-stays b u d p price q lent e =
+    by-check b u d p price q lent
+    ∙ same-check b u d p price q lent _ _ (and-true-right (full b u d p price q lent) (needsPlace b (newOrder b u d p price q)) e)
 
 pub same-as-before : SameAsBefore
 same-as-before b u d p price q lent n = by-check b u d p price q lent ∙ go (leb mostOrders (length (b .orders))) n

@@ -51,7 +51,7 @@ use Rattle.book.specs.Layout.{
 }
 use Rattle.book.specs.Order.{orderChecks, newOrder}
 use Rattle.book.specs.inner.Ordering.{nameChecks, dayChecks, orderFitChecks, NameChecked, ofUnitAt, againstAt}
-use Rattle.book.proofs.laws.memory.RangeFacts.{units-held, orders-held, order-word}
+use Rattle.book.proofs.laws.memory.RangeFacts.{units-held, order-word}
 use Rattle.book.proofs.laws.check.NumberLaws.{orders-from}
 use Rattle.book.proofs.laws.answer.RefusalLaws.{Numbered}
 use Rattle.book.proofs.laws.curve.CurveLaws.{figures-at}

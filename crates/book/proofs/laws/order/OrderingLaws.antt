@@ -12,7 +12,7 @@ use Rattle.measures.specs.Ranges.{mostEnergy}
 use Rattle.measures.specs.Lists.{Each, keep}
 use Rattle.measures.proofs.RangeLaws.{In, within}
 use Rattle.measures.proofs.ListLaws.{and-true, or-left, or-right, not-both}
-use Rattle.matching.specs.Orders.{Order as OpenOrder, sells}
+use Rattle.matching.specs.Orders.{Order as OpenOrder}
 use Rattle.matching.specs.Rolling.{meet}
 use Rattle.book.specs.Book.{Book, callPhase, mostOrders, mostNumbers, unitOf, figuresOf}
 use Rattle.book.specs.Trades.{raises, lowers}
@@ -194,7 +194,8 @@ module _ (b : Book) (u d p price q : ℕ) where
       more a =
           record {
             formed =
-                formed-order mostOrders b (newOrder b u d p price q) (s .formed) (a .ranges) refl (a .room (call-needs b (newOrder b u d p price q) c)) (a .left)
+                formed-order mostOrders b (newOrder b u d p price q) (s .formed) (a .ranges) refl
+                (a .room (call-needs b (newOrder b u d p price q) c)) (a .left)
                 (one-direction-beside (newOrder b u d p price q) (b .orders) (a .follows)) (λ r. absurd (omega arith));
             fits = order-fits s (a .fits);
           }

@@ -1,14 +1,13 @@
 -- Whether an order lacks a place, on a book in memory.
-use Prim.Native.Nat.{ℕ, zero, suc, _+_, _*_, _≤_, _<_}
+use Prim.Native.Nat.{ℕ, zero, suc, _+_, _≤_, _<_}
 use mathlib.Core.Path.{_≡_, refl, sym, ap, _∙_}
-use mathlib.Core.Bool.{Bool, true, false, not, _&&_, _||_}
+use mathlib.Core.Bool.{Bool, true, false, not, _||_}
 use mathlib.Core.List.{List}
 use native.Mathlib.Omega.{arith}
-use borrow.Author.Tests.{eq-eqb, ne-eqb, le-leb, lt-leb, lt-ltb, le-ltb}
+use borrow.Author.Tests.{ne-eqb, le-leb, lt-leb, lt-ltb, le-ltb}
 use borrow.Rule.Slice.PartMut.{mid-len}
 use lib.ListN.{length}
 use lib.Dec.{eqb, ltb}
-use Rattle.measures.proofs.ListLaws.{and-true}
 use Rattle.matching.specs.Orders.{Order as OpenOrder, orderWith}
 use Rattle.matching.specs.Memory.{ordersIn}
 use Rattle.matching.specs.Rolling.{meet}
@@ -20,7 +19,7 @@ use Rattle.book.specs.Layout.{PHASE, ORDERS, GIVEN, ordersStart, amounts
 use Rattle.book.specs.Refusals.{needsPlace, ordersFull}
 use Rattle.book.specs.Order.{newOrder}
 use Rattle.book.specs.inner.Readable.{Readable}
-use Rattle.book.proofs.laws.memory.RangeFacts.{orders-held}
+use Rattle.book.proofs.laws.memory.RangeFacts.{orders-held, phase-held}
 use Rattle.book.proofs.laws.check.NumberLaws.{orders-from}
 use Rattle.book.proofs.laws.order.OrderingLaws.{call-needs}
 use Rattle.book.proofs.laws.order.WaitLaws.{new-order}
@@ -43,12 +42,8 @@ module _ (m : List ℕ) (u d p price q : ℕ) where
     full-needs : lacking ≡ needsPlace (decode m) arriving
     full-needs = rw (le-leb 256 (length (decode m .orders)) (rw (orders-held m) full)) refl
 
-    phase-held : decode m .phase ≡ word m PHASE
-    unfolding decode
-    phase-held = refl
-
     pub full-in-call : word m PHASE ≡ 0 → true ≡ lacking
-    full-in-call e = sym (full-needs ∙ call-needs (decode m) arriving (phase-held ∙ e))
+    full-in-call e = sym (full-needs ∙ call-needs (decode m) arriving (phase-held m ∙ e))
 
     -- what would be left of it, whatever its number
     left-is : Readable m → leftOver (ordersPart m) (word m ORDERS) (orderWith 0 u d p price q) ≡ meet arriving (decode m .orders) .left
@@ -65,5 +60,5 @@ module _ (m : List ℕ) (u d p price q : ℕ) where
     unfolding needsPlace
     full-rolling r n left e =
         some-left left ∙ ap (ltb 0) (e ∙ left-is r)
-        ∙ sym (ap (λ (b : Bool). b || ltb 0 (meet arriving (decode m .orders) .left)) (ne-eqb (decode m .phase) callPhase (λ z. n (sym phase-held ∙ z))))
+        ∙ sym (ap (λ (b : Bool). b || ltb 0 (meet arriving (decode m .orders) .left)) (ne-eqb (decode m .phase) callPhase (λ z. n (sym (phase-held m) ∙ z))))
         ∙ sym full-needs

@@ -5,7 +5,7 @@ use mathlib.Core.Bool.{Bool, true}
 use mathlib.Core.List.{List, [], _∷_, _++_}
 use native.Mathlib.Omega.{arith}
 use borrow.Author.Tests.{ltb-false}
-use lib.ListN.{length, getD, drop, length-map, length-append}
+use lib.ListN.{length, getD, length-map}
 use lib.Dec.{eqb}
 use Rattle.measures.specs.Lists.{Each, keep}
 use Rattle.measures.proofs.ListLaws.{cond-case}
@@ -20,14 +20,30 @@ use Rattle.matching.proofs.laws.orders.LaidLaws.{laid-length}
 use Rattle.matching.proofs.laws.rolling.RollingLaws.{Sides, row-sides, traded-and-left}
 use Rattle.book.specs.Book.{Book, numbered}
 use Rattle.book.specs.Trades.{rowsBooked}
-use Rattle.book.specs.Layout.{DAYS, PHASE, GIVEN, UNITS, OFFERS, ORDERS, amountsStart, figurePlace, RAISED, LOWERED, VOLUME, word, ordersPart, decode, Aside}
+use Rattle.book.specs.Layout.{
+  DAYS,
+  PHASE,
+  GIVEN,
+  UNITS,
+  OFFERS,
+  ORDERS,
+  amountsStart,
+  figurePlace,
+  RAISED,
+  LOWERED,
+  VOLUME,
+  word,
+  ordersPart,
+  decode,
+  Aside,
+}
 use Rattle.book.specs.Refusals.{firstOf}
 use Rattle.book.specs.inner.Readable.{Readable}
 use Rattle.book.specs.Contract.{soundIn}
 use Rattle.book.specs.inner.RowsIn.{Small, smallFigures, RowFits, RowsFit, RowsTraded}
 use Rattle.book.specs.Order.{orderChecks, orderRefusal, newOrder, waiting}
 use Rattle.book.specs.inner.Ordering.{OrdersPut, Rolled, RolledOn}
-use Rattle.book.proofs.laws.memory.RangeFacts.{units-held, orders-held}
+use Rattle.book.proofs.laws.memory.RangeFacts.{units-held, orders-held, phase-held}
 use Rattle.book.proofs.laws.check.NumberLaws.{orders-from}
 use Rattle.book.proofs.laws.answer.MadeLaws.{sound-book, sound-readable, chain-sound}
 use Rattle.book.proofs.laws.answer.RefusalLaws.{none-applies}
@@ -88,10 +104,6 @@ module _ (m rows : List ℕ) (u d p price q : ℕ) (e : soundIn m ≡ true) (z :
   unfolding decode
   days-held = refl
 
-  phase-held : decode m .phase ≡ word m PHASE
-  unfolding decode
-  phase-held = refl
-
   given-held : decode m .given ≡ word m GIVEN
   unfolding decode
   given-held = refl
@@ -118,7 +130,7 @@ module _ (m rows : List ℕ) (u d p price q : ℕ) (e : soundIn m ≡ true) (z :
   number-left = let t = passed .left in omega (arith, given-held)
 
   pub orders-left : word m PHASE ≡ 0 → word m ORDERS < 256
-  orders-left c = let t = passed .room (call-needs (decode m) arrived (phase-held ∙ c)) in omega (arith, orders-held m)
+  orders-left c = let t = passed .room (call-needs (decode m) arrived (phase-held m ∙ c)) in omega (arith, orders-held m)
 
   each-fits : Each (RowFits m) (met .rows)
   each-fits = each-has (RowFits m) (met .rows) one
