@@ -1,6 +1,7 @@
 -- An order that needs no place: what was accepted is so still, and what is let through trades whole.
-use Prim.Native.Nat.{ℕ, _+_, _≤_}
+use Prim.Native.Nat.{ℕ, _+_, _≤_, _<_}
 use mathlib.Core.Path.{_≡_, refl, ap, _∙_}
+use mathlib.Core.Logic.{_⊎_, inl, inr}
 use mathlib.Core.Bool.{Bool, true, false, cond, _&&_}
 use mathlib.Core.List.{List, [], _∷_, _++_, append-nil}
 use native.Mathlib.Omega.{arith}
@@ -40,7 +41,7 @@ use Rattle.book.proofs.laws.answer.RefusalLaws.{not-refused, first-pass
 use Rattle.book.proofs.laws.answer.MadeLaws.{decided-refused, decided-accepted}
 use Rattle.book.proofs.laws.sound.SoundLaws.{sound-facts}
 use Rattle.book.proofs.laws.rows.TradeLaws.{kept-rows}
-use Rattle.book.proofs.laws.order.OrderingLaws.{or-neither, order-passed}
+use Rattle.book.proofs.laws.order.OrderingLaws.{or-neither, call-needs, rest-needs, whole-needs-none, order-passed}
 
 -- a check that is not the first to apply may apply or not
 earlier-first : (pre post : List Check) (n : ℕ) (t : Bool) → (firstOf (pre ++ (check n true ∷ post)) ≡ n → ⊥)
@@ -86,14 +87,19 @@ module _ (b : Book) (u d p price q lent : ℕ) where
       (λ e. n (ap (λ (o : Outcome). o .refusal) (decided-refused _ b (ordered b arriving) (omega arith)) ∙ e)))
 
 pub let-through : LetThrough
-let-through b u d p price q lent e =
+let-through b u d p price q lent n e =
     by-check b u d p price q lent
-    ∙ same-check b u d p price q lent _ false (and-right-false (full b u d p price q lent) (needsPlace b (newOrder b u d p price q)) e)
+    ∙ same-check b u d p price q lent _ false
+    (and-right-false (full b u d p price q lent) (needsPlace b (newOrder b u d p price q)) (whole-needs-none b (newOrder b u d p price q) n e))
 
 pub check-17-stays : Check17Stays
-check-17-stays b u d p price q lent e =
+check-17-stays b u d p price q lent h =
     by-check b u d p price q lent
-    ∙ same-check b u d p price q lent _ _ (and-true-right (full b u d p price q lent) (needsPlace b (newOrder b u d p price q)) e)
+    ∙ same-check b u d p price q lent _ _ (and-true-right (full b u d p price q lent) (needsPlace b (newOrder b u d p price q)) (needs h))
+  where
+    needs : (0 < meet (newOrder b u d p price q) (b .orders) .left) ⊎ (b .phase ≡ callPhase) → needsPlace b (newOrder b u d p price q) ≡ true
+    needs (inl l) = rest-needs b (newOrder b u d p price q) l
+    needs (inr c) = call-needs b (newOrder b u d p price q) c
 
 pub same-as-before : SameAsBefore
 same-as-before b u d p price q lent n = by-check b u d p price q lent ∙ go (leb mostOrders (length (b .orders))) n

@@ -7,7 +7,7 @@ use native.Mathlib.Omega.{arith}
 use native.Mathlib.Decide.{ℕ-discrete}
 use lib.ListN.{length}
 use lib.Dec.{eqb, ltb}
-use borrow.Author.Tests.{leb-true, leb-false, ltb-true, ltb-false, lt-ltb, eqb-true, eq-eqb, ne-eqb, not-false}
+use borrow.Author.Tests.{leb-true, leb-false, ltb-true, ltb-false, lt-ltb, le-ltb, eqb-true, eq-eqb, ne-eqb, not-false}
 use Rattle.measures.specs.Ranges.{mostEnergy}
 use Rattle.measures.specs.Lists.{Each, keep}
 use Rattle.measures.proofs.RangeLaws.{In, within}
@@ -89,11 +89,16 @@ needed-not false c e n = refl
 -- an order that would wait needs a place, and so does one with a remainder
 pub call-needs : (b : Book) (o : OpenOrder) → b .phase ≡ callPhase → needsPlace b o ≡ true
 unfolding needsPlace
-call-needs b o c = or-left (eqb (b .phase) callPhase) (ltb 0 (meet o (b .orders) .left)) (eq-eqb (b .phase) callPhase c)
+call-needs b o c = or-left _ _ (eq-eqb (b .phase) callPhase c)
 
 pub rest-needs : (b : Book) (o : OpenOrder) → 0 < meet o (b .orders) .left → needsPlace b o ≡ true
 unfolding needsPlace
-rest-needs b o l = or-right (eqb (b .phase) callPhase) (ltb 0 (meet o (b .orders) .left)) (lt-ltb 0 (meet o (b .orders) .left) l)
+rest-needs b o l = or-right (eqb (b .phase) callPhase) _ (lt-ltb 0 (meet o (b .orders) .left) l)
+
+-- no other does
+pub whole-needs-none : (b : Book) (o : OpenOrder) → (b .phase ≡ callPhase → ⊥) → meet o (b .orders) .left ≡ 0 → needsPlace b o ≡ false
+unfolding needsPlace
+whole-needs-none b o n e = rw (ne-eqb (b .phase) callPhase n) (le-ltb 0 (meet o (b .orders) .left) (omega arith))
 
 module _ (b : Book) (u d p price q : ℕ) where
   -- what an accepted order passed
