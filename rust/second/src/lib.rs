@@ -1,5 +1,5 @@
-//! The second engine of Cenduxari: paper 01, "Term contracts for electricity", in plain Rust.
-//! It is written from the paper alone, so that the proved engine can be compared with it.
+//! The second engine of Cenduxari: paper 01, "Term contracts for electricity", and those of paper 02's requests that the
+//! proved engine has, in plain Rust. It is written from the papers alone, so that the two can be compared.
 
 pub mod beside;
 pub mod book;
