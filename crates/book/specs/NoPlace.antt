@@ -1,16 +1,17 @@
 -- "With 256 orders open, an order that would match in full is turned down today." (paper 02, job 4)
-use Prim.Native.Nat.{ℕ, _≤_, _<_}
+use Prim.Native.Nat.{ℕ, _+_, _≤_, _<_}
 use mathlib.Core.Path.{_≡_}
 use mathlib.Core.Logic.{_⊎_}
-use mathlib.Core.Bool.{false}
+use mathlib.Core.Bool.{Bool, true, false}
 use mathlib.Core.List.{_∷_}
 use lib.ListN.{length}
 use lib.Dec.{leb}
-use Rattle.measures.specs.Lists.{sumOf}
-use Rattle.matching.specs.Orders.{Order as OpenOrder}
+use Rattle.measures.specs.Lists.{sumOf, table}
+use Rattle.matching.specs.Orders.{Order as OpenOrder, orderWith}
 use Rattle.matching.specs.Rolling.{meet}
-use Rattle.book.specs.Book.{Book, callPhase, mostOrders}
-use Rattle.book.specs.Refusals.{Outcome, Check, check, firstOf, decided, unsound}
+use Rattle.book.specs.Book.{Book, rulesOf, callPhase, rollingPhase, mostOrders, withOrders, inPhase}
+use Rattle.book.specs.Opening.{fresh}
+use Rattle.book.specs.Refusals.{Outcome, Check, check, firstOf, decided, unsound, ordersFull}
 use Rattle.book.specs.Order.{newOrder, orderChecksWith, ordered, ordering}
 
 -- an order with this check as its 17
@@ -50,3 +51,14 @@ abbrev pub WholeOnFull : Type 0
 WholeOnFull =
     (b : Book) (u d p price q lent : ℕ) → mostOrders ≤ length (b .orders) → ordering b u d p price q lent .refusal ≡ 0
     → TradesWhole b (newOrder b u d p price q) (ordering b u d p price q lent)
+
+-- whether 17 refuses a purchase with 256 sales of 1 kWh open at price 5, by phase, price and quantity
+abbrev pub refusedOnFull : ℕ → ℕ → ℕ → Bool
+refusedOnFull phase price q =
+    ordersFull (withOrders (inPhase (fresh (rulesOf 1 0 9)) phase) (table 256 (λ k. orderWith (k + 1) 1 0 0 5 1))) (orderWith 257 2 1 0 price q) .applies
+
+-- all of them; a kWh more, though its matches would free places; a price that they do not take; the call phase
+abbrev pub OnFull : Type 0
+OnFull =
+    (refusedOnFull rollingPhase 5 256 ≡ false) × (refusedOnFull rollingPhase 5 257 ≡ true) × (refusedOnFull rollingPhase 4 1 ≡ true)
+    × (refusedOnFull callPhase 5 256 ≡ true)

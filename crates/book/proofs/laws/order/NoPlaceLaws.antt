@@ -8,10 +8,10 @@ use native.Mathlib.Omega.{arith}
 use lib.ListN.{length}
 use lib.Dec.{eqb, leb, ltb}
 use borrow.Author.Tests.{eqb-false, eq-eqb, ne-eqb, ltb-false}
-use Rattle.measures.specs.Lists.{sumOf}
+use Rattle.measures.specs.Lists.{sumOf, tableFrom}
 use Rattle.measures.proofs.ListLaws.{cond-false, and-right-false}
-use Rattle.matching.specs.Orders.{Order as OpenOrder, leaving}
-use Rattle.matching.specs.Rolling.{Met, meet}
+use Rattle.matching.specs.Orders.{Order as OpenOrder, leaving, askAhead, insert, laid}
+use Rattle.matching.specs.Rolling.{Met, meet, candidate, counterparts, matches}
 use Rattle.matching.proofs.laws.rolling.RollingLaws.{traded-and-left}
 use Rattle.book.specs.Book.{Book, callPhase, mostOrders, withOrders}
 use Rattle.book.specs.Refusals.{
@@ -36,7 +36,7 @@ use Rattle.book.specs.Refusals.{
   volumeMisfit,
 }
 use Rattle.book.specs.Order.{orderDeclares, newOrder, orderRefusal, waiting, ordered, orderedInCall, orderedInRolling, ordering}
-use Rattle.book.specs.NoPlace.{orderingWith, LetThrough, SameAsBefore, Check17Stays, TradesWhole, WholeOnFull}
+use Rattle.book.specs.NoPlace.{orderingWith, LetThrough, SameAsBefore, Check17Stays, TradesWhole, WholeOnFull, OnFull}
 use Rattle.book.proofs.laws.answer.RefusalLaws.{not-refused, first-passed}
 use Rattle.book.proofs.laws.answer.MadeLaws.{decided-refused, decided-accepted}
 use Rattle.book.proofs.laws.sound.SoundLaws.{sound-facts}
@@ -165,3 +165,8 @@ module _ (b : Book) (u d p price q lent : ℕ) (many : mostOrders ≤ length (b 
 
 pub whole-on-full : WholeOnFull
 whole-on-full = trades-whole
+
+-- by computation
+pub on-full : OnFull
+unfolding needsPlace meet counterparts candidate matches laid insert askAhead tableFrom
+on-full = (refl, refl, refl, refl)
