@@ -45,6 +45,7 @@ Check17Stays =
 pub record TradesWhole (b : Book) (o : OpenOrder) (r : Outcome) : Type 0 where
   pub rolling : b .phase ≡ callPhase → ⊥
   pub whole : sumOf (λ t. t .quantity) (r .rows) ≡ o .quantity
+  -- what is open is what its matches left, and it is not there
   pub waiting : r .book .orders ≡ meet o (b .orders) .orders
 
 abbrev pub WholeOnFull : Type 0

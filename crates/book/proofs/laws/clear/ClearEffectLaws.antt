@@ -1,11 +1,11 @@
 -- Clear on a sound book in memory: the orders' part cleared, its rows booked, and the phase set.
-use Prim.Native.Nat.{ℕ, _+_, _*_, _≤_, _<_}
-use mathlib.Core.Path.{_≡_, refl, ap, _∙_}
+use Prim.Native.Nat.{ℕ, _+_, _*_, _≤_}
+use mathlib.Core.Path.{_≡_, ap, _∙_}
 use mathlib.Core.Bool.{true}
 use mathlib.Core.List.{List}
 use native.Mathlib.Omega.{arith}
 use borrow.Rule.Slice.PartMut.{putMid}
-use lib.ListN.{length, getD, take, set, length-set, length-take, length-drop}
+use lib.ListN.{length, getD, set, length-set, length-take, length-drop}
 use lib.Seq.{getD-set-same, getD-set-other, drop-set-lt}
 use Rattle.measures.specs.Lists.{table}
 use Rattle.matching.specs.Orders.{Row, rising, numbers}
@@ -47,7 +47,7 @@ use Rattle.book.specs.Contract.{soundIn}
 use Rattle.book.specs.inner.RowsIn.{Small, smallFigures, RowFits, RowsFit, RowsTraded}
 use Rattle.book.specs.inner.Periods.{clearedAll, Swept, AllCleared}
 use Rattle.book.specs.inner.Ordering.{OrdersPut}
-use Rattle.book.proofs.laws.memory.RangeFacts.{units-held}
+use Rattle.book.proofs.laws.memory.RangeFacts.{units-held, days-held}
 use Rattle.book.proofs.laws.answer.MadeLaws.{sound-book, sound-readable}
 use Rattle.book.proofs.laws.sound.SoundLaws.{sound-facts}
 use Rattle.book.proofs.laws.memory.WordLaws.{book-same, units-same, offers-same, orders-same, aside-then}
@@ -120,10 +120,6 @@ module _ (m rows ys rows′ : List ℕ) (count n′ : ℕ) (s : soundIn m ≡ tr
 abbrev noRow : Row
 noRow = record { way = 0; period = 0; seller = 0; buyer = 0; quantity = 0; price = 0 }
 
-days-are : (m : List ℕ) → decode m .rules .days ≡ word m DAYS
-unfolding decode
-days-are m = refl
-
 -- what booking the rows asks
 module _ (m rows x rows′ : List ℕ) (count : ℕ) (s : soundIn m ≡ true) (l : 4464 ≤ length rows) (w : Swept m rows count x rows′) where
   pub swept-readable : Readable x
@@ -158,7 +154,7 @@ module _ (m rows x rows′ : List ℕ) (count : ℕ) (s : soundIn m ≡ true) (l
           let e0 = w .low DAYS (omega arith) (omega arith) in
           let e5 = w .low UNITS (omega arith) (omega arith) in
           let u = units-held m in
-          let d = days-are m in
+          let d = days-held m in
           let z : RowFits x b = record {
             period = omega arith;
             sellerFrom = omega arith;

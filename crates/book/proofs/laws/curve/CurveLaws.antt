@@ -1,19 +1,19 @@
 -- Laws of the curve: its checks by cases, a sound book's figures, and the points one after the other.
-use Prim.Native.Nat.{ℕ, zero, suc, _+_, _-_, _*_, _/_, _≤_, _<_}
+use Prim.Native.Nat.{ℕ, suc, _+_, _-_, _*_, _/_, _≤_, _<_}
 use mathlib.Core.Path.{_≡_, refl, sym, ap, _∙_}
-use mathlib.Core.Bool.{Bool, true, false, cond, not, _&&_}
+use mathlib.Core.Bool.{Bool, true, false, not}
 use mathlib.Core.List.{List, [], _∷_, _++_, append-assoc}
 use native.Mathlib.Omega.{arith}
-use native.Mathlib.Numerals.{add-one, add-two}
-use borrow.Author.Tests.{le-leb, lt-leb, lt-ltb, le-ltb, ne-eqb, not-false, ltb-false, ltb-true}
+use native.Mathlib.Numerals.{add-one}
+use borrow.Author.Tests.{lt-ltb, le-ltb, ne-eqb, not-false, ltb-false, ltb-true}
 use lib.ListN.{length, getD, take, drop, set, take-append-drop, length-set}
 use lib.Seq.{take-suc-set, drop-set-lt}
-use lib.Dec.{eqb, leb, ltb}
+use lib.Dec.{eqb}
 use Rattle.measures.proofs.RangeLaws.{In, inside, outside, within}
 use Rattle.measures.specs.Ranges.{between}
 use Rattle.measures.proofs.ListLaws.{table-at, cond-true, cond-false, and-true, both-ways}
 use Rattle.limits.specs.Units.{periods, mostCapacity}
-use Rattle.limits.specs.Limits.{hourOf, hourLimit}
+use Rattle.limits.specs.Limits.{hourOf}
 use Rattle.limits.proofs.LimitLaws.{hour-most}
 use Rattle.matching.proofs.laws.lists.EachLaws.{each-at}
 use Rattle.book.specs.Book.{Figures, EnrolledUnit, Book, noUnit, noFigures, unitOf, figuresOf, net}
@@ -22,19 +22,14 @@ use Rattle.book.specs.Sound.{sound}
 use Rattle.book.specs.Refusals.{firstOf}
 use Rattle.book.specs.Curve.{Drawn, curve, curveRefusal, curveChecks, firstHalf, secondHalf, pointsFrom, points}
 use Rattle.book.specs.Layout.{DAYS, UNITS, figurePlace, RAISED, LOWERED, word, figuresAt, decode, laidOut, netIn}
-use Rattle.book.specs.declared.Answer.{Answer}
 use Rattle.book.specs.declared.Answer.the-variants.{Done, Refused}
-use Rattle.book.specs.Contract.{Told, toldBy, soundIn, curveOn, Curved}
+use Rattle.book.specs.Contract.{soundIn, curveOn, Curved}
 use Rattle.book.specs.inner.Readable.{Netted}
-use Rattle.book.proofs.laws.memory.RangeFacts.{units-held, unit-at}
+use Rattle.book.proofs.laws.memory.RangeFacts.{units-held, unit-at, days-held}
 use Rattle.book.proofs.laws.answer.MadeLaws.{sound-book, sound-laid, chain-sound, chain-unsound}
 use Rattle.book.proofs.laws.answer.RefusalLaws.{none-applies}
 use Rattle.book.proofs.laws.sound.SoundLaws.{UnitRanges, Sound, sound-facts}
 use Rattle.book.proofs.laws.sound.FitLaws.{Fits}
-
-days-held : (m : List ℕ) → decode m .rules .days ≡ word m DAYS
-unfolding decode
-days-held m = refl
 
 -- the checks by cases
 module _ (m : List ℕ) (u day lent : ℕ) where

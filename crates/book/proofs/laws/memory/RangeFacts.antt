@@ -77,9 +77,18 @@ pub orders-held : (m : List ℕ) → length (decode m .orders) ≡ word m ORDERS
 unfolding decode
 orders-held m = orders-length (ordersPart m) (word m ORDERS)
 
+-- its days, its phase and the numbers given
+pub days-held : (m : List ℕ) → decode m .rules .days ≡ word m DAYS
+unfolding decode
+days-held m = refl
+
 pub phase-held : (m : List ℕ) → decode m .phase ≡ word m PHASE
 unfolding decode
 phase-held m = refl
+
+pub given-held : (m : List ℕ) → decode m .given ≡ word m GIVEN
+unfolding decode
+given-held m = refl
 
 -- the head of a book in memory
 pub record Head (m : List ℕ) : Type 0 where

@@ -51,7 +51,7 @@ use Rattle.book.specs.Layout.{
 }
 use Rattle.book.specs.Order.{orderChecks, newOrder}
 use Rattle.book.specs.inner.Ordering.{nameChecks, dayChecks, orderFitChecks, NameChecked, ofUnitAt, againstAt}
-use Rattle.book.proofs.laws.memory.RangeFacts.{units-held, order-word}
+use Rattle.book.proofs.laws.memory.RangeFacts.{units-held, order-word, given-held}
 use Rattle.book.proofs.laws.check.NumberLaws.{orders-from}
 use Rattle.book.proofs.laws.answer.RefusalLaws.{Numbered}
 use Rattle.book.proofs.laws.curve.CurveLaws.{figures-at}
@@ -323,17 +323,13 @@ module _ (m : List ℕ) (u d p price q : ℕ) (few : word m ORDERS ≤ 256) (hu 
             passes-first (otherDirection (decode m) u d p) _ 17 other-no (passes-first (twoOpen (decode m) u p) _ 17 two-no (applies-first full _ h))
 
         module _ (full-no : full .applies ≡ false) where
-          given-is : decode m .given ≡ word m GIVEN
-          unfolding decode
-          given-is = refl
-
           pub days-used : 65535 ≤ word m GIVEN → 18 ≡ firstOf (dayChecks (decode m) u d p price q)
           unfolding dayChecks
           days-used h =
               passes-first (otherDirection (decode m) u d p) _ 18 other-no
               (passes-first (twoOpen (decode m) u p) _ 18 two-no
               (passes-first full _ 18 full-no
-              (applies-first (numbersUsed (decode m)) [] (le-leb 65535 (decode m .given) (rw given-is h)))))
+              (applies-first (numbersUsed (decode m)) [] (le-leb 65535 (decode m .given) (rw (given-held m) h)))))
 
           pub days-pass : word m GIVEN < 65535 → 0 ≡ firstOf (dayChecks (decode m) u d p price q)
           unfolding dayChecks
@@ -341,7 +337,7 @@ module _ (m : List ℕ) (u d p price q : ℕ) (few : word m ORDERS ≤ 256) (hu 
               passes-first (otherDirection (decode m) u d p) _ 0 other-no
               (passes-first (twoOpen (decode m) u p) _ 0 two-no
               (passes-first full _ 0 full-no
-              (passes-first (numbersUsed (decode m)) [] 0 (lt-leb 65535 (decode m .given) (rw given-is h)) none-first)))
+              (passes-first (numbersUsed (decode m)) [] 0 (lt-leb 65535 (decode m .given) (rw (given-held m) h)) none-first)))
 
 -- the count by phase
 pub counted-call : (x s : ℕ) → x ≡ 0 → s ≡ cond (eqb x 0) s 0

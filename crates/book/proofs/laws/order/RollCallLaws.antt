@@ -1,6 +1,6 @@
 -- An order in the rolling phase in memory: what each step asks for, and the book that they come to.
 use Prim.Native.Nat.{ℕ, _+_, _-_, _*_, _≤_, _<_, min}
-use mathlib.Core.Path.{_≡_, refl, sym, ap, _∙_}
+use mathlib.Core.Path.{_≡_, sym, ap, _∙_}
 use mathlib.Core.Bool.{Bool, true}
 use mathlib.Core.List.{List, [], _∷_, _++_}
 use native.Mathlib.Omega.{arith}
@@ -43,7 +43,7 @@ use Rattle.book.specs.Contract.{soundIn}
 use Rattle.book.specs.inner.RowsIn.{Small, smallFigures, RowFits, RowsFit, RowsTraded}
 use Rattle.book.specs.Order.{orderChecks, orderRefusal, newOrder, waiting}
 use Rattle.book.specs.inner.Ordering.{OrdersPut, Rolled, RolledOn}
-use Rattle.book.proofs.laws.memory.RangeFacts.{units-held, orders-held, phase-held}
+use Rattle.book.proofs.laws.memory.RangeFacts.{units-held, orders-held, phase-held, days-held, given-held}
 use Rattle.book.proofs.laws.check.NumberLaws.{orders-from}
 use Rattle.book.proofs.laws.answer.MadeLaws.{sound-book, sound-readable, chain-sound}
 use Rattle.book.proofs.laws.answer.RefusalLaws.{none-applies}
@@ -100,14 +100,6 @@ module _ (m rows : List ℕ) (u d p price q : ℕ) (e : soundIn m ≡ true) (z :
   passed = order-passed (decode m) u d p price q (length rows) facts
       (chain-sound (decode m) (orderChecks (decode m) u d p price q (length rows)) (sound-book m e) ∙ sym z)
 
-  days-held : decode m .rules .days ≡ word m DAYS
-  unfolding decode
-  days-held = refl
-
-  given-held : decode m .given ≡ word m GIVEN
-  unfolding decode
-  given-held = refl
-
   pub rows-lent : 4464 ≤ length rows
   rows-lent =
       ltb-false (length rows) 4464
@@ -127,7 +119,7 @@ module _ (m rows : List ℕ) (u d p price q : ℕ) (e : soundIn m ≡ true) (z :
       (sym z) .1 .0)
 
   pub number-left : word m GIVEN < 65535
-  number-left = let t = passed .left in omega (arith, given-held)
+  number-left = let t = passed .left in omega (arith, given-held m)
 
   pub orders-left : word m PHASE ≡ 0 → word m ORDERS < 256
   orders-left c = let t = passed .room (call-needs (decode m) arrived (phase-held m ∙ c)) in omega (arith, orders-held m)
@@ -144,7 +136,7 @@ module _ (m rows : List ℕ) (u d p price q : ℕ) (e : soundIn m ≡ true) (z :
           let x = sumOf-has (λ (y : Row). y .quantity) (met .rows) r h in
           let w = traded-and-left arrived (decode m .orders) in
           let n = units-held m in
-          let v = days-held in
+          let v = days-held m in
           record { period = omega arith; sellerFrom = t .0 .0; sellerTo = omega arith; buyerFrom = t .1 .0; buyerTo = omega arith; quantity = omega arith }
 
   module _ (x rows′ : List ℕ) (left count : ℕ) (h : Rolled m x rows rows′ (orderWith (word m GIVEN + 1) u d p price q) left count) where

@@ -22,7 +22,7 @@ use Rattle.book.specs.Sound.{sound, unitIn}
 use Rattle.book.specs.Layout.{DAYS, UNITS, figurePlace, RAISED, LOWERED, VOLUME, word, figuresAt, decode}
 use Rattle.book.specs.Contract.{soundIn}
 use Rattle.book.specs.inner.RowsIn.{Small, smallFigures}
-use Rattle.book.proofs.laws.memory.RangeFacts.{units-held, unit-at}
+use Rattle.book.proofs.laws.memory.RangeFacts.{units-held, unit-at, days-held}
 use Rattle.book.proofs.laws.answer.MadeLaws.{sound-book, sound-head}
 
 -- the figures of a unit in memory
@@ -75,14 +75,10 @@ module _ (m : List ℕ) (e : soundIn m ≡ true) where
       let i = all-true _ (every-at (unitIn (decode m .rules .days)) (decode m .units) (u - 1) noUnit (t .1 .0) (omega (arith, units-held m))) in
       within 1 mostCapacity (unitOf (decode m) u .capacity) (i .1 .0) .1
 
-  days-are : decode m .rules .days ≡ word m DAYS
-  unfolding decode
-  days-are = refl
-
   pub sound-small : Small m smallFigures
   sound-small k p hk hp =
       let h : In 1 (word m UNITS) (k + 1) = omega arith in
-      let d = days-are in
+      let d = days-held m in
       let hd = sound-head m e .days in
       let c = capacity-most (k + 1) h in
       let a = hour-small (decode m) (k + 1) (unit-fits (k + 1) h) p (omega arith) in

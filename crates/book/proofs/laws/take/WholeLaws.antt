@@ -1,10 +1,10 @@
 -- A take of all that is left: the offer goes, and the rows fit the book that they are entered in.
-use Prim.Native.Nat.{ℕ, zero, suc, _+_, _-_, _*_, _≤_, _<_}
-use mathlib.Core.Path.{_≡_, refl, sym, ap, _∙_, subst}
-use mathlib.Core.Bool.{Bool, true, false, cond, not}
-use mathlib.Core.List.{List, [], _∷_, _++_}
+use Prim.Native.Nat.{ℕ, suc, _+_, _-_, _*_, _≤_, _<_}
+use mathlib.Core.Path.{_≡_, sym, ap, _∙_, subst}
+use mathlib.Core.Bool.{Bool, true, not}
+use mathlib.Core.List.{List, [], _∷_}
 use native.Mathlib.Omega.{arith}
-use lib.ListN.{length, getD, take, drop}
+use lib.ListN.{length, getD, take}
 use lib.Dec.{eqb}
 use Rattle.measures.specs.Lists.{keep}
 use Rattle.measures.proofs.RangeLaws.{In}
@@ -12,14 +12,14 @@ use Rattle.measures.proofs.ListLaws.{cond-case}
 use Rattle.matching.specs.Orders.{Row}
 use Rattle.matching.specs.Memory.{written, rowAt, rowsIn}
 use Rattle.matching.proofs.laws.orders.RowLaws.{written-length}
-use Rattle.book.specs.Book.{Figures, EnrolledUnit, OpenOffer, Book, unitOf, figuresOf, withOffers}
+use Rattle.book.specs.Book.{Figures, OpenOffer, Book, figuresOf, withOffers}
 use Rattle.book.specs.Trades.{rowsBooked}
 use Rattle.book.specs.Take.{takeRows}
 use Rattle.book.specs.Layout.{DAYS, UNITS, OFFERS, ORDERS, word, figuresAt, offerAt, decode, Aside}
 use Rattle.book.specs.Contract.{soundIn}
 use Rattle.book.specs.inner.Readable.{Readable}
 use Rattle.book.specs.inner.RowsIn.{Small, RowFits, RowsFit, smallFigures, RowsTraded, RowsPut, PartsThere, WholeTaken}
-use Rattle.book.proofs.laws.memory.RangeFacts.{units-held, offers-held, orders-held}
+use Rattle.book.proofs.laws.memory.RangeFacts.{units-held, offers-held, orders-held, days-held}
 use Rattle.book.proofs.laws.answer.MadeLaws.{sound-readable}
 use Rattle.book.proofs.laws.rows.SmallLaws.{noRow, row-written, rows-written, sound-small, figures-at}
 use Rattle.book.proofs.laws.memory.WordLaws.{aside-then}
@@ -31,10 +31,6 @@ fewer-kept f [] = omega arith
 fewer-kept f (o ∷ l) = let ih = fewer-kept f l in cond-case (λ (t : List OpenOffer). length t
     ≤ suc (length l)) (f o) _ _ (λ e. omega arith) (λ e. omega arith)
 
-days-of : (m : List ℕ) → decode m .rules .days ≡ word m DAYS
-unfolding decode
-days-of m = refl
-
 module _ (m : List ℕ) (u n j : ℕ) (l : List ℕ) (s : soundIn m ≡ true) (hj : j < word m OFFERS) (hu : In 1 (word m UNITS) u) (room : 744
     ≤ length l) (pt : PartsThere m j l)
     (x : List ℕ) (dx : decode x ≡ withOffers (decode m) (keep (λ (o : OpenOffer). not (eqb (o .number) n)) (decode m .offers))) (lx : length x
@@ -43,7 +39,7 @@ module _ (m : List ℕ) (u n j : ℕ) (l : List ℕ) (s : soundIn m ≡ true) (h
   rs = takeRows (decode m) (offerAt m (word m DAYS) j) u (take (24 * word m DAYS) l)
 
   w0 : word x DAYS ≡ word m DAYS
-  w0 = sym (days-of x) ∙ ap (λ (b : Book). b .rules .days) dx ∙ days-of m
+  w0 = sym (days-held x) ∙ ap (λ (b : Book). b .rules .days) dx ∙ days-held m
 
   w5 : word x UNITS ≡ word m UNITS
   w5 = sym (units-held x) ∙ ap (λ (b : Book). length (b .units)) dx ∙ units-held m

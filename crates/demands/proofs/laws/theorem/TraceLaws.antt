@@ -1,20 +1,19 @@
 -- Demand 3 of the engine itself: what each contract promises keeps tally and memory in step.
-use Prim.Native.Nat.{ℕ, zero, suc, _+_, _-_, _*_, _≤_, _<_}
+use Prim.Native.Nat.{ℕ, zero, suc, _+_, _*_, _≤_, _<_}
 use mathlib.Core.Path.{_≡_, refl, sym, ap, _∙_}
 use mathlib.Core.Bool.{Bool, true, false, cond}
-use mathlib.Core.List.{List, [], _∷_, _++_}
+use mathlib.Core.List.{List, _++_}
 use native.Mathlib.Omega.{arith}
 use native.Mathlib.Decide.{ℕ-discrete}
-use borrow.Author.Tests.{leb-true, le-leb, eqb-true, eq-eqb, ne-eqb, lt-ltb, le-ltb}
+use borrow.Author.Tests.{leb-true, le-leb, eqb-true, eq-eqb, ne-eqb}
 use lib.ListN.{length, getD, drop, List·getD-append}
 use lib.Dec.{eqb, leb}
-use Rattle.measures.proofs.RangeLaws.{In, within}
+use Rattle.measures.proofs.RangeLaws.{In}
 use Rattle.measures.proofs.ListLaws.{cond-true, cond-false, and-true, and-left, and-right}
 use Rattle.matching.specs.Orders.{Row}
 use Rattle.matching.specs.Memory.{written, rowsIn}
 use Rattle.book.specs.declared.Answer.{Answer}
-use Rattle.book.specs.declared.Answer.the-variants.{Done, Refused}
-use Rattle.book.specs.Book.{Rules, Book}
+use Rattle.book.specs.Book.{Book}
 use Rattle.book.specs.Sound.{sound}
 use Rattle.book.specs.Refusals.{Outcome, firstOf}
 use Rattle.book.specs.Opening.{fresh, openingRefusal}
@@ -22,16 +21,16 @@ use Rattle.book.specs.Curve.{Drawn, curve, curveRefusal, curveChecks, points, p
 use Rattle.book.specs.Layout.{DAYS, UNITS, LAYOUT, layoutNumber, bookWords, word, decode, laidOut}
 use Rattle.book.specs.Calls.{Call, callEnrol, callOffer, callTake, callWithdraw, callOrder, callCancel, callClear, callClose, outcome, answered}
 use Rattle.book.specs.Calls.{Heard}
-use Rattle.book.specs.Contract.{Told, toldBy, soundIn, outcomeOn, Made, Opened, curveOn, Curved}
+use Rattle.book.specs.Contract.{Told, toldBy, soundIn, outcomeOn, Made, curveOn, Curved}
 use Rattle.demands.specs.Tally.{Tally, opened, tallied, accounted}
 use Rattle.demands.specs.Demand3.{Demand3, isMember, netOf}
 use Rattle.demands.specs.Trace.{Trace, none, next, heard, tallyOf, Claimed, OverEveryTrace}
 use Rattle.book.proofs.laws.rows.SmallLaws.{rows-written}
-use Rattle.book.proofs.laws.memory.RangeFacts.{units-held}
+use Rattle.book.proofs.laws.memory.RangeFacts.{units-held, days-held}
 use Rattle.book.proofs.laws.answer.MadeLaws.{sound-book, sound-laid, chain-sound}
 use Rattle.book.proofs.laws.curve.CurveLaws.{drawn}
 use Rattle.book.proofs.laws.opening.OpeningLaws.{opening-long}
-use Rattle.demands.proofs.laws.tally.AgreeLaws.{Agree, agree-start, enrolled-in}
+use Rattle.demands.proofs.laws.tally.AgreeLaws.{agree-start, enrolled-in}
 use Rattle.demands.proofs.laws.theorem.DemandLaws.{demand-from}
 use Rattle.demands.proofs.laws.sound.KeepLaws.{fresh-sound}
 use Rattle.demands.proofs.laws.theorem.ListsLaws.{InStep, in-step-after}
@@ -63,10 +62,6 @@ laid-by m l y = and-true (leb (bookWords (word m DAYS)) (length m)) (eqb (word m
 on-book : (m : List ℕ) (c : Call) → laidOut m ≡ true → outcomeOn m c ≡ outcome (decode m) c
 unfolding outcomeOn
 on-book m c e = cond-true (laidOut m) (outcome (decode m) c) _ e refl
-
-days-in : (m : List ℕ) → decode m .rules .days ≡ word m DAYS
-unfolding decode
-days-in m = refl
 
 -- what was heard of a call is what its outcome answers
 module _ (m rows : List ℕ) (c : Call) (a : Answer) (n rows′ : List ℕ) (p : Made m rows c a n rows′) (e : laidOut m ≡ true) where
@@ -131,7 +126,7 @@ holding-after t m rows c a n rows′ p h = go (ℕ-discrete (outcome (decode m) 
         let b : decode n ≡ outcome (decode m) c .book = accepted-book m rows c a n rows′ p (h .laid) z in
         let k : InStep (tallied t c (answered (outcome (decode m) c))) (outcome (decode m) c .book) = in-step-after t (decode m) c (h .step) in
         let k′ : InStep (tallied t c (heard a rows′)) (decode n) = rw (same, b) k in
-        let d : word n DAYS ≡ word m DAYS = sym (days-in n) ∙ sym (k′ .agree .days) ∙ tallied-days t c (heard a rows′) ∙ h .step .agree .days ∙ days-in m in
+        let d : word n DAYS ≡ word m DAYS = sym (days-held n) ∙ sym (k′ .agree .days) ∙ tallied-days t c (heard a rows′) ∙ h .step .agree .days ∙ days-held m in
         let l = p .long in
         let q = leb-true (bookWords (word m DAYS)) (length m) (and-left (leb (bookWords (word m DAYS)) (length m)) (eqb (word m LAYOUT) layoutNumber)
         (h .laid)) in
@@ -176,7 +171,7 @@ module _ (t : Tally) (x : List ℕ) (h : Holding t x) where
           × (getD pts′ (2 * i + 1) 0 ≤ getD pts′ (2 * i) 0 + 1))
       at u day pts a pts′ e l k c =
           let i : In 1 (word x UNITS) u = rw (units-held x) at (enrolled-in t (decode x) (h .step .agree) u e) in
-          let ld : day < word x DAYS = rw (h .step .agree .days ∙ days-in x) at l in
+          let ld : day < word x DAYS = rw (h .step .agree .days ∙ days-held x) at l in
           let f = drawn-on x u day (length pts) sound-x (drawn x u day (length pts) i k ld) in
           let z : curveOn x u day (length pts) .refusal ≡ 0 = ap (λ (y : Drawn). y .refusal) f in
           let w : pts′ ≡ points (decode x) u day ++ drop 48 pts = c .accepted z ∙ ap (λ (y : Drawn). y .points ++ drop 48 pts) f in
@@ -202,7 +197,7 @@ over-every-trace m₀ rules a m x op z tr = claimed (tallyOf (opened rules) tr) 
     b = op .accepted r
 
     d : word m DAYS ≡ rules .days
-    d = sym (days-in m) ∙ ap (λ (y : Book). y .rules .days) b
+    d = sym (days-held m) ∙ ap (λ (y : Book). y .rules .days) b
 
     start : Holding (opened rules) m
     start =

@@ -1,28 +1,20 @@
 -- What is left of an incoming order is its quantity less what crosses it, in whatever order that stands.
-use Prim.Native.Nat.{ℕ, _+_, _-_, _<_, _≤_, min}
+use Prim.Native.Nat.{ℕ, _+_, _-_, _<_, _≤_}
 use mathlib.Core.Path.{_≡_, refl, sym, ap, _∙_}
 use mathlib.Core.Bool.{true, false, cond}
-use mathlib.Core.List.{List, [], _∷_}
+use mathlib.Core.List.{List}
 use native.Mathlib.Omega.{arith}
 use lib.ListN.{drop, drop-of-length-le}
 use Rattle.measures.specs.Lists.{sumOf, keep}
 use Rattle.measures.proofs.ListLaws.{cond-true, cond-false, sumOf-drop}
-use Rattle.matching.specs.Orders.{Order, quantities, orderWith}
+use Rattle.matching.specs.Orders.{Order, orderWith}
 use Rattle.matching.specs.Memory.{orderAt, ordersIn, noOrder, placeIn}
-use Rattle.matching.specs.Rolling.{Match, candidate, aheadFor, counterparts, matches, meet}
+use Rattle.matching.specs.Rolling.{candidate, aheadFor, counterparts, meet}
 use Rattle.matching.specs.Answers.{leftOver}
 use Rattle.matching.proofs.laws.lists.EachLaws.{keep-sum}
 use Rattle.matching.proofs.laws.orders.LaidLaws.{laid-quantities}
 use Rattle.matching.proofs.laws.orders.OrderLaws.{orders-length, orders-at}
-use Rattle.matching.proofs.laws.rolling.RollingLaws.{matches-case}
-
--- matches take all that there is, and no more than is asked for
-matches-total : (q : ℕ) (cs : List Order) → sumOf (λ d. d .quantity) (matches q cs) ≡ min q (quantities cs)
-unfolding matches
-matches-total q [] = omega arith
-matches-total q (o ∷ cs) =
-    matches-case (λ (ms : List Match). sumOf (λ d. d .quantity) ms ≡ min q (o .quantity + quantities cs)) q o cs (λ e. omega arith)
-    (λ ne. let t = matches-total (q - min q (o .quantity)) cs in omega arith)
+use Rattle.matching.proofs.laws.rolling.RollingLaws.{matches-total}
 
 -- what of an order crosses an incoming one
 abbrev pub crossing : Order → Order → ℕ

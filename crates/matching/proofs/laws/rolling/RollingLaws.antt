@@ -10,7 +10,7 @@ use lib.ListN.{length, getD}
 use lib.Dec.{eqb, leb, ltb}
 use Rattle.measures.specs.Lists.{Each, sumOf, keep}
 use Rattle.measures.proofs.ListLaws.{cond-case, and-left, and-right}
-use Rattle.matching.specs.Orders.{Order, Row, buys, sells, lessen, rising, numbers, bidAhead, askAhead, laid}
+use Rattle.matching.specs.Orders.{Order, Row, buys, sells, lessen, rising, numbers, quantities, bidAhead, askAhead, laid}
 use Rattle.matching.specs.Memory.{noOrder}
 use Rattle.matching.specs.Rolling.{Match, candidate, aheadFor, counterparts, matches, matchRow, afterMatches, meet}
 use Rattle.matching.proofs.laws.lists.EachLaws.{Has, Pairs, each-both, each-keep, kept, has-self}
@@ -21,7 +21,7 @@ use Rattle.matching.proofs.laws.orders.TakeOffLaws.{lessen-rises}
 use Rattle.matching.proofs.laws.rolling.MeetingLaws.{match, matches-none, matched, matched-after, matched-length}
 
 -- one match and the rest, or none
-pub matches-case : (P : List Match → Type 0) (q : ℕ) (o : Order) (cs : List Order)
+matches-case : (P : List Match → Type 0) (q : ℕ) (o : Order) (cs : List Order)
     → (q ≡ 0 → P []) → ((q ≡ 0 → ⊥) → P (match o (min q (o .quantity)) ∷ matches (q - min q (o .quantity)) cs)) → P (matches q (o ∷ cs))
 unfolding matches
 matches-case P q o cs h k = cond-case P (eqb q 0) [] _ (λ e. h (eqb-true q 0 e)) (λ e. k (eqb-false q 0 e))
@@ -34,13 +34,13 @@ matches-within q (o ∷ cs) =
     matches-case (Each (λ d. d .quantity ≤ d .order .quantity)) q o cs (λ e. tt)
     (λ ne. (omega arith, matches-within (q - min q (o .quantity)) cs))
 
--- nor do all together take more than the incoming order has
-pub matches-sum : (q : ℕ) (cs : List Order) → sumOf (λ d. d .quantity) (matches q cs) ≤ q
+-- all together take what there is, and no more than the incoming order has
+pub matches-total : (q : ℕ) (cs : List Order) → sumOf (λ d. d .quantity) (matches q cs) ≡ min q (quantities cs)
 unfolding matches
-matches-sum q [] = omega arith
-matches-sum q (o ∷ cs) =
-    matches-case (λ (ms : List Match). sumOf (λ d. d .quantity) ms ≤ q) q o cs (λ e. omega arith)
-    (λ ne. let t = matches-sum (q - min q (o .quantity)) cs in omega arith)
+matches-total q [] = omega arith
+matches-total q (o ∷ cs) =
+    matches-case (λ (ms : List Match). sumOf (λ d. d .quantity) ms ≡ min q (o .quantity + quantities cs)) q o cs (λ e. omega arith)
+    (λ ne. let t = matches-total (q - min q (o .quantity)) cs in omega arith)
 
 row-quantity : (i : Order) (d : Match) → matchRow i d .quantity ≡ d .quantity
 unfolding matchRow
@@ -55,7 +55,7 @@ pub traded-and-left : (i : Order) (os : List Order) → sumOf (λ r. r .quantity
 unfolding meet
 traded-and-left i os =
     let ms = matches (i .quantity) (counterparts i os) in
-    omega (arith, rows-sum i ms, matches-sum (i .quantity) (counterparts i os))
+    omega (arith, rows-sum i ms, matches-total (i .quantity) (counterparts i os))
 
 -- what holds of each order that is met holds of each match
 matches-each : (P : Order → Type 0) (q : ℕ) (cs : List Order) → Each P cs → Each (λ d. P (d .order)) (matches q cs)
