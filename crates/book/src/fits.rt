@@ -87,7 +87,7 @@ fn add_offers(book: &[u64], unit: u64, totals: &mut [u64])
 }
 
 // The limits of a unit over the term.
-#[derive(Drop)]
+#[derive(Clone, Copy)]
 pub(crate) struct Bounds {
     pub term: Energy,
     pub volume: Energy,

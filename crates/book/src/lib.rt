@@ -1,4 +1,5 @@
 // The book of a term: opening, the eight calls and the curve (paper 01).
+#![tactic(auto)]
 pub mod calls;
 mod cancelling;
 mod closing;
@@ -23,7 +24,7 @@ mod withdrawing;
 mod words;
 
 // What a call answers: its number and count of rows, or the refusal.
-#[derive(Drop)]
+#[derive(Clone, Copy)]
 pub enum Answer {
     Done(u64, usize),
     Refused(u64),

@@ -29,7 +29,7 @@ use crate::ranges::{Offer, sides_fit};
 use measures::{Energy, Price};
 
 // What an offer says beside its amounts; a partner of 0 is none.
-#[derive(Drop)]
+#[derive(Clone, Copy)]
 pub struct Terms {
     pub unit: u64,
     pub partner: u64,

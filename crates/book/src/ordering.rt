@@ -22,7 +22,7 @@ use matching::orders::{Matched, Order};
 use measures::{Energy, Price};
 
 // What an order asks for.
-#[derive(Drop)]
+#[derive(Clone, Copy)]
 pub(crate) struct Wanted {
     pub unit: u64,
     pub direction: u64,
@@ -94,7 +94,7 @@ fn against_at(book: &[u64], unit: u64, direction: u64, period: u64, k: usize) ->
 }
 
 // How many open orders a unit has in a period, and how many of these go the other way.
-#[derive(Drop)]
+#[derive(Clone, Copy)]
 struct Seen {
     stand: u64,
     against: u64,
@@ -277,7 +277,7 @@ pub(crate) fn order_in_call(book: &mut [u64], wanted: Wanted)
 }
 
 // What is left of an order that met others, and its count of rows.
-#[derive(Drop)]
+#[derive(Clone, Copy)]
 struct Rest {
     left: Energy,
     count: usize,

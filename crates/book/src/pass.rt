@@ -45,7 +45,7 @@ fn cell(
 }
 
 // What a pass comes to: the words of faults, and sums that are true where there is no fault.
-#[derive(Drop)]
+#[derive(Clone, Copy)]
 pub(crate) struct Sums {
     pub bad: u64,
     pub marks: u64,

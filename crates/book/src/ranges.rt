@@ -20,7 +20,7 @@ use matching::orders::Order;
 use measures::{Energy, Price};
 
 // An open offer; its amounts stand by period.
-#[derive(Drop)]
+#[derive(Clone, Copy)]
 pub struct Offer {
     pub number: u64,
     pub unit: u64,

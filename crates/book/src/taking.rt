@@ -40,7 +40,7 @@ use matching::orders::{Row, put_row};
 use measures::{Energy, Price};
 
 // What the rows of a take have in common.
-#[derive(Drop)]
+#[derive(Clone, Copy)]
 struct Deal {
     way: u64,
     seller: u64,

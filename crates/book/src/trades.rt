@@ -52,7 +52,7 @@ fn mark_after(way: u64, direction: u64, mark: u64) -> u64
 }
 
 // The figures of a unit in a period.
-#[derive(Drop)]
+#[derive(Clone, Copy)]
 pub(crate) struct Figures {
     pub held: Energy,
     pub raised: Energy,

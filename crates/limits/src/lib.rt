@@ -1,4 +1,5 @@
 // The limits of a unit: paper 01, "Limits".
+#![tactic(auto)]
 ghost use Rattle.std.specs.Prelude.{◌≡◌, ◌≤◌};
 ghost use Rattle.measures.specs.Ranges.{most_energy};
 ghost use Rattle.limits.specs.Units.{most_capacity, most_days};
@@ -8,7 +9,7 @@ ghost use Rattle.limits.specs.Limits.{limits_at, hour_limit, term_limit, volume_
 use measures::Energy;
 
 // A unit as it is enrolled.
-#[derive(Drop)]
+#[derive(Clone, Copy)]
 pub struct Unit {
     pub kind: u64,
     pub capacity: u64,
@@ -77,7 +78,7 @@ impl Unit {
 }
 
 // The days of a term.
-#[derive(Drop)]
+#[derive(Clone, Copy)]
 pub struct Term(pub u64);
 
 impl Term {
@@ -86,7 +87,7 @@ impl Term {
 }
 
 // What the limits of a unit come to: a refusal by the figure that is out of range, or the three limits.
-#[derive(Drop)]
+#[derive(Clone, Copy)]
 pub enum Limits {
     Days,
     Kind,

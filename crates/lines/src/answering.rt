@@ -16,14 +16,14 @@ use book::opening::open;
 use book::places::{DAYS, LAYOUT, LAYOUT_NUMBER, UNITS};
 
 // A line's letter and its count of numbers; no letter where the line is not understood.
-#[derive(Drop)]
+#[derive(Clone, Copy)]
 struct Heard {
     letter: u8,
     count: usize,
 }
 
 // An answer in numbers: the refusal (0: none), the number, the count of rows.
-#[derive(Drop)]
+#[derive(Clone, Copy)]
 struct Told {
     refusal: u64,
     number: u64,

@@ -4,7 +4,7 @@ ghost use Rattle.lines.specs.Readings.{begun, ReadsOn};
 ghost use Rattle.lines.specs.Stepping.{until_end};
 
 // What is kept of a line's bytes so far. Its numbers that are complete stand in lent memory.
-#[derive(Drop)]
+#[derive(Clone, Copy)]
 pub enum Reading {
     // No byte yet.
     Start,

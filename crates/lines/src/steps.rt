@@ -17,21 +17,21 @@ pub type RowMemory = [u64; 4464];
 pub type Text = [u8; 95256];
 
 // What goes from step to step: the line so far, and whether an O was accepted.
-#[derive(Drop)]
+#[derive(Clone, Copy)]
 pub struct Desk {
     reading: Reading,
     started: bool,
 }
 
 // What the end of the input leaves: whether an O was accepted, and how many bytes are printed to the start of `out`.
-#[derive(Drop)]
+#[derive(Clone, Copy)]
 pub struct Printed {
     pub started: bool,
     pub length: usize,
 }
 
 // What a step leaves: the desk, how many bytes it read, and how many it printed to the start of `out`.
-#[derive(Drop)]
+#[derive(Clone, Copy)]
 pub struct Progress {
     pub desk: Desk,
     pub used: usize,

@@ -1,4 +1,5 @@
 // Rolling matching and clearing of orders: paper 01, "The eight calls", Order and Clear.
+#![tactic(auto)]
 pub mod clearing;
 mod fills;
 pub mod fitness;

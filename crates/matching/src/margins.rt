@@ -6,7 +6,7 @@ ghost use Rattle.matching.specs.Inner.Places.{orders_at, Stand, Sides, AreMargin
 use measures::{Energy, Price};
 
 // A volume, and the prices of the bid and the ask that hold its last kWh.
-#[derive(Drop)]
+#[derive(Clone, Copy)]
 pub struct Margins {
     pub volume: Energy,
     pub bid: Price,

@@ -7,7 +7,7 @@ ghost use Rattle.matching.specs.Answers.{Written, Removed, RowPut};
 use measures::{Energy, Price};
 
 // An open order.
-#[derive(Drop)]
+#[derive(Clone, Copy)]
 pub struct Order {
     pub number: u64,
     pub unit: u64,
@@ -72,7 +72,7 @@ impl Order {
 }
 
 // A trade: way, period, seller, buyer, quantity, price.
-#[derive(Drop)]
+#[derive(Clone, Copy)]
 pub struct Row {
     pub way: u64,
     pub period: u64,
@@ -99,7 +99,7 @@ impl Row {
 
 // What matching or clearing came to: orders that are not fit for it, or what is left of an incoming order, the count of
 // rows, and how many orders stand.
-#[derive(Drop)]
+#[derive(Clone, Copy)]
 pub enum Matched {
     Unfit,
     Done(Energy, usize, usize),

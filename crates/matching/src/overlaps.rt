@@ -10,7 +10,7 @@ use crate::orders::Row;
 use measures::{Energy, Price};
 
 // A fill laid end to end with those before it: the order's unit, and the kWh from `from` up to `upto`.
-#[derive(Drop)]
+#[derive(Clone, Copy)]
 pub struct Span {
     pub unit: u64,
     pub from: Energy,

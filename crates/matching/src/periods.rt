@@ -12,7 +12,7 @@ use crate::orders::{Matched, Row, read};
 use measures::{Energy, Price};
 
 // How many rows were written, and how many orders stand.
-#[derive(Drop)]
+#[derive(Clone, Copy)]
 pub struct Passed {
     pub count: usize,
     pub standing: usize,

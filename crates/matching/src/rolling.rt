@@ -13,7 +13,7 @@ use crate::{laying, orders};
 use measures::Energy;
 
 // What is left of an incoming order, and how many orders it met.
-#[derive(Drop)]
+#[derive(Clone, Copy)]
 pub struct Meeting {
     pub left: Energy,
     pub count: usize,

@@ -1,5 +1,5 @@
 -- Laws of tables, sums and tests (specs/Lists.antt).
-use Prim.Native.Nat.{ℕ, zero, suc, ◌+◌, ◌-◌, ◌*◌, ◌≤◌, ◌<◌, min}
+use Prim.Native.Nat.{ℕ, zero, suc, ◌+◌, ◌*◌, ◌≤◌, ◌<◌, min}
 use mathlib.Core.Path.{◌≡◌, refl, sym, ap, ◌∙◌}
 use mathlib.Core.Bool.{Bool, true, false, cond, not, ◌&&◌, ◌||◌}
 use mathlib.Core.List.{List, [], ◌∷◌, ◌++◌, map}
@@ -7,7 +7,7 @@ use native.Mathlib.Omega.{arith}
 use native.Mathlib.Nat.{not-suc-le-zero, add-zero, zero-add, mul-zero, mul-add}
 use native.Mathlib.Numerals.{add-one}
 use native.Mathlib.Decide.{ℕ_discrete, dec_lt}
-use lib.ListN.{length, get_or, take, drop, set, length-set, length-append, length-map, get_or-append, get_or-map}
+use lib.ListN.{length, get_or, drop, set, length-set, length-append, length-map, get_or-append, get_or-map}
 use lib.Seq.{ext_get_or, get_or-set_same, get_or-set_other, get_or_at, drop-cons}
 use Rattle.measures.specs.Sharing.{total}
 use Rattle.measures.specs.Lists.{holds, sum_of, every, keep, sum, all, table_from, table}

@@ -1,6 +1,6 @@
 -- Laws of sharing. For callers: `parts-length`, `parts-sum`, `no-part_exceeds`, `parts_of_all`; `fair` has the promises of paper 02, and
 -- `one_each` and `largest-first` say in its words who gets the kWh left over.
-use Prim.Native.Nat.{ℕ, zero, suc, ◌+◌, ◌-◌, ◌*◌, ◌^◌, ◌≤◌, ◌<◌}
+use Prim.Native.Nat.{ℕ, zero, suc, ◌+◌, ◌*◌, ◌^◌, ◌≤◌, ◌<◌}
 use mathlib.Core.Path.{◌≡◌, refl, sym, ap, ap₂, ◌∙◌}
 use mathlib.Core.Bool.{Bool, true, false, cond}
 use mathlib.Core.List.{List, [], ◌∷◌, ◌++◌}

@@ -1,4 +1,6 @@
 // Energy and price, and sharing an amount: paper 01, "Units of measure and the book" and "Sharing an amount".
+#![tactic(auto)]
+
 mod sharing;
 
 ghost use Rattle.std.specs.Prelude.{◌≡◌, ◌+◌, ◌*◌, ◌-◌, ◌/◌, min, max, leb, ltb, eqb};
@@ -6,11 +8,11 @@ ghost use Rattle.measures.specs.Ranges.{most_energy, most_price, most_number};
 ghost use Rattle.measures.specs.Sharing.{total, less_each, sharing, Is};
 
 // Energy in whole kWh.
-#[derive(Drop)]
+#[derive(Clone, Copy)]
 pub struct Energy(pub u64);
 
 // Price in thousandths of a yuan per MWh.
-#[derive(Drop)]
+#[derive(Clone, Copy)]
 pub struct Price(pub u64);
 
 impl Energy {

@@ -30,7 +30,7 @@ const QUICK: u64 = 8;
 
 // Where the search for the largest fractions stands: they end from `low` to below `high`, `from` fractions are `low` or more, and
 // `above` are `high` or more. `next` is where to look next, if it lies between the two.
-#[derive(Drop)]
+#[derive(Clone, Copy)]
 struct Bracket {
     low: u64,
     high: u64,
@@ -40,7 +40,7 @@ struct Bracket {
 }
 
 // Where the fractions that get one kWh more end: `above` of them lie above `at`.
-#[derive(Drop)]
+#[derive(Clone, Copy)]
 struct Edge {
     at: u64,
     above: u64,

@@ -1,5 +1,6 @@
 // The program `rehearse` (paper 01): reads standard input and writes to standard output what the steps of the proved
 // library `lines` print.
+#![tactic(auto)]
 ghost use Rattle.std.specs.Prelude.{◌≡◌, ◌≤◌, length, take};
 ghost use Rattle.lines.specs.Stepping.{state};
 ghost use Rattle.rehearse.specs.Running.{Passed, ReadFrom, Rehearsal};
@@ -9,7 +10,7 @@ use libc::{STDIN_FILENO, STDOUT_FILENO};
 use lines::steps::{BookMemory, Desk, Numbers, RowMemory, Text, end, new_desk, step};
 
 // The desk after a read, and whether the input goes on.
-#[derive(Drop)]
+#[derive(Clone, Copy)]
 struct Turn {
     desk: Desk,
     goes_on: bool,

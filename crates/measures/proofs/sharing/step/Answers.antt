@@ -1,0 +1,7 @@
+-- `step`: a proportion of the width, kept above 0 and below the width.
+use native.Mathlib.Omega.{arith}
+use Rattle.measures.proofs.SharingLaws.{product_fits}
+use Rattle.measures.proofs.sharing.step.Goals as goal
+
+pub overflow_mul-far : goal.overflow_mul-far
+overflow_mul-far c = record { fits = product_fits _ _ (omega arith) (omega arith) }
