@@ -56,6 +56,13 @@ class Function:
             old, new = self.step[q]
             if word.replace("_", "-") == old:
                 return ".".join([self.var, new] + words[at + 1 :])
+        bare = re.sub(r"\d+$", "", word.removesuffix("_lem")).replace("_", "-").lower()
+        for q in [p] + self.chain(base):
+            old, new = self.step[q]
+            if bare in (old, re.sub(r"\d+$", "", old)):
+                return ".".join([self.var, new] + words[at + 1 :])
+        if word == "pre":
+            return ".".join([self.var, "requires"] + words[at + 1 :])
         self.left(f"{word} at {p} is not known")
         return ".".join([self.var] + words[at:])
 
@@ -97,7 +104,8 @@ class Function:
                 return f"(goal.at.{goal} {var}).{self.renamed[to[1]]}" if goal else var
             return to
 
-        return PATH.sub(turn, text)
+        text = PATH.sub(turn, text)
+        return re.sub(r"\(?not-(?:true|false) _ ([\w'-]+\.if-not-[\w'.-]+)\)?", lambda m: m[1] if m[0].startswith("(") == m[0].endswith(")") else m[0].replace(m[0].strip("()"), m[1]), text)
 
 
 def blocks(text):
@@ -172,7 +180,7 @@ def turn(f, path):
             continue
         t = re.match(r"tie\.(Need-\S+)", kind)
         if t:
-            need = f.needs.get(norm(t[1]))
+            need = f.needs.get(norm(t[1])) or f.needs.get(norm(name.removesuffix("_lem")))
             body = "\n".join(lines)
             if not need:
                 if re.search(r"=\s*search rules\s*$", body):

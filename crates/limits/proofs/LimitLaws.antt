@@ -1,15 +1,15 @@
 -- Laws of the limits, by cases, and their bounds.
-use Prim.Native.Nat.{ℕ, ◌+◌, ◌-◌, ◌*◌, ◌/◌, ◌^◌, ◌≤◌, ◌<◌, min}
-use mathlib.Core.Path.{◌≡◌, refl, ap}
+use Prim.Native.Nat.{ℕ, ◌*◌, ◌/◌, ◌^◌, ◌≤◌, ◌<◌, min}
+use mathlib.Core.Path.{◌≡◌}
 use mathlib.Core.Bool.{Bool, true, false, cond}
-use lib.Dec.{leb, eqb, lit≤, lit<}
+use lib.Dec.{eqb, lit≤, lit<}
 use borrow.Author.Tests.{eq-eqb, ne_eqb, le-leb, lt-leb, lt-ltb, le-ltb}
 use native.Mathlib.Nat.{mul-le-mul, lt_of_le_of_lt}
 use native.Mathlib.Omega.{arith}
 use Rattle.measures.specs.Ranges.{between, most_energy}
 use Rattle.measures.proofs.RangeLaws.{In, inside, outside}
 use Rattle.limits.specs.Units.{most_days, most_capacity}
-use Rattle.limits.specs.Limits.{Answer, refused, given, limits_in, limits_at, hour_limit, term_limit, volume_limit}
+use Rattle.limits.specs.Limits.{Answer, refused, limits_in, limits_at, hour_limit, term_limit, volume_limit}
 
 -- a capacity times at most 24 hours times at most 31 days
 pub term-small : (c k d : ℕ) → c ≤ most_capacity → k ≤ 24 → d ≤ most_days → c * k * d ≤ 3_720_000_000

@@ -1,5 +1,5 @@
 -- Paper 01, "Limits": the hour, term and volume limit of a unit, and the limits called directly.
-use Rattle.std.specs.Prelude.{ℕ, ◌*◌, ◌/◌, ◌%◌, min, Bool, cond, ◌&&◌, List, [], ◌∷◌}
+use Rattle.std.specs.Prelude.{ℕ, ◌*◌, ◌/◌, ◌%◌, min, cond, ◌&&◌, List, [], ◌∷◌}
 use Rattle.measures.specs.Ranges.{between}
 use Rattle.limits.specs.Units.{days_in, period_in, kind_in, solar, retailer, generator, capacity_in, asset_in}
 

@@ -1,5 +1,6 @@
 // The limits of a unit: paper 01, "Limits".
 #![tactic(auto)]
+
 ghost use Rattle.std.specs.Prelude.{◌≡◌, ◌≤◌};
 ghost use Rattle.measures.specs.Ranges.{most_energy};
 ghost use Rattle.limits.specs.Units.{most_capacity, most_days};

@@ -1,0 +1,61 @@
+-- `trade`: each step's contract is one part of the definition, and the volume lies at the margin of both sides.
+use mathlib.Core.Path.{refl}
+use native.Mathlib.Omega.{arith}
+use Rattle.matching.proofs.Laws.Orders.FitLaws.{Fit, fit_gives}
+use Rattle.matching.proofs.Laws.Clearing.PlaceLaws.{stand_here}
+use Rattle.matching.proofs.Laws.Clearing.StepLaws.{sides_few, bids_at_margin, asks_at_margin, clears_some}
+use borrow.Author.Rules.{rules}
+use Rattle.matching.proofs.clearing.trade.Goals as goal
+use Rattle.matching.proofs.clearing.trade.Goals.{After-shared_slice_known-1, After-shared_slice_known-2-1, After-slice_known-1, Start}
+
+fit-here : (s : Start) → Fit s.args.orders.now s.args.rows.now s.args.n
+fit-here s = fit_gives _ _ _ s.requires.0
+
+pub fill-fb-requires : goal.fill-fb-requires
+fill-fb-requires c =
+    let a = c.args in
+    let f = fit-here (goal.at.fill-fb-requires c).After-slice_known-1 in (
+      f.inside,
+      f.few,
+      omega arith,
+      f.few,
+      f.few,
+      stand_here _ _ _ _ _ c.requires.2,
+      bids_at_margin a.orders.now a.rows.now a.bids.now a.asks.now a.n a.period a.nb a.na a.margins.volume.0
+          a.margins.bid.0 a.margins.ask.0 c.requires.0 c.requires.1 c.requires.2 c.requires.3 c.requires.4,
+    )
+
+pub fill-fa-requires : goal.fill-fa-requires
+fill-fa-requires c =
+    let a = c.args in
+    let f = fit-here (goal.at.fill-fa-requires c).After-shared_slice_known-1 in (
+      f.inside,
+      f.few,
+      omega arith,
+      f.few,
+      f.few,
+      stand_here _ _ _ _ _ c.requires.3,
+      asks_at_margin a.orders.now a.rows.now a.bids.now a.asks.now a.n a.period a.nb a.na a.margins.volume.0
+          a.margins.bid.0 a.margins.ask.0 c.requires.0 c.requires.1 c.requires.2 c.requires.3 c.requires.4,
+    )
+
+pub put_overlaps-count-requires : goal.put_overlaps-count-requires
+put_overlaps-count-requires c =
+    let f = fit-here (goal.at.put_overlaps-count-requires c).After-shared_slice_known-2-1 in
+    let w = sides_few _ _ _ _ _ _ _ c.requires.2 c.requires.3 in
+    let x = c.fill-fb.ensures.0 in
+    let y = c.fill-fa.ensures.0 in
+    (f.inside, f.few, f.lent, omega arith, c.fill-fb.ensures.1, c.fill-fa.ensures.1)
+
+pub leave_rests-standing-requires : goal.leave_rests-standing-requires
+leave_rests-standing-requires c =
+    let f = fit-here (goal.at.leave_rests-standing-requires c).After-shared_slice_known-2-1 in
+    (f.inside, f.few, f.rises, c.fill-fb.ensures.1, c.fill-fa.ensures.1)
+
+pub returns : goal.returns
+returns c =
+    let a = c.args in
+    clears_some a.orders.now a.rows.now a.bids.now a.asks.now a.n a.period a.nb a.na a.margins.volume.0
+    a.margins.bid.0 a.margins.ask.0 c.requires.0 c.requires.1 c.requires.2 c.requires.3 c.requires.4
+    _ _ _ _ _ _ _ _ refl c.middle-price.ensures c.fill-fb.ensures.2 c.fill-fa.ensures.2 c.put_overlaps-count.ensures.0
+    c.put_overlaps-count.ensures.1 c.leave_rests-standing.ensures.0 c.leave_rests-standing.ensures.1

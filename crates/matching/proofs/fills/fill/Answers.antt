@@ -1,0 +1,62 @@
+-- `fill`: the two picks are all orders at or above the margin's price, and what better ones leave is within the margin's.
+use Prim.Native.Nat.{ℕ, ◌+◌, ◌≤◌}
+use mathlib.Core.List.{List}
+use native.Mathlib.Omega.{arith}
+use lib.ListN.{length, take}
+use Rattle.matching.specs.Inner.Places.{picked}
+use Rattle.matching.proofs.Laws.Clearing.PickLaws.{both_few, better_sum, side-filled}
+use borrow.Author.Rules.{rules}
+use Rattle.matching.proofs.fills.fill.Goals as goal
+use Rattle.matching.proofs.fills.fill.Goals.{After-minus, After-open-1, After-open-2-1, After-pick-arg-2-1, After-share-arg-1, Start}
+
+few : (s : Start)
+    → length (picked s.args.orders.now s.args.direction s.args.margin.0 (take s.args.count s.args.places.now))
+    + length (picked s.args.orders.now 2 s.args.margin.0 (take s.args.count s.args.places.now))
+    ≤ s.args.n
+few s = both_few s.args.orders.now s.args.places.now s.args.n s.args.count s.args.direction s.args.margin.0 s.args.volume.0
+    s.requires.5 s.requires.2 s.requires.6
+
+abbrev Room : ℕ → List ℕ → Type 0
+Room n l = n ≤ length l
+
+pub pick-better-requires : goal.pick-better-requires
+pick-better-requires c =
+    let w = few (goal.at.pick-better-requires c).After-pick-arg-2-1 in
+    (c.requires.0, c.requires.1, c.requires.5, omega arith, omega arith)
+
+pub pick-all-requires : goal.pick-all-requires
+pick-all-requires c =
+    let w = few (goal.at.pick-all-requires c).After-open-1 in
+    let e = c.pick-better.ensures.count in
+    (c.requires.0, c.requires.1, c.requires.5, omega arith, omega arith)
+
+pub together-first-requires : goal.together-first-requires
+together-first-requires c =
+    let k = c.pick-better in
+    let t = better_sum c.args.orders.now c.args.places.now c.args.n c.args.count c.args.direction c.args.margin.0
+    c.args.volume.0 c.requires.5 c.requires.2 c.requires.6 _ _ _ _ _ k.ensures in
+    (omega (arith, few (goal.at.together-first-requires c).After-open-2-1, k.ensures.count, k.auto.1.1.1.1.1.1.1.0, c.requires.4), omega (arith, t, c.requires.6.small))
+
+pub offset_bounds-open-better : goal.offset_bounds-open-better
+offset_bounds-open-better c =
+    let w = few (goal.at.offset_bounds-open-better c).After-minus in
+    let e = c.pick-better.ensures.count in
+    omega arith
+
+pub offset_bounds-amounts-better : goal.offset_bounds-amounts-better
+offset_bounds-amounts-better c =
+    let w = few (goal.at.offset_bounds-amounts-better c).After-share-arg-1 in
+    let e = c.pick-better.ensures.count in
+    omega arith
+
+pub returns : goal.returns
+returns c =
+    let a = c.args in
+    let k = c.pick-better in
+    let o = c.pick-all in
+    let to1 : Room a.n o.new.1.1.1.1.1.1.0 = omega (arith, c.requires.3, k.auto.1.1.1.1.1.1.0, o.auto.1.1.1.1.1.1.0) in
+    let am1 : Room a.n k.new.1.1.1.1.1.1.1.0 = omega (arith, c.requires.4, k.auto.1.1.1.1.1.1.1.0) in
+    let op1 : Room a.n o.new.1.1.1.1.1.1.1.0 = omega (arith, c.requires.1, o.auto.1.1.1.1.1.1.1.0) in
+    side-filled a.orders.now a.places.now a.n a.count a.direction a.margin.0 a.volume.0 c.requires.5 c.requires.2 c.requires.6 _ _ _ _ _
+    k.ensures _ _ _ _ o.ensures
+    to1 am1 c.requires.1 op1 _ _ c.together-first.ensures c.minus.ensures _ _ c.share.ensures

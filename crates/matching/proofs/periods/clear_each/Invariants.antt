@@ -1,0 +1,19 @@
+use Prim.Native.Nat.{◌≤◌, ◌+◌, ◌-◌}
+use mathlib.Core.Path.{◌≡◌, refl}
+use native.Mathlib.Omega.{arith}
+use lib.ListN.{length}
+use Rattle.measures.specs.Lists.{Each}
+use Rattle.matching.specs.Memory.{orders_in}
+use Rattle.matching.specs.Inner.Periods.{PricedBy}
+use Rattle.matching.proofs.Laws.Periods.PassingLaws.{Passing, passing_start, passing_ready, passing_more, passing_end}
+use Rattle.matching.proofs.Laws.Periods.SkipLaws.{priced_after}
+use borrow.Author.Rules.{rules}
+use Rattle.matching.proofs.periods.clear_each.Given as goal
+
+abbrev pub invariant-loop-p : goal.invariant-loop-p
+invariant-loop-p l =
+    (Passing l.initial.orders l.initial.rows l.n l.end l.orders l.rows l.count l.standing l.p) × (length l.high ≡ 744) × (length l.low ≡ 744)
+    × (Each (PricedBy l.high l.low) (orders_in l.orders l.standing))
+
+abbrev pub decreases-loop-p : goal.decreases-loop-p
+decreases-loop-p l = l.end - l.p

@@ -1,0 +1,13 @@
+use Prim.Native.Nat.{◌-◌}
+use mathlib.Core.Path.{ap, ◌∙◌}
+use native.Mathlib.Omega.{arith}
+use Rattle.matching.specs.Orders.{rising}
+use Rattle.matching.proofs.Laws.Orders.TakingLaws.{Taking, taking_start, taking-more, taking_end, filling_below}
+use borrow.Author.Rules.{rules}
+use Rattle.matching.proofs.rests.take_fills.Given as goal
+
+abbrev pub invariant-loop-i : goal.invariant-loop-i
+invariant-loop-i l = Taking l.initial.orders l.initial.stands l.places l.amounts l.n l.count l.orders l.stands l.i
+
+abbrev pub decreases-loop-i : goal.decreases-loop-i
+decreases-loop-i l = l.count - l.i

@@ -1,0 +1,12 @@
+use Prim.Native.Nat.{◌-◌}
+use native.Mathlib.Omega.{arith}
+use Rattle.matching.specs.Memory.{as_order}
+use Rattle.matching.proofs.Laws.Rolling.LeftOverLaws.{Leaving, leaving_starts, leaving-more, leaving_ends}
+use borrow.Author.Rules.{rules}
+use Rattle.matching.proofs.rolling.left_behind.Given as goal
+
+abbrev pub invariant-loop-k : goal.invariant-loop-k
+invariant-loop-k l = Leaving l.orders l.n (as_order l.incoming) l.left.0 l.k
+
+abbrev pub decreases-loop-k : goal.decreases-loop-k
+decreases-loop-k l = l.n - l.k

@@ -1,0 +1,137 @@
+-- `meet_runs`: the matches so far, then those still to come, are the whole; each turn makes the first of those to come.
+use Prim.Native.Nat.{◌-◌, ◌≤◌, ◌<◌}
+use mathlib.Core.Path.{◌≡◌, refl, sym, ◌∙◌}
+use mathlib.Core.List.{map}
+use native.Mathlib.Omega.{arith}
+use borrow.Author.Tests.{eqb-true, eqb-false}
+use lib.ListN.{length, length-set}
+use Rattle.matching.specs.Memory.{as_order}
+use Rattle.matching.specs.Rolling.{match_row}
+use Rattle.matching.proofs.Laws.Laying.RunLaws.{Found, found_start, found_next, found_whole}
+use Rattle.matching.proofs.Laws.Rolling.TurnLaws.{MetSoFar, meeting_start, meeting_room, meeting_more, ends_spent, ends_alone, ends_full}
+use borrow.Author.Rules.{rules}
+use Rattle.matching.proofs.rolling.meet_runs.Goals as goal
+
+pub meeting-init : goal.meeting-init
+meeting-init c =
+    (refl, refl, refl, refl, c.requires.3, meeting_start _ _ _ _ _ _ _ _ _ _ _ c.requires.12)
+
+pub loop-j-init : goal.loop-j-init
+loop-j-init c = (omega arith, found_start _ _ _ _ _ _ _ _ _)
+
+pub nearer-best-requires : goal.nearer-best-requires
+nearer-best-requires c =
+    let i = c.meeting.invariant in
+    let g = i.5 in
+    let few = g.runs.few in
+    let e = g.runs.ended c.loop-j.j c.loop-j-test.true in
+    omega (arith, few, e, i.0, c.requires.1, c.requires.4, c.requires.7, c.requires.8, c.loop-j-test.true)
+
+pub loop-j-preserved : goal.loop-j-preserved
+loop-j-preserved c =
+    let g = c.meeting.invariant.5 in (
+      omega (arith, c.loop-j-test.true),
+      found_next _ _ _ _ _ _ _ _ _ g.runs c.requires.2 c.requires.5 _ c.loop-j-test.true _ _ c.loop-j.invariant.1 _ _
+          c.nearer-best.ensures.0 c.nearer-best.ensures.1,
+    )
+
+pub take_first-p-requires : goal.take_first-p-requires
+take_first-p-requires c =
+    let i = c.meeting.invariant in
+    let l = c.loop-j in
+    let g = i.5 in
+    let few = g.runs.few in
+    let f = found_whole _ _ _ _ _ _ _ _ l.j _ _ g.runs c.requires.5 (omega (arith, few, i.0, c.requires.1, c.requires.7)) l.invariant.0
+    (omega (arith, c.loop-j-test.false)) l.invariant.1 in
+    let w = meeting_room _ _ _ _ _ _ _ _ _ _ _ _ _ _ _ g _ 0 0 f c.if-best-runs.false c.requires.5 (omega (arith, few, i.0, c.requires.1, c.requires.7))
+    (omega (arith, c.requires.9, i.1)) (omega (arith, c.requires.10, i.2)) in
+    omega (arith, w, few, i.0, c.requires.1, c.requires.5, c.requires.6, c.requires.7)
+
+pub match_at-x-requires : goal.match_at-x-requires
+match_at-x-requires c =
+    let i = c.meeting.invariant in
+    let l = c.loop-j in
+    let g = i.5 in
+    let few = g.runs.few in
+    let f = found_whole _ _ _ _ _ _ _ _ l.j _ _ g.runs c.requires.5 (omega (arith, few, i.0, c.requires.1, c.requires.7)) l.invariant.0
+    (omega (arith, c.loop-j-test.false)) l.invariant.1 in
+    let w = meeting_room _ _ _ _ _ _ _ _ _ _ _ _ _ _ _ g _ 0 0 f c.if-best-runs.false c.requires.5 (omega (arith, few, i.0, c.requires.1, c.requires.7))
+    (omega (arith, c.requires.9, i.1)) (omega (arith, c.requires.10, i.2)) in
+    omega (arith, w, c.take_first-p.ensures.0, i.3, c.requires.0, c.requires.1, c.requires.11, c.meeting-test.true)
+
+pub offset_bounds-met-count : goal.offset_bounds-met-count
+offset_bounds-met-count c =
+    record { fits = omega (arith, c.meeting-test.true, c.requires.1) }
+
+pub bounds-met-count : goal.bounds-met-count
+bounds-met-count c =
+    omega (arith, c.meeting-test.true, c.requires.9, c.meeting.invariant.1)
+
+pub offset_bounds-taken-count : goal.offset_bounds-taken-count
+offset_bounds-taken-count c =
+    record { fits = omega (arith, c.meeting-test.true, c.requires.1) }
+
+pub bounds-taken-count : goal.bounds-taken-count
+bounds-taken-count c =
+    omega (arith, c.meeting-test.true, c.requires.10, c.meeting.invariant.2)
+
+pub overflow_add-count : goal.overflow_add-count
+overflow_add-count c =
+    record { fits = omega (arith, c.meeting-test.true, c.requires.1) }
+
+pub meeting-smaller : goal.meeting-smaller
+meeting-smaller c =
+    omega (arith, c.meeting-test.true)
+
+pub meeting-preserved : goal.meeting-preserved
+meeting-preserved c =
+    let i = c.meeting.invariant in
+    let l = c.loop-j in
+    let g = i.5 in
+    let few = g.runs.few in
+    let f = found_whole _ _ _ _ _ _ _ _ l.j _ _ g.runs c.requires.5 (omega (arith, few, i.0, c.requires.1, c.requires.7)) l.invariant.0
+    (omega (arith, c.loop-j-test.false)) l.invariant.1 in
+    let t = c.take_first-p.ensures in
+    let y = c.match_at-x.ensures in (
+      omega (arith, c.take_first-p.auto.1.0, i.0),
+      simp length-set i.1,
+      simp length-set i.2,
+      omega (arith, c.match_at-x.auto.1.1.1.1.0, i.3),
+      omega (arith, eqb-false c.minus-left.result.0 0 (sym c.is_zero.ensures ∙ c.if-is_zero.false)),
+      rw c.minus-left.ensures
+          (meeting_more _ _ _ _ _ _ _ _ _ _ _ _ _ _ _ g l.best.run _ _ f c.if-best-runs.false c.requires.5
+          (omega (arith, few, i.0, c.requires.1, c.requires.7))
+          (omega (arith, c.requires.9, i.1)) (omega (arith, c.requires.10, i.2)) _ _ (omega (arith, i.4)) t.0 t.1 y.0
+          (y.1 c.args.rows.now (map (match_row (as_order c.args.incoming)) g.done) g.counted g.handed)),
+    )
+
+pub returns-after-meeting : goal.returns-after-meeting
+returns-after-meeting c = ends_full _ _ _ _ _ _ _ _ _ _ _ _ _ _ _ c.meeting.invariant.5 (omega (arith, c.meeting-test.false))
+
+pub returns-then-best-runs : goal.returns-then-best-runs
+returns-then-best-runs c =
+    let i = c.meeting.invariant in
+    let l = c.loop-j in
+    let g = i.5 in
+    let few = g.runs.few in
+    let f = found_whole _ _ _ _ _ _ _ _ l.j _ _ g.runs c.requires.5 (omega (arith, few, i.0, c.requires.1, c.requires.7)) l.invariant.0
+    (omega (arith, c.loop-j-test.false)) l.invariant.1 in
+    ends_alone _ _ _ _ _ _ _ _ _ _ _ _ _ _ _ g (f.none c.if-best-runs.true)
+
+pub returns-then-is_zero : goal.returns-then-is_zero
+returns-then-is_zero c =
+    let i = c.meeting.invariant in
+    let l = c.loop-j in
+    let g = i.5 in
+    let few = g.runs.few in
+    let f = found_whole _ _ _ _ _ _ _ _ l.j _ _ g.runs c.requires.5 (omega (arith, few, i.0, c.requires.1, c.requires.7)) l.invariant.0
+    (omega (arith, c.loop-j-test.false)) l.invariant.1 in
+    let t = c.take_first-p.ensures in
+    let y = c.match_at-x.ensures in
+    let z : c.minus-left.result.0 ≡ 0 = eqb-true _ _ (sym c.is_zero.ensures ∙ c.if-is_zero.true) in
+    rw c.minus-left.ensures
+    (ends_spent _ _ _ _ _ _ _ _ _ _ _ _ _ _ _
+    (meeting_more _ _ _ _ _ _ _ _ _ _ _ _ _ _ _ g l.best.run _ _ f c.if-best-runs.false c.requires.5 (omega (arith, few, i.0, c.requires.1, c.requires.7))
+    (omega (arith, c.requires.9, i.1)) (omega (arith, c.requires.10, i.2)) _ _ (omega (arith, i.4)) t.0 t.1 y.0
+    (y.1 c.args.rows.now (map (match_row (as_order c.args.incoming)) g.done) g.counted g.handed))
+    (sym c.minus-left.ensures ∙ z))
