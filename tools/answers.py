@@ -28,10 +28,13 @@ class Function:
         self.names = names
         self.parent, self.step = {}, {}
         self.renamed = {}
-        for (old, parent, step, *_), new in zip(names["places"], names["places_by_name"]):
+        self.callee, self.lemma_at = {}, {}
+        for (old, parent, step, callee, *_), new in zip(names["places"], names["places_by_name"]):
             self.parent[old] = parent
             self.step[old] = (step[0].replace("_", "-"), step[1])
             self.renamed[old] = new
+            if callee:
+                self.callee[step[1]] = names["params"].get(callee, [])
         self.needs = {}
         for (old, new), at in zip(names["needs"], names["asked_at"]):
             self.needs[norm(old)] = (new, at[0])
@@ -55,16 +58,30 @@ class Function:
         for q in [p] + self.chain(base):
             old, new = self.step[q]
             if word.replace("_", "-") == old:
-                return ".".join([self.var, new] + words[at + 1 :])
+                return ".".join([self.var, new] + self.named(new, words[at + 1 :]))
         bare = re.sub(r"\d+$", "", word.removesuffix("_lem")).replace("_", "-").lower()
         for q in [p] + self.chain(base):
             old, new = self.step[q]
             if bare in (old, re.sub(r"\d+$", "", old)):
-                return ".".join([self.var, new] + words[at + 1 :])
+                return ".".join([self.var, new] + self.named(new, words[at + 1 :]))
         if word == "pre":
             return ".".join([self.var, "requires"] + words[at + 1 :])
         self.left(f"{word} at {p} is not known")
         return ".".join([self.var] + words[at:])
+
+    def named(self, step, words):
+        """What a call did to its arguments, by their names and no longer by their places."""
+        params = self.callee.get(step)
+        if params and words and words[0] in ("auto", "new"):
+            n = 1
+            while n < len(words) and words[n] == "1":
+                n += 1
+            k = n - 1
+            if n < len(words) and words[n] == "0" and k < len(params):
+                return [words[0], params[k]] + words[n + 1 :]
+            if k and k == len(params) - 1:
+                return [words[0], params[k]] + words[n:]
+        return words
 
     def chain(self, place):
         out = []
@@ -86,15 +103,25 @@ class Function:
                 if head in alias:
                     to = self.walk(alias[head], words, place)
                     if isinstance(to, tuple):
-                        alias[m[1]] = to[1] if to[1] != "Start" else place
+                        alias[m[1]] = to[1]
                         found = m
                         break
             if not found:
                 break
             text = text[: found.start()] + text[found.end() :]
 
+        steps = {}
+        for m in re.finditer(r"let ([\w'₀-₉-]+) = ([\w'₀-₉-]+(?:\.[\w'₀-₉-]+)+) in\s*", text):
+            head, *words = m[2].split(".")
+            if head in alias:
+                to = self.walk(alias[head], words, place)
+                if not isinstance(to, tuple) and to.count(".") == 1:
+                    steps[m[1]] = to.split(".")[1]
+
         def turn(m):
             head, tail = m[1], m[2]
+            if head in steps and tail:
+                return ".".join([head] + self.named(steps[head], tail[1:].split(".")))
             if head not in alias:
                 return m[0]
             words = tail[1:].split(".") if tail else []
@@ -104,8 +131,21 @@ class Function:
                 return f"(goal.at.{goal} {var}).{self.renamed[to[1]]}" if goal else var
             return to
 
-        text = PATH.sub(turn, text)
-        return re.sub(r"\(?not-(?:true|false) _ ([\w'-]+\.if-not-[\w'.-]+)\)?", lambda m: m[1] if m[0].startswith("(") == m[0].endswith(")") else m[0].replace(m[0].strip("()"), m[1]), text)
+        text = negated(PATH.sub(turn, text))
+        for lemma, at in self.lemma_at.items():
+            text = re.sub(r"(?<![\w'-])(" + re.escape(lemma) + r" \(goal\.at\.[^()]*\)\.)[\w'-]+", lambda m: m[1] + at, text)
+            if lemma + " (goal.at" in text:
+                self.places.add(at)
+        return text
+
+
+NOT = re.compile(r"not-(?:true|false) (?:_|[\w'.-]+|\([^()]*\)) (?:([\w'-]+\.if-not-[\w'.-]+)|\(([^()]*\.if-not-[^()]*)\))")
+
+
+def negated(text):
+    """The test of `!x` says of x itself today what it said of its negation."""
+    text = re.sub(r"\(" + NOT.pattern + r"\)", lambda m: m[1] or "(" + m[2] + ")", text)
+    return NOT.sub(lambda m: m[1] or "(" + m[2] + ")", text)
 
 
 def blocks(text):
@@ -209,6 +249,7 @@ def turn(f, path):
                 locals_.append(txt)
                 continue
             f.places.add(f.renamed[place])
+            f.lemma_at[name] = f.renamed[place]
             txt = txt.replace(t[0], (t[1] or "") + f.renamed[place] + t[5])
             v = t[2]
             if not v:

@@ -1,5 +1,5 @@
 -- Clearing one period, and all (paper 01, "The eight calls", Clear).
-use Rattle.std.specs.Prelude.{ℕ, zero, suc, ◌+◌, ◌-◌, ◌/◌, min, max, Bool, cond, List, [], ◌∷◌, ◌++◌, map, eqb, leb, ltb}
+use Rattle.std.specs.Prelude.{ℕ, zero, suc, ◌+◌, ◌-◌, ◌/◌, min, max, cond, List, [], ◌∷◌, ◌++◌, map, eqb, leb, ltb}
 use Rattle.measures.specs.Lists.{keep}
 use Rattle.measures.specs.Sharing.{parts}
 use Rattle.matching.specs.Orders.{Order, Row, quantities, lessen, bids, asks}

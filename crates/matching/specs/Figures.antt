@@ -1,8 +1,8 @@
 -- Figures 2, 3 and 4 of paper 01: orders of one period, and the rows.
 use Rattle.std.specs.Prelude.{ℕ, ◌≡◌, List, [], ◌∷◌}
 use Rattle.matching.specs.Orders.{Order, Row, bids, asks}
-use Rattle.matching.specs.Rolling.{Met, meet}
-use Rattle.matching.specs.Clearing.{Cleared, cleared_volume, clearing_price, clear_period}
+use Rattle.matching.specs.Rolling.{meet}
+use Rattle.matching.specs.Clearing.{cleared_volume, clearing_price, clear_period}
 
 -- an order of period 0: its number, unit, direction, price and quantity
 abbrev pub an_order : ℕ → ℕ → ℕ → ℕ → ℕ → Order

@@ -1,5 +1,6 @@
 // Rolling matching and clearing of orders: paper 01, "The eight calls", Order and Clear.
 #![tactic(auto)]
+
 pub mod clearing;
 mod fills;
 pub mod fitness;

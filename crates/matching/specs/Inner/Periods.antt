@@ -3,7 +3,7 @@ use Rattle.std.specs.Prelude.{ℕ, ◌+◌, ◌*◌, ◌≤◌, ◌<◌, ◌≡�
 use Rattle.measures.specs.Ranges.{most_energy}
 use Rattle.matching.specs.Orders.{Order, Row, rising, numbers, quantities}
 use Rattle.matching.specs.Memory.{order_words, row_words, most_word, orders_in, written}
-use Rattle.matching.specs.Clearing.{Cleared, clear_period, clear_from}
+use Rattle.matching.specs.Clearing.{clear_period, clear_from}
 
 -- n orders that can be cleared, with room behind `count` rows for as many rows as orders
 pub record Clearable (m rows : List ℕ) (n count : ℕ) : Type 0 where

@@ -1,5 +1,5 @@
 -- How clearing works on places: an order is named by where it stands in the memory. For the contracts of inner functions.
-use Rattle.std.specs.Prelude.{ℕ, ◌+◌, ◌-◌, ◌*◌, ◌≤◌, ◌<◌, min, max, ◌≡◌, Bool, true, cond, ◌&&◌, List, [], ◌∷◌, ◌++◌, map, length, get_or, take, drop, eqb, leb, ltb}
+use Rattle.std.specs.Prelude.{ℕ, ◌+◌, ◌-◌, ◌*◌, ◌≤◌, ◌<◌, min, max, ◌≡◌, Bool, true, cond, ◌&&◌, List, [], ◌∷◌, ◌++◌, map, length, take, drop, eqb, ltb}
 use Rattle.measures.specs.Lists.{every, keep}
 use Rattle.measures.specs.Ranges.{most_energy}
 use Rattle.measures.specs.Sharing.{total}

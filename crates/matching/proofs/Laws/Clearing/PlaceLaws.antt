@@ -1,6 +1,6 @@
 -- Laws of the margins: the walk by places, and a volume between what is better than a margin and what is at it too.
 use Prim.Native.Nat.{ℕ, zero, suc, ◌+◌, ◌*◌, ◌-◌, ◌<◌, ◌≤◌, min}
-use mathlib.Core.Path.{◌≡◌, refl, sym, ap, ◌∙◌}
+use mathlib.Core.Path.{◌≡◌, refl, sym, ap, subst, ◌∙◌}
 use mathlib.Core.Bool.{Bool, true, false, cond}
 use mathlib.Core.List.{List, [], ◌∷◌, ◌++◌}
 use native.Mathlib.Omega.{arith}
@@ -13,7 +13,7 @@ use lib.Seq.{get_or-take}
 use Rattle.measures.specs.Lists.{Each, keep}
 use Rattle.measures.specs.Ranges.{most_energy, most_number}
 use Rattle.measures.proofs.ListLaws.{both_ways}
-use Rattle.matching.specs.Orders.{Order, quantities, laid}
+use Rattle.matching.specs.Orders.{Order, quantities}
 use Rattle.matching.specs.Memory.{order_at, orders_in, no_order}
 use Rattle.matching.specs.Clearing.{traded_at, cleared_volume, marginal}
 use Rattle.matching.specs.Inner.Places.{orders_at, ahead_on, belongs, Stand, Sides, AreMargins, AtMargin}
@@ -236,15 +236,25 @@ module _ (better : ℕ → ℕ → Bool) (st : Strict better) where
   margin_holds v [] e pos le = absurd (omega arith)
   margin_holds v (o ∷ os) e pos le = go (dec_le v o.quantity) (λ k l. margin_holds (v - o.quantity) os e.1 k l)
     where
+      holds_at : (b : Bool) → leb v o.quantity ≡ b
+          → (above (cond b o.price (marginal (v - o.quantity) os)) (o ∷ os) < v)
+          × (v ≤ above (cond b o.price (marginal (v - o.quantity) os)) (o ∷ os) + level (cond b o.price (marginal (v - o.quantity) os)) (o ∷ os))
+          → (above (cond (leb v o.quantity) o.price (marginal (v - o.quantity) os)) (o ∷ os) < v)
+          × (v ≤ above (cond (leb v o.quantity) o.price (marginal (v - o.quantity) os)) (o
+          ∷ os) + level (cond (leb v o.quantity) o.price (marginal (v - o.quantity) os)) (o ∷ os))
+      holds_at b q s =
+          subst (λ (a : Bool). (above (cond a o.price (marginal (v - o.quantity) os)) (o ∷ os) < v)
+          × (v ≤ above (cond a o.price (marginal (v - o.quantity) os)) (o ∷ os) + level (cond a o.price (marginal (v - o.quantity) os)) (o ∷ os))) (sym q) s
+
       go : Dec (v ≤ o.quantity) → (0 < v - o.quantity → v - o.quantity ≤ quantities os → (above (marginal (v - o.quantity) os) os < v - o.quantity)
           × (v - o.quantity ≤ above (marginal (v - o.quantity) os) os + level (marginal (v - o.quantity) os) os))
           → (above (cond (leb v o.quantity) o.price (marginal (v - o.quantity) os)) (o ∷ os) < v)
           × (v ≤ above (cond (leb v o.quantity) o.price (marginal (v - o.quantity) os)) (o
           ∷ os) + level (cond (leb v o.quantity) o.price (marginal (v - o.quantity) os)) (o ∷ os))
-      go (yes h) ih = rw (le-leb v o.quantity h) (first_holds v o os e.0 pos h)
+      go (yes h) ih = holds_at true (le-leb v o.quantity h) (first_holds v o os e.0 pos h)
       go (no h) ih =
           let p = marginal (v - o.quantity) os in
-          rw (lt-leb v o.quantity (omega arith))
+          holds_at false (lt-leb v o.quantity (omega arith))
           (later-holds p v o os (priced (λ q. better q o.price ≡ false) (v - o.quantity) os e.0 (omega arith) (omega arith)) (omega arith)
           (ih (omega arith) (omega arith)))
 

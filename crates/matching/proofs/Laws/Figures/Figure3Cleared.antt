@@ -4,7 +4,7 @@ use mathlib.Core.Path.{◌≡◌, ap₂, ◌∙◌}
 use mathlib.Core.Bool.{true}
 use mathlib.Core.List.{List}
 use Rattle.matching.specs.declared.orders.Matched.{Matched}
-use Rattle.matching.specs.Orders.{Row, bids, asks}
+use Rattle.matching.specs.Orders.{bids, asks}
 use Rattle.matching.specs.Memory.{orders_in, written}
 use Rattle.matching.specs.Clearing.{cleared_volume, marginal, clearing_price, clear_period}
 use Rattle.matching.specs.Answers.{fit, Clears}

@@ -1,6 +1,6 @@
 -- What is left of orders, each less what is taken under its number: by fills one after the other, and by the pairs of a cleared period.
 use Prim.Native.Nat.{ℕ, ◌+◌, ◌-◌, ◌<◌, ◌≤◌}
-use mathlib.Core.Path.{◌≡◌, refl, sym, ap, ◌∙◌}
+use mathlib.Core.Path.{◌≡◌, refl, sym, ap, subst, ◌∙◌}
 use mathlib.Core.Logic.{inl, inr}
 use mathlib.Core.Bool.{Bool, true, false, cond}
 use mathlib.Core.List.{List, [], ◌∷◌, ◌++◌, map}
@@ -137,7 +137,8 @@ own_quantity [] o r m = absurd m
 own_quantity (y ∷ os) o r (inl q) =
     let z = keep_none (λ x. eqb x.number y.number) os (each_map (λ x. y.number < x.number) (λ x. eqb x.number y.number ≡ false) os
     (λ x l. ne_eqb x.number y.number (omega arith)) r.0) in
-    rw (q, eq-eqb y.number y.number refl) (omega arith)
+    subst (λ (w : Order). quantities (keep (λ x. eqb x.number w.number) (y ∷ os)) ≡ w.quantity) (sym q)
+    (rw (eq-eqb y.number y.number refl) (omega (arith, z)))
 own_quantity (y ∷ os) o r (inr m) =
     let l : y.number < o.number = has_each (λ x. y.number < x.number) os o r.0 m in
     rw (ne_eqb y.number o.number (omega arith)) (own_quantity os o r.1 m)

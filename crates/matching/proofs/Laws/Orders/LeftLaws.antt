@@ -28,7 +28,7 @@ module _ {A : Type 0} (R : A → A → Type 0) where
   remains_then h t ended = t
   remains_then h t (gone s) = gone (remains_then h t s)
   remains_then h (gone t) (kept r s) = gone (remains_then h t s)
-  remains_then h (kept q t) (kept r s) = kept (h _ _ _ q r) (remains_then h t s)
+  remains_then h (kept {x = x} {xs = xs} q t) (kept r s) = kept (h _ _ _ q r) (remains_then h {xs = xs} t s)
 
   pub remains_append : {xs ys vs ws : List A} → Remains R xs ys → Remains R vs ws → Remains R (xs ++ vs) (ys ++ ws)
   remains_append ended s = s

@@ -1,6 +1,6 @@
 -- Laws of one order lessened.
 use Prim.Native.Nat.{ℕ, ◌+◌, ◌-◌, ◌<◌, ◌≤◌}
-use mathlib.Core.Path.{◌≡◌, refl, sym, ap, ◌∙◌}
+use mathlib.Core.Path.{◌≡◌, refl, sym, ap, subst, ◌∙◌}
 use mathlib.Core.Logic.{inl, inr}
 use mathlib.Core.Bool.{Bool, true, false, cond}
 use mathlib.Core.List.{List, [], ◌∷◌}
@@ -118,7 +118,7 @@ module _ (g : Order → Bool) (still : (o : Order) (q : ℕ) → g (leaving o q)
   unfolding lessen
   lessen_open x [] o p m le = absurd m
   lessen_open x (y ∷ os) o p (inl q) le =
-      rw q
+      subst (λ (z : Order). sum_of (open_under g) (lessen z.number x (y ∷ os)) + cond (g z) x 0 ≡ sum_of (open_under g) (y ∷ os)) (sym q)
       (cond_case (λ (l : List Order). sum_of (open_under g) l + cond (g y) x 0 ≡ open_under g y + sum_of (open_under g) os) (eqb y.number y.number)
       (cond (leb y.quantity x) os (less y x ∷ os)) (y ∷ lessen y.number x os)
       (λ _.

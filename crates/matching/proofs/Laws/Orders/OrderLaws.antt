@@ -1,14 +1,12 @@
 -- Laws of orders in memory: a list of them is known by its elements.
-use Prim.Native.Nat.{ℕ, zero, suc, ◌+◌, ◌*◌, ◌-◌, ◌<◌, ◌≤◌}
+use Prim.Native.Nat.{ℕ, suc, ◌+◌, ◌*◌, ◌-◌, ◌<◌, ◌≤◌}
 use mathlib.Core.Path.{◌≡◌, refl, sym, ap, ◌∙◌}
-use mathlib.Core.List.{List, [], ◌∷◌, ◌++◌}
+use mathlib.Core.List.{List, ◌++◌}
 use native.Mathlib.Omega.{arith}
 use native.Mathlib.Nat.{add-zero}
-use native.Mathlib.Numerals.{add-one}
 use native.Mathlib.Decide.{ℕ_discrete, dec_lt}
 use lib.ListN.{length, get_or, take, drop, set, length-append, length-set, length-take, length-drop, get_or-append}
 use lib.Seq.{get_or-set_other, get_or-set_same, get_or-take, get_or-drop, get_or-append-add, length-take-le, drop-set-lt}
-use Rattle.measures.specs.Lists.{table}
 use Rattle.measures.proofs.ListLaws.{table-length, table_at, table_is, table-set}
 use Rattle.matching.specs.Orders.{Order, leaving}
 use Rattle.matching.specs.Memory.{order_at, orders_in, no_order}

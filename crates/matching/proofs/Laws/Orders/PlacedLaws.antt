@@ -1,13 +1,13 @@
 -- Laws of places that are there: the tests, and what follows from them.
 use Prim.Native.Nat.{ℕ, ◌+◌, ◌*◌, ◌/◌, ◌<◌, ◌≤◌}
 use mathlib.Core.Path.{◌≡◌, refl, sym, ◌∙◌}
-use mathlib.Core.Bool.{Bool, true, false, ◌&&◌}
+use mathlib.Core.Bool.{true, false, ◌&&◌}
 use mathlib.Core.List.{List, [], ◌∷◌, ◌++◌}
 use native.Mathlib.Omega.{arith}
 use borrow.Author.Tests.{lt-ltb, le-leb, lt-leb, leb-true, ltb-true}
 use lib.ListN.{length, drop}
 use lib.Dec.{leb, ltb}
-use Rattle.measures.proofs.ListLaws.{and_true, and_left, and_right, both_ways}
+use Rattle.measures.proofs.ListLaws.{and_left, and_right, both_ways}
 use Rattle.matching.specs.Orders.{Order, Row, rising, numbers}
 use Rattle.matching.specs.Memory.{orders_in, place_in, room_for, written}
 use Rattle.matching.specs.Answers.{numbers_rise, Placed, RowPut}

@@ -1,30 +1,25 @@
 -- Clearing period by period on the orders' part: periods without an order are passed over, and the rows have room.
 use Prim.Native.Nat.{ℕ, zero, suc, ◌+◌, ◌-◌, ◌*◌, ◌≤◌, ◌<◌}
 use mathlib.Core.Path.{◌≡◌, refl, sym, ap, ◌∙◌}
-use mathlib.Core.Bool.{Bool, true, false, cond}
+use mathlib.Core.Bool.{true, false}
 use mathlib.Core.List.{List, [], ◌++◌, append_assoc, append-nil}
 use native.Mathlib.Omega.{arith}
-use native.Mathlib.Decide.{ℕ_discrete}
-use borrow.Author.Tests.{eq-eqb, ne_eqb, lt-ltb, le-ltb, le-leb, ltb-false}
+use borrow.Author.Tests.{le-leb}
 use borrow.Rule.Slice.PartMut.{put_mid}
-use lib.ListN.{length, get_or, take, drop, length-append, length-take, length-drop, drop_of_length-le}
+use lib.ListN.{length, take, drop, length-append, length-take, length-drop, drop_of_length-le}
 use lib.Seq.{take_at, drop_at, take_all, drop-drop}
-use lib.Dec.{eqb, ltb}
 use Rattle.measures.specs.Ranges.{most_energy}
-use Rattle.measures.specs.Lists.{Each, keep}
-use Rattle.measures.proofs.ListLaws.{and_right_false, both_ways}
+use Rattle.measures.proofs.ListLaws.{both_ways}
 use Rattle.measures.specs.declared.Energy.{Energy}
 use Rattle.matching.specs.declared.orders.Matched.{Matched}
 use Rattle.matching.specs.declared.orders.Matched.TheVariants.{Unfit, Done}
-use Rattle.matching.specs.Orders.{Order, Row, buys, sells, laid, rising, numbers, quantities}
-use Rattle.matching.specs.Memory.{orders_in, no_order, flat, written}
+use Rattle.matching.specs.Orders.{Order, Row, rising, numbers, quantities}
+use Rattle.matching.specs.Memory.{orders_in, flat, written}
 use Rattle.matching.specs.Clearing.{Cleared, clear_period, clear_from}
 use Rattle.matching.specs.Answers.{fit, answer_of, Clears, fit_below, ClearsAll}
-use Rattle.matching.proofs.Laws.Lists.EachLaws.{each_map, keep-nothing}
-use Rattle.matching.proofs.Laws.Orders.OrderLaws.{orders_at_lem, orders_length}
+use Rattle.matching.proofs.Laws.Orders.OrderLaws.{orders_length}
 use Rattle.matching.proofs.Laws.Orders.RowLaws.{flat-length, flat_append, written_none}
 use Rattle.matching.proofs.Laws.Orders.FitLaws.{is_fit, below_is, below_gives}
-use Rattle.matching.proofs.Laws.Clearing.PeriodLaws.{is_bid, is_ask}
 use Rattle.matching.proofs.Laws.Clearing.RestLaws.{numbers_rise_after}
 use Rattle.matching.specs.Inner.Periods.{Clearable, Stepped, PassedAll}
 use Rattle.matching.proofs.Laws.Lists.RemainLaws.{remains-length, remains-sum}

@@ -1,19 +1,19 @@
 -- Prices noted by period, and periods in which none meet: there is nothing to clear in these.
 use Prim.Native.Nat.{ℕ, ◌+◌, ◌*◌, ◌≤◌, ◌<◌, min}
 use mathlib.Core.Path.{◌≡◌, refl, sym, ap, ◌∙◌}
-use mathlib.Core.Bool.{Bool, true, false, ◌&&◌, ◌||◌}
-use mathlib.Core.List.{List, [], ◌∷◌, ◌++◌, append-nil}
+use mathlib.Core.Bool.{Bool, true, false, ◌||◌}
+use mathlib.Core.List.{List, [], ◌++◌, append-nil}
 use native.Mathlib.Omega.{arith}
 use native.Mathlib.Decide.{ℕ_discrete, dec_lt}
 use borrow.Author.Tests.{eqb-true, eq-eqb, lt-leb, le-leb, leb-false, ltb-false}
-use lib.ListN.{length, get_or, set}
+use lib.ListN.{length, get_or}
 use lib.Seq.{get_or-set_same, get_or-set_other}
 use lib.Dec.{eqb, leb, ltb}
 use Rattle.measures.specs.Lists.{Each, keep}
 use Rattle.measures.proofs.ListLaws.{cond-true, and_left, and_right, both_ways}
 use Rattle.matching.specs.Orders.{Order, Row, buys, sells, bids, asks, bid_ahead, ask_ahead, quantities}
 use Rattle.matching.specs.Memory.{most_word, order_at, orders_in, no_order, written}
-use Rattle.matching.specs.Clearing.{Cleared, traded_at, largest, cleared_volume, clear_period}
+use Rattle.matching.specs.Clearing.{Cleared, traded_at, cleared_volume, clear_period}
 use Rattle.matching.proofs.Laws.Lists.EachLaws.{each_map, each_both, each_all, each_keep, kept, keep-nothing}
 use Rattle.matching.proofs.Laws.Orders.LaidLaws.{laid_each}
 use Rattle.matching.proofs.Laws.Clearing.VolumeLaws.{largest_below}

@@ -4,7 +4,6 @@ use native.Mathlib.Omega.{arith}
 use Rattle.matching.proofs.Laws.Orders.FitLaws.{fit_gives}
 use Rattle.matching.proofs.Laws.Clearing.StepLaws.{clears_none}
 use borrow.Author.Tests.{eqb-true, eqb-false}
-use borrow.Author.Rules.{rules}
 use Rattle.matching.proofs.clearing.clear_fit.Goals as goal
 
 pub lay-nb-requires : goal.lay-nb-requires

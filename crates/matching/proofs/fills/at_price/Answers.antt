@@ -1,7 +1,6 @@
 -- `at_price`: one comparison for each of the three questions.
 use mathlib.Core.Path.{◌∙◌}
 use Rattle.matching.proofs.Laws.Clearing.PickLaws.{chosen_at, chosen-dearer, chosen-cheaper}
-use borrow.Author.Rules.{rules}
 use Rattle.matching.proofs.fills.at_price.Goals as goal
 
 pub returns-then-which-eq2 : goal.returns-then-which-eq2

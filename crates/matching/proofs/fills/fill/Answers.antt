@@ -5,9 +5,8 @@ use native.Mathlib.Omega.{arith}
 use lib.ListN.{length, take}
 use Rattle.matching.specs.Inner.Places.{picked}
 use Rattle.matching.proofs.Laws.Clearing.PickLaws.{both_few, better_sum, side-filled}
-use borrow.Author.Rules.{rules}
 use Rattle.matching.proofs.fills.fill.Goals as goal
-use Rattle.matching.proofs.fills.fill.Goals.{After-minus, After-open-1, After-open-2-1, After-pick-arg-2-1, After-share-arg-1, Start}
+use Rattle.matching.proofs.fills.fill.Goals.{Start}
 
 few : (s : Start)
     → length (picked s.args.orders.now s.args.direction s.args.margin.0 (take s.args.count s.args.places.now))
@@ -21,12 +20,12 @@ Room n l = n ≤ length l
 
 pub pick-better-requires : goal.pick-better-requires
 pick-better-requires c =
-    let w = few (goal.at.pick-better-requires c).After-pick-arg-2-1 in
+    let w = few (goal.at.pick-better-requires c).Start in
     (c.requires.0, c.requires.1, c.requires.5, omega arith, omega arith)
 
 pub pick-all-requires : goal.pick-all-requires
 pick-all-requires c =
-    let w = few (goal.at.pick-all-requires c).After-open-1 in
+    let w = few (goal.at.pick-all-requires c).Start in
     let e = c.pick-better.ensures.count in
     (c.requires.0, c.requires.1, c.requires.5, omega arith, omega arith)
 
@@ -35,18 +34,32 @@ together-first-requires c =
     let k = c.pick-better in
     let t = better_sum c.args.orders.now c.args.places.now c.args.n c.args.count c.args.direction c.args.margin.0
     c.args.volume.0 c.requires.5 c.requires.2 c.requires.6 _ _ _ _ _ k.ensures in
-    (omega (arith, few (goal.at.together-first-requires c).After-open-2-1, k.ensures.count, k.auto.1.1.1.1.1.1.1.0, c.requires.4), omega (arith, t, c.requires.6.small))
+    (omega (arith, few (goal.at.together-first-requires c).Start, k.ensures.count, k.auto.amounts, c.requires.4), omega (arith, t, c.requires.6.small))
 
 pub offset_bounds-open-better : goal.offset_bounds-open-better
 offset_bounds-open-better c =
-    let w = few (goal.at.offset_bounds-open-better c).After-minus in
+    let w = few (goal.at.offset_bounds-open-better c).Start in
     let e = c.pick-better.ensures.count in
+    omega arith
+
+pub slice_bounds-share-end : goal.slice_bounds-share-end
+slice_bounds-share-end c =
+    let w = few (goal.at.slice_bounds-share-end c).Start in
+    let e = c.pick-better.ensures.count in
+    let f = c.pick-all.ensures.count in
     omega arith
 
 pub offset_bounds-amounts-better : goal.offset_bounds-amounts-better
 offset_bounds-amounts-better c =
-    let w = few (goal.at.offset_bounds-amounts-better c).After-share-arg-1 in
+    let w = few (goal.at.offset_bounds-amounts-better c).Start in
     let e = c.pick-better.ensures.count in
+    omega arith
+
+pub slice_bounds-share-end-2 : goal.slice_bounds-share-end-2
+slice_bounds-share-end-2 c =
+    let w = few (goal.at.slice_bounds-share-end-2 c).Start in
+    let e = c.pick-better.ensures.count in
+    let f = c.pick-all.ensures.count in
     omega arith
 
 pub returns : goal.returns
@@ -54,9 +67,9 @@ returns c =
     let a = c.args in
     let k = c.pick-better in
     let o = c.pick-all in
-    let to1 : Room a.n o.new.1.1.1.1.1.1.0 = omega (arith, c.requires.3, k.auto.1.1.1.1.1.1.0, o.auto.1.1.1.1.1.1.0) in
-    let am1 : Room a.n k.new.1.1.1.1.1.1.1.0 = omega (arith, c.requires.4, k.auto.1.1.1.1.1.1.1.0) in
-    let op1 : Room a.n o.new.1.1.1.1.1.1.1.0 = omega (arith, c.requires.1, o.auto.1.1.1.1.1.1.1.0) in
+    let to1 : Room a.n o.new.to = omega (arith, c.requires.3, k.auto.to, o.auto.to) in
+    let am1 : Room a.n k.new.amounts = omega (arith, c.requires.4, k.auto.amounts) in
+    let op1 : Room a.n o.new.amounts = omega (arith, c.requires.1, o.auto.amounts) in
     side-filled a.orders.now a.places.now a.n a.count a.direction a.margin.0 a.volume.0 c.requires.5 c.requires.2 c.requires.6 _ _ _ _ _
     k.ensures _ _ _ _ o.ensures
     to1 am1 c.requires.1 op1 _ _ c.together-first.ensures c.minus.ensures _ _ c.share.ensures

@@ -1,10 +1,8 @@
 -- `pick`: each chosen place joins those picked, and its order's quantity with it.
-use Prim.Native.Nat.{◌-◌}
 use mathlib.Core.Path.{sym, refl, ◌∙◌}
 use native.Mathlib.Omega.{arith}
 use Rattle.matching.proofs.Laws.Laying.LayingLaws.{stand_below}
-use Rattle.matching.proofs.Laws.Clearing.PickLaws.{Picking, picking_start, picking_skip, picking_put, picking_room, picking_end}
-use borrow.Author.Rules.{rules}
+use Rattle.matching.proofs.Laws.Clearing.PickLaws.{picking_start, picking_skip, picking_put, picking_room, picking_end}
 use Rattle.matching.proofs.fills.pick.Goals as goal
 
 pub loop-i-init : goal.loop-i-init

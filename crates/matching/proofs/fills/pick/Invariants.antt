@@ -1,9 +1,5 @@
 use Prim.Native.Nat.{◌-◌}
-use mathlib.Core.Path.{sym, refl, ◌∙◌}
-use native.Mathlib.Omega.{arith}
-use Rattle.matching.proofs.Laws.Laying.LayingLaws.{stand_below}
-use Rattle.matching.proofs.Laws.Clearing.PickLaws.{Picking, picking_start, picking_skip, picking_put, picking_room, picking_end}
-use borrow.Author.Rules.{rules}
+use Rattle.matching.proofs.Laws.Clearing.PickLaws.{Picking}
 use Rattle.matching.proofs.fills.pick.Given as goal
 
 abbrev pub invariant-loop-i : goal.invariant-loop-i

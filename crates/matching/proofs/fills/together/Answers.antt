@@ -1,9 +1,7 @@
 -- `together`: what is summed and what is left make the total.
-use Prim.Native.Nat.{◌-◌}
 use native.Mathlib.Nat.{zero-add}
 use native.Mathlib.Omega.{arith}
-use Rattle.matching.proofs.Laws.Clearing.PickLaws.{Adding, adding_next, adding_end}
-use borrow.Author.Rules.{rules}
+use Rattle.matching.proofs.Laws.Clearing.PickLaws.{adding_next, adding_end}
 use Rattle.matching.proofs.fills.together.Goals as goal
 
 pub loop-i-init : goal.loop-i-init

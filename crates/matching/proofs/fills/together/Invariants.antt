@@ -1,8 +1,5 @@
 use Prim.Native.Nat.{◌-◌}
-use native.Mathlib.Nat.{zero-add}
-use native.Mathlib.Omega.{arith}
-use Rattle.matching.proofs.Laws.Clearing.PickLaws.{Adding, adding_next, adding_end}
-use borrow.Author.Rules.{rules}
+use Rattle.matching.proofs.Laws.Clearing.PickLaws.{Adding}
 use Rattle.matching.proofs.fills.together.Given as goal
 
 abbrev pub invariant-loop-i : goal.invariant-loop-i

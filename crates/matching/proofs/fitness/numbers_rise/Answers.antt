@@ -2,7 +2,6 @@
 use mathlib.Core.Path.{sym, ◌∙◌}
 use native.Mathlib.Omega.{arith}
 use Rattle.matching.proofs.Laws.Orders.PlacedLaws.{rise_many, rise_short, rise_is}
-use borrow.Author.Rules.{rules}
 use Rattle.matching.proofs.fitness.numbers_rise.Goals as goal
 
 pub returns-then-n-gt-MOST : goal.returns-then-n-gt-MOST

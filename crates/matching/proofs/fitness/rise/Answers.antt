@@ -1,9 +1,8 @@
 -- `rise`: numbers that rise by neighbours rise.
-use Prim.Native.Nat.{◌≤◌, ◌-◌}
 use mathlib.Core.Path.{sym, ap}
 use native.Mathlib.Omega.{arith}
 use Rattle.matching.specs.Orders.{Order}
-use Rattle.matching.proofs.Laws.Orders.FitLaws.{ClimbsTo, climbs_more, climbs_rise, climbs_not}
+use Rattle.matching.proofs.Laws.Orders.FitLaws.{climbs_more, climbs_rise, climbs_not}
 use borrow.Author.Rules.{rules}
 use Rattle.matching.proofs.fitness.rise.Goals as goal
 

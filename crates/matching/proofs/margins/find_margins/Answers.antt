@@ -2,23 +2,8 @@
 use mathlib.Core.Path.{sym, ◌∙◌}
 use native.Mathlib.Omega.{arith}
 use Rattle.matching.proofs.Laws.Laying.LayingLaws.{stand_below}
-use Rattle.matching.proofs.Laws.Clearing.PlaceLaws.{
-  stand_here,
-  WalkAt,
-  walk_at_start,
-  walk_at_bid,
-  walk_at_ask,
-  walk_at_takes,
-  walk_at_bids_end,
-  walk_at_asks_end,
-  walk_at_apart,
-  turns,
-  turns_bid,
-  turns_ask,
-  turns-take,
-}
-use borrow.Author.Tests.{eqb-true, eqb-false, leb-true, leb-false, not-true, not-false}
-use borrow.Author.Rules.{rules}
+use Rattle.matching.proofs.Laws.Clearing.PlaceLaws.{stand_here, walk_at_start, walk_at_bid, walk_at_ask, walk_at_takes, walk_at_bids_end, walk_at_asks_end, walk_at_apart, turns_bid, turns_ask, turns-take}
+use borrow.Author.Tests.{eqb-true, eqb-false, leb-true, leb-false}
 use Rattle.matching.proofs.margins.find_margins.Goals as goal
 
 pub open_at-demand-requires : goal.open_at-demand-requires
@@ -50,7 +35,7 @@ pub returns-then-not-meets : goal.returns-then-not-meets
 returns-then-not-meets c =
     let l = c.loop-i in
     walk_at_apart _ _ _ _ _ _ _ _ _ _ _ _ _ c.requires.2 l.invariant _ _ c.loop-i-test.true (omega (arith, l.invariant.asks_in, c.if-j-na.false))
-    c.read-b.ensures c.read-s.ensures (leb-false _ _ (sym c.meets.ensures ∙ not-true _ c.if-not-meets.true))
+    c.read-b.ensures c.read-s.ensures (leb-false _ _ (sym c.meets.ensures ∙ c.if-not-meets.true))
 
 pub overflow_add-i : goal.overflow_add-i
 overflow_add-i c =
@@ -102,7 +87,7 @@ pub loop-i-preserved : goal.loop-i-preserved
 loop-i-preserved c =
     let l = c.loop-i in
     walk_at_takes _ _ _ _ _ _ _ _ _ _ _ _ _ c.requires.2 l.invariant _ _ c.loop-i-test.true (omega (arith, l.invariant.asks_in, c.if-j-na.false))
-    c.read-b.ensures c.read-s.ensures _ _ _ _ (leb-true _ _ (sym c.meets.ensures ∙ not-false _ c.if-not-meets.false))
+    c.read-b.ensures c.read-s.ensures _ _ _ _ (leb-true _ _ (sym c.meets.ensures ∙ c.if-not-meets.false))
     (eqb-false _ _ (sym c.is_zero.ensures ∙ c.if-is_zero.false)) (eqb-false _ _ (sym c.is_zero-else-is_zero.ensures ∙ c.if-is_zero-2.false))
     c.least-x.ensures c.minus-demand.ensures c.minus-supply.ensures c.plus-volume.ensures
 

@@ -3,9 +3,6 @@ use native.Mathlib.Omega.{arith}
 use Prim.Native.Nat.{◌+◌, ◌*◌}
 use lib.Seq.{drop-set-lt}
 use Rattle.matching.proofs.Laws.Orders.OrderLaws.{left_at}
-use borrow.Author.Rules.{rules}
-use Rattle.matching.proofs.orders.leave.Reads as reads
-use Rattle.matching.proofs.orders.leave.Lts as lts
 use Rattle.matching.proofs.orders.leave.Goals as goal
 
 pub returns : goal.returns

@@ -1,6 +1,5 @@
 -- `put_row`: without room the memory stays; with it the row is written.
 use Rattle.matching.proofs.Laws.Orders.PlacedLaws.{no_room, row_put}
-use borrow.Author.Rules.{rules}
 use Rattle.matching.proofs.orders.put_row.Goals as goal
 
 pub returns-then-n-rows : goal.returns-then-n-rows

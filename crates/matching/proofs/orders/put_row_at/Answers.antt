@@ -1,12 +1,10 @@
 -- `put_row_at`: six stores behind the rows that stand.
-use Prim.Native.Nat.{ℕ, ◌+◌, ◌*◌, ◌≤◌, ◌<◌}
-use mathlib.Core.Path.{◌≡◌}
+use Prim.Native.Nat.{◌+◌, ◌*◌, ◌≤◌}
 use native.Mathlib.Omega.{arith}
 use native.Mathlib.Numerals.{add-one, add-two, add-three, add-four, add_five}
 use lib.ListN.{length, length-set}
 use Rattle.matching.specs.Memory.{written, as_row}
 use Rattle.matching.proofs.Laws.Orders.RowLaws.{written-more}
-use borrow.Author.Rules.{rules}
 use Rattle.matching.proofs.orders.put_row_at.Goals as goal
 
 pub bounds-rows-at-2 : goal.bounds-rows-at-2

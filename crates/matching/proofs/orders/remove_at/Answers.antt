@@ -1,9 +1,7 @@
 -- `remove_at`: the numbers behind place k move up by six, one by one.
-use Prim.Native.Nat.{ℕ, ◌+◌, ◌*◌, ◌-◌, ◌<◌, ◌≤◌}
 use native.Mathlib.Omega.{arith}
 use native.Mathlib.Numerals.{add-one}
-use Rattle.matching.proofs.Laws.Orders.OrderLaws.{moved, Moving, moving_start, moving_more}
-use borrow.Author.Rules.{rules}
+use Rattle.matching.proofs.Laws.Orders.OrderLaws.{moved, moving_start, moving_more}
 use Rattle.matching.proofs.orders.remove_at.Goals as goal
 
 pub loop-j-init : goal.loop-j-init

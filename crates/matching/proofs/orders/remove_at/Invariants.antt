@@ -1,8 +1,5 @@
-use Prim.Native.Nat.{ℕ, ◌+◌, ◌*◌, ◌-◌, ◌<◌, ◌≤◌}
-use native.Mathlib.Omega.{arith}
-use native.Mathlib.Numerals.{add-one}
-use Rattle.matching.proofs.Laws.Orders.OrderLaws.{moved, Moving, moving_start, moving_more}
-use borrow.Author.Rules.{rules}
+use Prim.Native.Nat.{◌-◌}
+use Rattle.matching.proofs.Laws.Orders.OrderLaws.{Moving}
 use Rattle.matching.proofs.orders.remove_at.Given as goal
 
 abbrev pub invariant-loop-j : goal.invariant-loop-j

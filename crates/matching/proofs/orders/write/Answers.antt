@@ -1,17 +1,15 @@
 -- `write`: where the place is not there the memory stays.
 use mathlib.Core.Path.{sym, ◌∙◌}
-use borrow.Author.Tests.{not-true, not-false}
 use Rattle.matching.proofs.Laws.Orders.PlacedLaws.{place_gives, not_placed, placed}
-use borrow.Author.Rules.{rules}
 use Rattle.matching.proofs.orders.write.Goals as goal
 
 pub returns-then-not-is_place : goal.returns-then-not-is_place
-returns-then-not-is_place c = not_placed _ _ _ _ _ (sym c.is_place.ensures ∙ not-true _ c.if-not-is_place.true)
+returns-then-not-is_place c = not_placed _ _ _ _ _ (sym c.is_place.ensures ∙ c.if-not-is_place.true)
 
 pub write_at-requires : goal.write_at-requires
-write_at-requires c = place_gives _ _ _ (sym c.is_place.ensures ∙ not-false _ c.if-not-is_place.false)
+write_at-requires c = place_gives _ _ _ (sym c.is_place.ensures ∙ c.if-not-is_place.false)
 
 pub returns : goal.returns
 returns c =
     let u = c.write_at.ensures in
-    placed _ _ _ _ _ _ (sym c.is_place.ensures ∙ not-false _ c.if-not-is_place.false) u.0 u.1
+    placed _ _ _ _ _ _ (sym c.is_place.ensures ∙ c.if-not-is_place.false) u.0 u.1

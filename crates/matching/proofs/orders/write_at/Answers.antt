@@ -3,7 +3,6 @@ use native.Mathlib.Omega.{arith}
 use lib.ListN.{length-set}
 use Rattle.matching.specs.Memory.{as_order}
 use Rattle.matching.proofs.Laws.Orders.OrderLaws.{order_written, past_written}
-use borrow.Author.Rules.{rules}
 use Rattle.matching.proofs.orders.write_at.Goals as goal
 
 pub bounds-orders-at-2 : goal.bounds-orders-at-2

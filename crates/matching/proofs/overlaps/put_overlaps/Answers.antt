@@ -1,30 +1,14 @@
 -- `put_overlaps`: the fill that ends first shares nothing with what lies behind the other.
-use Prim.Native.Nat.{◌+◌, ◌-◌, ◌≤◌}
 use mathlib.Core.Path.{sym, ◌∙◌}
 use native.Mathlib.Omega.{arith}
-use Rattle.matching.specs.Inner.Places.{fills_at}
 use Rattle.matching.proofs.Laws.Orders.TakingLaws.{filling_below}
-use Rattle.matching.proofs.Laws.Rows.OverlapLaws.{
-  Rowing,
-  rowing_start,
-  fills_amounts,
-  bids_done,
-  asks_done,
-  bid_in_range,
-  ask_in_range,
-  bid_row,
-  ask_row,
-}
+use Rattle.matching.proofs.Laws.Rows.OverlapLaws.{rowing_start, fills_amounts, bids_done, asks_done, bid_in_range, ask_in_range, bid_row, ask_row}
 use borrow.Author.Tests.{leb-true, leb-false}
-use borrow.Author.Rules.{rules}
 use Rattle.matching.proofs.overlaps.put_overlaps.Goals as goal
 
 pub loop-i-init : goal.loop-i-init
 loop-i-init c =
     (omega arith, omega arith, rowing_start _ _ _ _ _ (fills_amounts _ _ _ _ _ c.requires.4) (fills_amounts _ _ _ _ _ c.requires.5))
-
-pub shape_of-rows-then-j-na : goal.shape_of-rows-then-j-na
-shape_of-rows-then-j-na c = c.loop-i.invariant.2.room
 
 pub returns-then-j-na : goal.returns-then-j-na
 returns-then-j-na c =
@@ -72,12 +56,12 @@ loop-i-preserved-then-at_most c =
     let t = c.loop-i-test.true in
     let bid = c.span_at-bid.ensures in
     let ask = c.span_at-ask.ensures in
-    let put = c.put_some_lem in (
+    let put = c.put_some-count in (
       omega (arith, t),
       l.invariant.1,
       bid_row _ _ _ _ _ _ _ _ _ _ c.requires.4 c.requires.5 _ _ _ _ _ _ _ l.invariant.2 t (omega (arith, c.if-j-na.false, l.invariant.1))
           _ _ _ _ c.overlap-quantity.result.0 _ _ ask.0 bid.0 bid.2 ask.2 (omega (arith, c.overlap-quantity.ensures, bid.1, ask.1))
-          put.auto.0 put.ensures (leb-true _ _ (sym c.at_most.ensures ∙ c.if-at_most.true)),
+          put.auto.rows put.ensures (leb-true _ _ (sym c.at_most.ensures ∙ c.if-at_most.true)),
     )
 
 pub overflow_add-j : goal.overflow_add-j
@@ -89,17 +73,14 @@ loop-i-preserved c =
     let l = c.loop-i in
     let bid = c.span_at-bid.ensures in
     let ask = c.span_at-ask.ensures in
-    let put = c.put_some_lem in
+    let put = c.put_some-count in
     let less = leb-false c.span_at-bid.result.upto.0 c.span_at-ask.result.upto.0 (sym c.at_most.ensures ∙ c.if-at_most.false) in (
       l.invariant.0,
       omega (arith, c.if-j-na.false, l.invariant.1),
       ask_row _ _ _ _ _ _ _ _ _ _ c.requires.4 c.requires.5 _ _ _ _ _ _ _ l.invariant.2 c.loop-i-test.true (omega (arith, c.if-j-na.false, l.invariant.1))
           _ _ _ _ c.overlap-quantity.result.0 _ _ ask.0 bid.0 bid.2 ask.2 (omega (arith, c.overlap-quantity.ensures, bid.1, ask.1))
-          put.auto.0 put.ensures (omega (arith, less)),
+          put.auto.rows put.ensures (omega (arith, less)),
     )
-
-pub shape_of-rows : goal.shape_of-rows
-shape_of-rows c = c.loop-i.invariant.2.room
 
 pub returns : goal.returns
 returns c =

@@ -1,21 +1,6 @@
 use Prim.Native.Nat.{◌+◌, ◌-◌, ◌≤◌}
-use mathlib.Core.Path.{sym, ◌∙◌}
-use native.Mathlib.Omega.{arith}
 use Rattle.matching.specs.Inner.Places.{fills_at}
-use Rattle.matching.proofs.Laws.Orders.TakingLaws.{filling_below}
-use Rattle.matching.proofs.Laws.Rows.OverlapLaws.{
-  Rowing,
-  rowing_start,
-  fills_amounts,
-  bids_done,
-  asks_done,
-  bid_in_range,
-  ask_in_range,
-  bid_row,
-  ask_row,
-}
-use borrow.Author.Tests.{leb-true, leb-false}
-use borrow.Author.Rules.{rules}
+use Rattle.matching.proofs.Laws.Rows.OverlapLaws.{Rowing}
 use Rattle.matching.proofs.overlaps.put_overlaps.Given as goal
 
 abbrev pub invariant-loop-i : goal.invariant-loop-i

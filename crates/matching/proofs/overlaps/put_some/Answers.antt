@@ -2,7 +2,6 @@
 use mathlib.Core.Path.{sym, ◌∙◌}
 use Rattle.matching.proofs.Laws.Rows.OverlapLaws.{wrote_none, wrote_one}
 use borrow.Author.Tests.{eqb-true, eqb-false}
-use borrow.Author.Rules.{rules}
 use Rattle.matching.proofs.overlaps.put_some.Goals as goal
 
 pub returns-then-is_zero : goal.returns-then-is_zero

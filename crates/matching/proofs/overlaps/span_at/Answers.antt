@@ -2,7 +2,6 @@
 use mathlib.Core.Path.{refl, ap}
 use native.Mathlib.Omega.{arith}
 use Rattle.matching.specs.Orders.{Order}
-use borrow.Author.Rules.{rules}
 use Rattle.matching.proofs.overlaps.span_at.Goals as goal
 
 pub returns : goal.returns

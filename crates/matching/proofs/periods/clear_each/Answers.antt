@@ -1,14 +1,8 @@
 -- `clear_each`: the prices noted first; what is cleared and what is still to be cleared is the whole.
-use Prim.Native.Nat.{◌≤◌, ◌+◌, ◌-◌}
-use mathlib.Core.Path.{◌≡◌, refl}
+use mathlib.Core.Path.{refl}
 use native.Mathlib.Omega.{arith}
-use lib.ListN.{length}
-use Rattle.measures.specs.Lists.{Each}
-use Rattle.matching.specs.Memory.{orders_in}
-use Rattle.matching.specs.Inner.Periods.{PricedBy}
-use Rattle.matching.proofs.Laws.Periods.PassingLaws.{Passing, passing_start, passing_ready, passing_more, passing_end}
+use Rattle.matching.proofs.Laws.Periods.PassingLaws.{passing_start, passing_ready, passing_more, passing_end}
 use Rattle.matching.proofs.Laws.Periods.SkipLaws.{priced_after}
-use borrow.Author.Rules.{rules}
 use Rattle.matching.proofs.periods.clear_each.Goals as goal
 
 pub note_prices-requires : goal.note_prices-requires
@@ -19,7 +13,7 @@ note_prices-requires c =
 pub loop-p-init : goal.loop-p-init
 loop-p-init c =
     let t = c.note_prices in
-    (passing_start _ _ _ _ c.requires.0, t.auto.1.1.0, t.auto.1.1.1.0, t.ensures)
+    (passing_start _ _ _ _ c.requires.0, t.auto.high, t.auto.low, t.ensures)
 
 pub clear_met-t-requires : goal.clear_met-t-requires
 clear_met-t-requires c =
@@ -34,17 +28,11 @@ pub loop-p-preserved : goal.loop-p-preserved
 loop-p-preserved c =
     let l = c.loop-p in
     let t = c.clear_met-t in (
-      passing_more _ _ _ _ c.requires.0 _ _ _ _ _ l.invariant.0 _ _ _ _ c.loop-p-test.true t.ensures t.auto.0 t.auto.1.1.1.0,
+      passing_more _ _ _ _ c.requires.0 _ _ _ _ _ l.invariant.0 _ _ _ _ c.loop-p-test.true t.ensures t.auto.orders t.auto.rows,
       l.invariant.1,
       l.invariant.2,
       priced_after _ _ _ _ _ _ _ _ _ _ _ t.ensures l.invariant.3,
     )
-
-pub shape_of-orders : goal.shape_of-orders
-shape_of-orders c = c.loop-p.invariant.0.long
-
-pub shape_of-rows : goal.shape_of-rows
-shape_of-rows c = c.loop-p.invariant.0.lent
 
 pub returns : goal.returns
 returns c =

@@ -1,13 +1,10 @@
-use Prim.Native.Nat.{◌≤◌, ◌+◌, ◌-◌}
-use mathlib.Core.Path.{◌≡◌, refl}
-use native.Mathlib.Omega.{arith}
+use Prim.Native.Nat.{◌-◌}
+use mathlib.Core.Path.{◌≡◌}
 use lib.ListN.{length}
 use Rattle.measures.specs.Lists.{Each}
 use Rattle.matching.specs.Memory.{orders_in}
 use Rattle.matching.specs.Inner.Periods.{PricedBy}
-use Rattle.matching.proofs.Laws.Periods.PassingLaws.{Passing, passing_start, passing_ready, passing_more, passing_end}
-use Rattle.matching.proofs.Laws.Periods.SkipLaws.{priced_after}
-use borrow.Author.Rules.{rules}
+use Rattle.matching.proofs.Laws.Periods.PassingLaws.{Passing}
 use Rattle.matching.proofs.periods.clear_each.Given as goal
 
 abbrev pub invariant-loop-p : goal.invariant-loop-p

@@ -5,7 +5,6 @@ use native.Mathlib.Omega.{arith}
 use Rattle.matching.specs.declared.orders.Matched.{Matched}
 use Rattle.matching.specs.Answers.{answer_of}
 use Rattle.matching.proofs.Laws.Periods.PassingLaws.{fit_part, never_unfit, step_few, stepped}
-use borrow.Author.Rules.{rules}
 use Rattle.matching.proofs.periods.clear_one.Goals as goal
 
 pub clear_fit-l-requires : goal.clear_fit-l-requires
@@ -14,16 +13,16 @@ clear_fit-l-requires c = fit_part c.args.orders.now c.args.rows.now c.args.n c.a
 
 pub overflow_add-result : goal.overflow_add-result
 overflow_add-result c =
-    let f : c.l-1.given.0.1.0 ≤ 256 = step_few _ _ _ _ _ c.requires _ _ _ c.clear_fit-l.ensures _
-    (ap (λ (a : Matched). (answer_of a).count) c.l-1.given.1) in
+    let f : c.in-Done.more ≤ 256 = step_few _ _ _ _ _ c.requires _ _ _ c.clear_fit-l.ensures _
+    (ap (λ (a : Matched). (answer_of a).count) c.in-Done.is) in
     let r = c.requires.lent in
     omega arith
 
 pub returns-in-Unfit : goal.returns-in-Unfit
 returns-in-Unfit c =
-    never_unfit _ _ _ _ _ c.requires _ _ _ c.clear_fit-l.ensures (ap (λ (a : Matched). (answer_of a).fits) c.enum_told-1.given.1)
+    never_unfit _ _ _ _ _ c.requires _ _ _ c.clear_fit-l.ensures (ap (λ (a : Matched). (answer_of a).fits) c.in-Unfit.is)
 
 pub returns-in-Done : goal.returns-in-Done
 returns-in-Done c =
-    stepped _ _ _ _ _ c.requires _ _ _ c.clear_fit-l.ensures _ _ (ap (λ (a : Matched). (answer_of a).count) c.l-1.given.1)
-    (ap (λ (a : Matched). (answer_of a).standing) c.l-1.given.1)
+    stepped _ _ _ _ _ c.requires _ _ _ c.clear_fit-l.ensures _ _ (ap (λ (a : Matched). (answer_of a).count) c.in-Done.is)
+    (ap (λ (a : Matched). (answer_of a).standing) c.in-Done.is)

@@ -1,13 +1,10 @@
 -- `note_prices`: the orders passed have their prices noted.
-use Prim.Native.Nat.{ℕ, ◌+◌, ◌*◌, ◌-◌, ◌≤◌}
+use Prim.Native.Nat.{◌+◌, ◌*◌}
 use mathlib.Core.Path.{ap, ◌∙◌}
 use native.Mathlib.Omega.{arith}
-use lib.ListN.{get_or}
 use Rattle.matching.specs.Orders.{Order}
 use Rattle.matching.specs.Prices.{high_with, low_with}
-use Rattle.matching.specs.Memory.{most_word}
-use Rattle.matching.proofs.Laws.Periods.SkipLaws.{NotedTo, noted_start, noted_more, noted_all}
-use borrow.Author.Rules.{rules}
+use Rattle.matching.proofs.Laws.Periods.SkipLaws.{noted_start, noted_more, noted_all}
 use Rattle.matching.proofs.periods.note_prices.Goals as goal
 
 pub loop-k-init : goal.loop-k-init

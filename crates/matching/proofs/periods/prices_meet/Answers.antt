@@ -5,7 +5,6 @@ use lib.ListN.{get_or}
 use Rattle.matching.specs.Memory.{most_word}
 use Rattle.matching.proofs.Laws.Periods.SkipLaws.{meet-most, meet_below}
 use borrow.Author.Tests.{eqb-true, eqb-false}
-use borrow.Author.Rules.{rules}
 use Rattle.matching.proofs.periods.prices_meet.Goals as goal
 
 pub returns-then-equals : goal.returns-then-equals

@@ -1,12 +1,10 @@
 -- `close_gaps`: each order that stands moves up to the first free place, which never lies behind it.
-use Prim.Native.Nat.{◌-◌}
 use mathlib.Core.Path.{ap, ◌∙◌}
 use native.Mathlib.Omega.{arith}
 use lib.ListN.{set}
 use Rattle.matching.specs.Orders.{Order}
 use Rattle.matching.specs.Memory.{orders_in}
-use Rattle.matching.proofs.Laws.Orders.TakingLaws.{Closing, closing_start, closing_skip, closing_stay, closing_move, closing_end}
-use borrow.Author.Rules.{rules}
+use Rattle.matching.proofs.Laws.Orders.TakingLaws.{closing_start, closing_skip, closing_stay, closing_move, closing_end}
 use Rattle.matching.proofs.rests.close_gaps.Goals as goal
 
 pub loop-k-init : goal.loop-k-init
@@ -23,7 +21,7 @@ loop-k-preserved-then-to-k c =
 pub loop-k-preserved : goal.loop-k-preserved
 loop-k-preserved c =
     let l = c.loop-k in
-    closing_move _ _ _ _ _ _ c.requires.2 c.loop-k-test.true l.invariant _ c.if-stands-k-eq0.false c.write_at.auto.0
+    closing_move _ _ _ _ _ _ c.requires.2 c.loop-k-test.true l.invariant _ c.if-stands-k-eq0.false c.write_at.auto.orders
     (c.write_at.ensures.0 ∙ ap (λ (o : Order). set (orders_in l.orders c.args.n) l.to o) c.read-o.ensures)
     c.write_at.ensures.1
 

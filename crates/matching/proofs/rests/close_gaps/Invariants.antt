@@ -1,11 +1,5 @@
 use Prim.Native.Nat.{◌-◌}
-use mathlib.Core.Path.{ap, ◌∙◌}
-use native.Mathlib.Omega.{arith}
-use lib.ListN.{set}
-use Rattle.matching.specs.Orders.{Order}
-use Rattle.matching.specs.Memory.{orders_in}
-use Rattle.matching.proofs.Laws.Orders.TakingLaws.{Closing, closing_start, closing_skip, closing_stay, closing_move, closing_end}
-use borrow.Author.Rules.{rules}
+use Rattle.matching.proofs.Laws.Orders.TakingLaws.{Closing}
 use Rattle.matching.proofs.rests.close_gaps.Given as goal
 
 abbrev pub invariant-loop-k : goal.invariant-loop-k

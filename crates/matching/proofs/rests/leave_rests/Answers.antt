@@ -3,7 +3,6 @@ use mathlib.Core.Path.{ap, ◌∙◌}
 use native.Mathlib.Omega.{arith}
 use Rattle.matching.specs.Orders.{rising}
 use Rattle.matching.proofs.Laws.Orders.TakingLaws.{rests_left}
-use borrow.Author.Rules.{rules}
 use Rattle.matching.proofs.rests.leave_rests.Goals as goal
 
 pub take_fills-requires-2 : goal.take_fills-requires-2
@@ -11,9 +10,8 @@ take_fills-requires-2 c =
     (omega arith, c.requires.1, omega arith, ap rising c.take_fills.ensures.numbers ∙ c.requires.2, c.requires.4)
 
 pub returns : goal.returns
-returns c =
-    (
-      c.close_gaps.ensures.0 ∙ rests_left _ _ _ _ _ _ _ _ _ _ _ _ c.requires.1 c.requires.4 c.take_fills.ensures
-          c.take_fills-2.ensures,
-      c.close_gaps.ensures.1 ∙ c.take_fills-2.ensures.past ∙ c.take_fills.ensures.past,
-    )
+returns c = (
+  c.close_gaps.ensures.0 ∙ rests_left _ _ _ _ _ _ _ _ _ _ _ _ c.requires.1 c.requires.4 c.take_fills.ensures
+      c.take_fills-2.ensures,
+  c.close_gaps.ensures.1 ∙ c.take_fills-2.ensures.past ∙ c.take_fills.ensures.past,
+)

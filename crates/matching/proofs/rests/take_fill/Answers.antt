@@ -3,7 +3,6 @@ use mathlib.Core.Path.{sym, ap, ◌∙◌}
 use Rattle.matching.specs.Orders.{Order}
 use Rattle.matching.proofs.Laws.Orders.TakingLaws.{taken_whole, taken-part}
 use borrow.Author.Tests.{leb-true, leb-false}
-use borrow.Author.Rules.{rules}
 use Rattle.matching.proofs.rests.take_fill.Goals as goal
 
 pub returns-then-at_most : goal.returns-then-at_most

@@ -1,10 +1,8 @@
 -- `take_fills`: numbers stay, so each fill finds its order at its place.
-use Prim.Native.Nat.{◌-◌}
 use mathlib.Core.Path.{ap, ◌∙◌}
 use native.Mathlib.Omega.{arith}
 use Rattle.matching.specs.Orders.{rising}
-use Rattle.matching.proofs.Laws.Orders.TakingLaws.{Taking, taking_start, taking-more, taking_end, filling_below}
-use borrow.Author.Rules.{rules}
+use Rattle.matching.proofs.Laws.Orders.TakingLaws.{taking_start, taking-more, taking_end, filling_below}
 use Rattle.matching.proofs.rests.take_fills.Goals as goal
 
 pub loop-i-init : goal.loop-i-init
@@ -20,7 +18,7 @@ take_fill-requires c =
 
 pub loop-i-preserved : goal.loop-i-preserved
 loop-i-preserved c =
-    taking-more _ _ _ _ _ _ _ _ _ c.requires.4 c.loop-i.invariant _ _ c.loop-i-test.true c.take_fill.auto.0 c.take_fill.auto.1.1.0
+    taking-more _ _ _ _ _ _ _ _ _ c.requires.4 c.loop-i.invariant _ _ c.loop-i-test.true c.take_fill.auto.orders c.take_fill.auto.stands
     c.take_fill.ensures
 
 pub returns : goal.returns

@@ -1,9 +1,5 @@
 use Prim.Native.Nat.{◌-◌}
-use mathlib.Core.Path.{ap, ◌∙◌}
-use native.Mathlib.Omega.{arith}
-use Rattle.matching.specs.Orders.{rising}
-use Rattle.matching.proofs.Laws.Orders.TakingLaws.{Taking, taking_start, taking-more, taking_end, filling_below}
-use borrow.Author.Rules.{rules}
+use Rattle.matching.proofs.Laws.Orders.TakingLaws.{Taking}
 use Rattle.matching.proofs.rests.take_fills.Given as goal
 
 abbrev pub invariant-loop-i : goal.invariant-loop-i

@@ -2,7 +2,6 @@
 use mathlib.Core.Path.{sym, ◌∙◌}
 use native.Mathlib.Omega.{arith}
 use Rattle.matching.proofs.Laws.Rolling.CandidateLaws.{other_period, buy_no_sale, buy_sale, no_direction, sale_no_buy, sale_buy}
-use borrow.Author.Rules.{rules}
 use Rattle.matching.proofs.rolling.can_meet.Goals as goal
 
 pub returns-then-o-incoming : goal.returns-then-o-incoming

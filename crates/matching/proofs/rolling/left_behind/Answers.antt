@@ -1,9 +1,6 @@
 -- `left_behind`: what is left before place k, less what crosses from there on, is what is left.
-use Prim.Native.Nat.{◌-◌}
 use native.Mathlib.Omega.{arith}
-use Rattle.matching.specs.Memory.{as_order}
-use Rattle.matching.proofs.Laws.Rolling.LeftOverLaws.{Leaving, leaving_starts, leaving-more, leaving_ends}
-use borrow.Author.Rules.{rules}
+use Rattle.matching.proofs.Laws.Rolling.LeftOverLaws.{leaving_starts, leaving-more, leaving_ends}
 use Rattle.matching.proofs.rolling.left_behind.Goals as goal
 
 pub loop-k-init : goal.loop-k-init

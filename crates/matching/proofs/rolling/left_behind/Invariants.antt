@@ -1,8 +1,6 @@
 use Prim.Native.Nat.{◌-◌}
-use native.Mathlib.Omega.{arith}
 use Rattle.matching.specs.Memory.{as_order}
-use Rattle.matching.proofs.Laws.Rolling.LeftOverLaws.{Leaving, leaving_starts, leaving-more, leaving_ends}
-use borrow.Author.Rules.{rules}
+use Rattle.matching.proofs.Laws.Rolling.LeftOverLaws.{Leaving}
 use Rattle.matching.proofs.rolling.left_behind.Given as goal
 
 abbrev pub invariant-loop-k : goal.invariant-loop-k

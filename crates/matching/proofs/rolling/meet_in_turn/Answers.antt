@@ -4,12 +4,11 @@ use native.Mathlib.Omega.{arith}
 use lib.ListN.{get_or}
 use Rattle.matching.specs.Memory.{most_word}
 use Rattle.matching.proofs.Laws.Rolling.TurnLaws.{runs_met}
-use borrow.Author.Rules.{rules}
 use Rattle.matching.proofs.rolling.meet_in_turn.Goals as goal
 
 pub meet_runs-requires : goal.meet_runs-requires
 meet_runs-requires c =
-    let p = c.pre in
+    let p = c.requires in
     let words : (i : ℕ) → get_or c.args.orders.now i 0 ≤ most_word =
     λ i. let w = c.shared_slice_known-1.given i in omega arith in
     let side = c.side_met-side.ensures in

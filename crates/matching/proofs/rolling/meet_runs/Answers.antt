@@ -1,15 +1,13 @@
 -- `meet_runs`: the matches so far, then those still to come, are the whole; each turn makes the first of those to come.
-use Prim.Native.Nat.{◌-◌, ◌≤◌, ◌<◌}
 use mathlib.Core.Path.{◌≡◌, refl, sym, ◌∙◌}
 use mathlib.Core.List.{map}
 use native.Mathlib.Omega.{arith}
 use borrow.Author.Tests.{eqb-true, eqb-false}
-use lib.ListN.{length, length-set}
+use lib.ListN.{length-set}
 use Rattle.matching.specs.Memory.{as_order}
 use Rattle.matching.specs.Rolling.{match_row}
-use Rattle.matching.proofs.Laws.Laying.RunLaws.{Found, found_start, found_next, found_whole}
-use Rattle.matching.proofs.Laws.Rolling.TurnLaws.{MetSoFar, meeting_start, meeting_room, meeting_more, ends_spent, ends_alone, ends_full}
-use borrow.Author.Rules.{rules}
+use Rattle.matching.proofs.Laws.Laying.RunLaws.{found_start, found_next, found_whole}
+use Rattle.matching.proofs.Laws.Rolling.TurnLaws.{meeting_start, meeting_room, meeting_more, ends_spent, ends_alone, ends_full}
 use Rattle.matching.proofs.rolling.meet_runs.Goals as goal
 
 pub meeting-init : goal.meeting-init
@@ -93,10 +91,10 @@ meeting-preserved c =
     (omega (arith, c.loop-j-test.false)) l.invariant.1 in
     let t = c.take_first-p.ensures in
     let y = c.match_at-x.ensures in (
-      omega (arith, c.take_first-p.auto.1.0, i.0),
+      omega (arith, c.take_first-p.auto.heads, i.0),
       simp length-set i.1,
       simp length-set i.2,
-      omega (arith, c.match_at-x.auto.1.1.1.1.0, i.3),
+      omega (arith, c.match_at-x.auto.rows, i.3),
       omega (arith, eqb-false c.minus-left.result.0 0 (sym c.is_zero.ensures ∙ c.if-is_zero.false)),
       rw c.minus-left.ensures
           (meeting_more _ _ _ _ _ _ _ _ _ _ _ _ _ _ _ g l.best.run _ _ f c.if-best-runs.false c.requires.5

@@ -1,14 +1,9 @@
 use Prim.Native.Nat.{◌-◌, ◌≤◌, ◌<◌}
-use mathlib.Core.Path.{◌≡◌, refl, sym, ◌∙◌}
-use mathlib.Core.List.{map}
-use native.Mathlib.Omega.{arith}
-use borrow.Author.Tests.{eqb-true, eqb-false}
-use lib.ListN.{length, length-set}
+use mathlib.Core.Path.{◌≡◌}
+use lib.ListN.{length}
 use Rattle.matching.specs.Memory.{as_order}
-use Rattle.matching.specs.Rolling.{match_row}
-use Rattle.matching.proofs.Laws.Laying.RunLaws.{Found, found_start, found_next, found_whole}
-use Rattle.matching.proofs.Laws.Rolling.TurnLaws.{MetSoFar, meeting_start, meeting_room, meeting_more, ends_spent, ends_alone, ends_full}
-use borrow.Author.Rules.{rules}
+use Rattle.matching.proofs.Laws.Laying.RunLaws.{Found}
+use Rattle.matching.proofs.Laws.Rolling.TurnLaws.{MetSoFar}
 use Rattle.matching.proofs.rolling.meet_runs.Given as goal
 
 abbrev pub invariant-loop-j : goal.invariant-loop-j
