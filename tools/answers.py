@@ -243,7 +243,7 @@ def turn(f, path):
         txt = "\n".join(b)
         t = re.search(r"(\((\S+) : )?tie\.([\w'-]+)([^)→]*?)(\)| →)", txt)
         if t:
-            place = t[3]
+            place = {p.replace('_', '-'): p for p in f.renamed}.get(t[3].replace('_', '-'), t[3])
             if place not in f.renamed:
                 f.left(f"a lemma at {place}")
                 locals_.append(txt)

@@ -1,5 +1,5 @@
 -- "Close the day: all open declarations lapse, held becomes net, numbers restart, the call phase begins."
-use Rattle.std.specs.Prelude.{ℕ, List, [], ◌∷◌, map}
+use Rattle.std.specs.Prelude.{[], ◌∷◌, map}
 use Rattle.book.specs.Book.{Figures, EnrolledUnit, Book, call_phase, net}
 use Rattle.book.specs.Refusals.{Outcome, first_refusal, decided, accepted, unsound}
 

@@ -1,9 +1,9 @@
 -- What each call promises of the lent memory: one record for all eight.
-use Rattle.std.specs.Prelude.{◌≡◌, ℕ, ◌+◌, ◌*◌, Bool, true, false, cond, ◌&&◌, List, [], ◌∷◌, ◌++◌, length, drop, ◌==◌, ◌≢◌}
+use Rattle.std.specs.Prelude.{◌≡◌, ℕ, Bool, true, false, cond, ◌&&◌, List, [], ◌++◌, length, drop, ◌==◌, ◌≢◌}
 use Rattle.matching.specs.Memory.{written}
 use Rattle.book.specs.declared.Answer.{Answer}
 use Rattle.book.specs.declared.Answer.TheVariants.{Done, Refused}
-use Rattle.book.specs.Book.{Rules, Book}
+use Rattle.book.specs.Book.{Rules}
 use Rattle.book.specs.Sound.{sound}
 use Rattle.book.specs.Opening.{fresh, opening_refusal}
 use Rattle.book.specs.Curve.{Drawn, curve}

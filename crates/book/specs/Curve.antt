@@ -1,6 +1,6 @@
 -- "Curve (001 4, 8.1), a reading call: a unit and a day from 0; 48 numbers."
-use Rattle.std.specs.Prelude.{ℕ, zero, suc, ◌+◌, ◌-◌, ◌*◌, ◌/◌, cond, List, [], ◌∷◌, ◌==◌}
-use Rattle.book.specs.Book.{Figures, Book, figures_of, net}
+use Rattle.std.specs.Prelude.{ℕ, zero, suc, ◌-◌, ◌*◌, ◌/◌, cond, List, [], ◌∷◌, ◌==◌}
+use Rattle.book.specs.Book.{Book, figures_of, net}
 use Rattle.book.specs.Refusals.{Check, first_refusal, unsound, unknown_unit, few_points, bad_day}
 
 abbrev pub curve_checks : Book → ℕ → ℕ → ℕ → List Check

@@ -1,6 +1,6 @@
 -- "Enrol adds a unit."
 use Rattle.std.specs.Prelude.{ℕ, List, [], ◌∷◌, ◌++◌, length}
-use Rattle.book.specs.Book.{EnrolledUnit, Book, with_units, no_trades}
+use Rattle.book.specs.Book.{Book, with_units, no_trades}
 use Rattle.book.specs.Refusals.{Outcome, Check, first_refusal, decided, accepted, unsound, bad_kind, bad_size, units_full}
 
 abbrev pub enrol_checks : Book → ℕ → ℕ → ℕ → List Check

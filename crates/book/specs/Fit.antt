@@ -4,7 +4,7 @@ use Rattle.measures.specs.Lists.{holds, sum_of, sum, all}
 use Rattle.limits.specs.Units.{periods}
 use Rattle.limits.specs.Limits.{hour_of, hour_limit, term_limit, volume_limit}
 use Rattle.matching.specs.Orders.{Order as OpenOrder}
-use Rattle.book.specs.Book.{Figures, EnrolledUnit, OpenOffer, Book, unit_of, figures_of}
+use Rattle.book.specs.Book.{OpenOffer, Book, unit_of, figures_of}
 use Rattle.book.specs.Trades.{raises, lowers}
 
 -- what a unit's open orders of a period come to, of those in a direction that f picks

@@ -1,7 +1,7 @@
 -- "Offer (001 8.1, 8.3): a unit, a partner or 0, a price, an amount for each period. With partner 0 it is a listing;
 -- generators sell, loads buy. With a partner it is bilateral: a generator offers to that load."
 use Rattle.std.specs.Prelude.{ℕ, List, [], ◌∷◌, ◌++◌, slice_index}
-use Rattle.book.specs.Book.{OpenOffer, Book, with_offers, next_number, numbered}
+use Rattle.book.specs.Book.{Book, with_offers, next_number, numbered}
 use Rattle.book.specs.Fit.{Declaration}
 use Rattle.book.specs.Refusals.{
   Outcome,

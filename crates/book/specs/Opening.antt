@@ -1,5 +1,5 @@
 -- Opening a book (paper 01, "Units of measure and the book").
-use Rattle.std.specs.Prelude.{ℕ, ◌+◌, ◌*◌, ◌≤◌, Bool, cond, ◌&&◌, List, [], ◌∷◌, nat_lt}
+use Rattle.std.specs.Prelude.{ℕ, ◌+◌, ◌*◌, ◌≤◌, cond, ◌&&◌, [], ◌∷◌, nat_lt}
 use Rattle.limits.specs.Units.{days_in}
 use Rattle.book.specs.Book.{Rules, Book, call_phase}
 use Rattle.book.specs.Refusals.{Check, check, first_refusal, bad_opening}

@@ -1,5 +1,5 @@
 -- When a book is sound (paper 01, "Limits", last paragraph).
-use Rattle.std.specs.Prelude.{ℕ, ◌+◌, Bool, true, cond, not, ◌&&◌, ◌||◌, leb, List, [], ◌∷◌, map, length, ◌==◌, nat_le, nat_lt}
+use Rattle.std.specs.Prelude.{ℕ, ◌+◌, Bool, not, ◌&&◌, ◌||◌, leb, List, [], ◌∷◌, map, length, ◌==◌, nat_le, nat_lt}
 use Rattle.measures.specs.Ranges.{between, most_energy, most_price}
 use Rattle.measures.specs.Lists.{holds, every, all}
 use Rattle.measures.specs.Sharing.{total}

@@ -1,5 +1,6 @@
 // The book of a term: opening, the eight calls and the curve (paper 01).
 #![tactic(auto)]
+
 pub mod calls;
 mod cancelling;
 mod closing;

@@ -1,6 +1,6 @@
 -- What the functions that check all units, day by day, and those that check that orders may stand together promise one
 -- another. No sentence of the paper is rendered here: what they come to is `units_whole` and `pairs_fit` (Readable.antt).
-use Rattle.std.specs.Prelude.{◌≡◌, ℕ, ◌+◌, ◌-◌, ◌*◌, ◌/◌, ◌<◌, ◌≤◌, Bool, true, cond, not, List, [], ◌∷◌, length, ◌≢◌, slice_index}
+use Rattle.std.specs.Prelude.{◌≡◌, ℕ, ◌+◌, ◌-◌, ◌*◌, ◌/◌, ◌<◌, ◌≤◌, Bool, true, cond, List, [], ◌∷◌, length, ◌≢◌, slice_index}
 use Rattle.measures.specs.Lists.{holds, sum, all}
 use Rattle.limits.specs.Units.{periods, generator}
 use Rattle.matching.specs.Memory.{order_at}

@@ -13,7 +13,7 @@ use Rattle.book.specs.Trades.{rows_booked}
 use Rattle.book.specs.Book.{Book, rolling_phase, offer_of, with_offers, with_orders, in_phase, next_number}
 use Rattle.book.specs.Sound.{sound}
 use Rattle.book.specs.Layout.{DAYS, PHASE, GIVEN, UNITS, LAYOUT, layout_number, book_words, word, decode, laid_out, Aside}
-use Rattle.book.specs.Refusals.{Outcome, Check, check, first_refusal, decided, accepted, unsound}
+use Rattle.book.specs.Refusals.{Outcome, Check, first_refusal, decided, accepted, unsound}
 use Rattle.book.specs.Enrol.{enrolment, enrol_refusal, enrol_checks, enrolled}
 use Rattle.book.specs.Offer.{offering, offer_refusal, offer_checks, offered}
 use Rattle.book.specs.Take.{taking, take_refusal, take_checks, taken_parts, take_rows, offers_less}

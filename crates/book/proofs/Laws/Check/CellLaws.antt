@@ -1,5 +1,5 @@
 -- One cell: words joined, and differences and sums that wrap.
-use Rattle.std.proofs.Common.{◌≡◌, ℕ, ◌+◌, ◌-◌, ◌%◌, ◌<◌, ◌≤◌, arith}
+use Rattle.std.proofs.Common.{◌≡◌, ℕ, ◌+◌, ◌%◌, ◌<◌, ◌≤◌, arith}
 use lib.Bits.{bit_or, or_add_and, and_le_l, and_le_r, or_lt}
 use Rattle.book.specs.Inner.Pass.{Same, Low, Joined, CellFits}
 

@@ -1,9 +1,9 @@
 -- The pass over a unit's day.
-use Rattle.std.proofs.Common.{◌≡◌, ℕ, ◌+◌, ◌-◌, ◌%◌, ◌<◌, ◌≤◌, List, get_or, refl, arith}
+use Rattle.std.proofs.Common.{◌≡◌, ℕ, ◌+◌, ◌%◌, ◌<◌, ◌≤◌, List, get_or, refl, arith}
 use Rattle.book.specs.Layout.{RAISED, LOWERED, MARK, VOLUME, word}
 use Rattle.book.specs.Inner.Pass.{Same, Low, Joined, CellFits, Pass, day_cell}
 use Rattle.book.specs.Inner.Fitting.{Below}
-use Rattle.book.proofs.Laws.Check.PassLaws.{most, pass_more}
+use Rattle.book.proofs.Laws.Check.PassLaws.{pass_more}
 
 module _ (m : List ℕ) (at : ℕ) (limits : List ℕ) (h bad marks whole volume : ℕ) where
   -- one hour more, with nothing open

@@ -1,12 +1,11 @@
 -- What the fit of a unit says of a plain book: with nothing declared, and on a unit that fits.
-use Rattle.std.proofs.Common.{◌≡◌, ℕ, zero, suc, ◌+◌, ◌<◌, ◌≤◌, Bool, true, false, not, ◌||◌, eqb, List, [], ◌∷◌, get_or, replicate, sym, refl, ◌∙◌, arith, eqb-true}
-use Rattle.measures.specs.Lists.{holds, all}
+use Rattle.std.proofs.Common.{◌≡◌, ℕ, zero, suc, ◌+◌, ◌<◌, Bool, true, false, ◌||◌, eqb, [], ◌∷◌, get_or, replicate, refl, ◌∙◌, arith, eqb-true}
 use Rattle.measures.proofs.ListLaws.{all_true, all_at, all_ext, sum_ext}
 use Rattle.limits.specs.Units.{periods}
 use Rattle.book.specs.Book.{Book, figures_of}
 use Rattle.book.specs.Fit.{Declaration, nothing, open_raising, open_lowering, raising_today, hour_fits, hours_fit, term_fits, volume_fits, unit_fits}
-use Rattle.book.specs.Refusals.{check, first_refusal, hour_misfit, term_misfit, volume_misfit}
-use Rattle.book.specs.Inner.Readable.{declared, misfit_of}
+use Rattle.book.specs.Refusals.{first_refusal, hour_misfit, term_misfit, volume_misfit}
+use Rattle.book.specs.Inner.Readable.{misfit_of}
 use Rattle.book.specs.Inner.Fitting.{Below}
 
 -- a list of zeros

@@ -1,13 +1,13 @@
 -- Laws of open numbers in memory.
-use Rattle.std.proofs.Common.{◌≡◌, ℕ, zero, suc, ◌+◌, ◌-◌, ◌*◌, ◌<◌, ◌≤◌, Bool, true, false, not, ◌&&◌, eqb, List, [], ◌∷◌, map, length, get_or, sym, refl, ap, ◌∙◌, arith}
+use Rattle.std.proofs.Common.{◌≡◌, ℕ, suc, ◌+◌, ◌-◌, ◌*◌, ◌<◌, ◌≤◌, Bool, true, false, not, eqb, List, length, get_or, sym, refl, ap, ◌∙◌, arith}
 use native.Mathlib.Decide.{dec_lt}
 use lib.ListN.{length-map, get_or-map}
-use Rattle.measures.specs.Lists.{holds, every, all}
+use Rattle.measures.specs.Lists.{all}
 use Rattle.measures.proofs.ListLaws.{table_at, every-table, all_ext, all_true, holds-all, false_by, not_both}
 use Rattle.matching.specs.Orders.{Order as OpenOrder, rising, numbers}
 use Rattle.matching.specs.Memory.{order_at, orders_in}
 use Rattle.matching.proofs.Laws.Orders.FitLaws.{rising_by, rising_fails}
-use Rattle.book.specs.Book.{OpenOffer, Book, no_offer}
+use Rattle.book.specs.Book.{OpenOffer, no_offer}
 use Rattle.book.specs.Sound.{numbers_differ}
 use Rattle.book.specs.Layout.{DAYS, OFFERS, ORDERS, offer_place, order_place, word, offer_at, orders_part, decode}
 use Rattle.book.specs.Inner.Readable.{offer_numbers, number_free, numbers_free}

@@ -1,26 +1,11 @@
 -- Laws of orders that stand together.
-use Rattle.std.proofs.Common.{◌≡◌, ℕ, zero, suc, ◌+◌, ◌-◌, ◌*◌, ◌<◌, ◌≤◌, Bool, true, false, not, ◌&&◌, ◌||◌, eqb, ltb, List, [], ◌∷◌, length, get_or, sym, refl, ap, ◌∙◌, arith, ltb-true, lt-ltb, eq-eqb, ne_eqb, eqb-true}
+use Rattle.std.proofs.Common.{◌≡◌, ℕ, ◌<◌, Bool, true, false, not, ◌&&◌, ◌||◌, eqb, ltb, List, length, get_or, sym, refl, arith, ltb-true, lt-ltb, eq-eqb, ne_eqb, eqb-true}
 use native.Mathlib.Decide.{ℕ_discrete, dec_lt}
 use Rattle.measures.specs.Lists.{every, all}
-use Rattle.measures.proofs.ListLaws.{
-  and_true,
-  and_left,
-  and_right,
-  or_left,
-  or_right,
-  or_other,
-  not_both,
-  not_fails,
-  false_by,
-  all_at,
-  all_by,
-  every_at,
-  every_by,
-}
+use Rattle.measures.proofs.ListLaws.{and_true, and_left, and_right, or_right, not_both, false_by, all_at, all_by, every_at, every_by}
 use Rattle.matching.specs.Orders.{Order as OpenOrder, buys, sells}
 use Rattle.matching.specs.Memory.{order_at, orders_in, no_order}
 use Rattle.matching.proofs.Laws.Orders.OrderLaws.{orders_length, orders_at_lem}
-use Rattle.book.specs.Book.{rolling_phase}
 use Rattle.book.specs.Sound.{one_direction, apart, each_two}
 use Rattle.book.specs.Inner.Readable.{pair_fits, pairs_fit}
 

@@ -1,5 +1,5 @@
 -- What the pass over all periods of a unit says of its fit.
-use Rattle.std.proofs.Common.{◌≡◌, ℕ, ◌+◌, ◌<◌, ◌≤◌, true, false, not, leb, List, sym, arith, le-leb, leb-true}
+use Rattle.std.proofs.Common.{◌≡◌, ℕ, ◌+◌, ◌<◌, ◌≤◌, true, false, leb, List, sym, arith, le-leb, leb-true}
 use borrow.Author.Tests.{lt-leb}
 use Rattle.measures.specs.Lists.{sum, all}
 use Rattle.measures.proofs.ListLaws.{false_by, not_both, and_true, and_left, and_right, all_true, holds-all, all_at, all_by, sum_at}

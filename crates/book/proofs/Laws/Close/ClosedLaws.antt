@@ -1,11 +1,10 @@
 -- The book that a closed day leaves.
-use Rattle.std.proofs.Common.{◌≡◌, ℕ, ◌+◌, ◌*◌, ◌/◌, ◌%◌, ◌<◌, ◌≤◌, true, List, [], map, length, set, sym, refl, ap, ◌∙◌, arith, length-set, get_or-set_other, get_or-set_same}
+use Rattle.std.proofs.Common.{◌≡◌, ℕ, ◌+◌, ◌*◌, ◌/◌, ◌%◌, ◌<◌, ◌≤◌, true, List, map, length, set, sym, ap, ◌∙◌, arith, length-set, get_or-set_other, get_or-set_same}
 use Rattle.measures.specs.Lists.{table}
 use Rattle.measures.proofs.ListLaws.{table_ext, map-table, table_none}
 use Rattle.limits.specs.Units.{periods, most_capacity}
-use Rattle.matching.specs.Orders.{Order as OpenOrder}
 use Rattle.matching.specs.Memory.{orders_in, order_at}
-use Rattle.book.specs.Book.{Figures, EnrolledUnit, OpenOffer, Book, no_figures, no_unit, call_phase}
+use Rattle.book.specs.Book.{Figures, EnrolledUnit, no_figures, no_unit}
 use Rattle.book.specs.Close.{day_over, unit_day_over, day_closed}
 use Rattle.book.specs.Layout.{
   DAYS,

@@ -1,5 +1,5 @@
 -- Runs of words that are written one after the other.
-use Rattle.std.proofs.Common.{◌≡◌, ℕ, ◌+◌, ◌-◌, ◌*◌, ◌<◌, ◌≤◌, List, length, set, refl, ◌∙◌, arith, length-set, get_or-set_other, get_or-set_same}
+use Rattle.std.proofs.Common.{◌≡◌, ℕ, ◌+◌, ◌-◌, ◌<◌, ◌≤◌, List, length, set, refl, ◌∙◌, arith, length-set, get_or-set_other, get_or-set_same}
 use native.Mathlib.Decide.{ℕ_discrete, dec_lt}
 use Rattle.book.specs.Inner.Runs.{Emptied, Shifted, UnitEmptied}
 use Rattle.book.specs.Layout.{block_words, day_place, word}

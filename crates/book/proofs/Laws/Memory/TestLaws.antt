@@ -1,6 +1,6 @@
 -- What a test of an energy or a price says of the numbers.
-use Rattle.std.proofs.Common.{◌≡◌, ℕ, ◌<◌, ◌≤◌, Bool, true, false, not, eqb, ltb, leb, sym, refl, ◌∙◌, arith, ltb-false, ltb-true, eqb-true, leb-false, leb-true}
-use borrow.Author.Tests.{eqb-false, not-true, not-false}
+use Rattle.std.proofs.Common.{◌≡◌, ℕ, ◌<◌, ◌≤◌, Bool, true, false, eqb, ltb, leb, sym, refl, ◌∙◌, arith, ltb-false, ltb-true, eqb-true, leb-false, leb-true}
+use borrow.Author.Tests.{eqb-false}
 
 module _ {a b : ℕ} {r : Bool} where
   pub is_below : r ≡ ltb a b → r ≡ true → a < b
@@ -9,11 +9,11 @@ module _ {a b : ℕ} {r : Bool} where
   pub not_below_lem : r ≡ ltb a b → r ≡ false → b ≤ a
   not_below_lem e t = ltb-false a b (sym e ∙ t)
 
-  pub within_most : r ≡ leb a b → not r ≡ false → a ≤ b
-  within_most e t = leb-true a b (sym e ∙ not-false r t)
+  pub within_most : r ≡ leb a b → r ≡ true → a ≤ b
+  within_most e t = leb-true a b (sym e ∙ t)
 
-  pub over_most : r ≡ leb a b → not r ≡ true → b < a
-  over_most e t = leb-false a b (sym e ∙ not-true r t)
+  pub over_most : r ≡ leb a b → r ≡ false → b < a
+  over_most e t = leb-false a b (sym e ∙ t)
 
 module _ {a : ℕ} {r : Bool} where
   pub is_none : r ≡ eqb a 0 → r ≡ true → a ≡ 0
@@ -27,7 +27,7 @@ module _ {a b : ℕ} {r : Bool} where
   pub deny_below : b ≤ a → r ≡ ltb a b → r ≡ true → ⊥
   deny_below h e t = let l : a < b = is_below e t in omega arith
 
-  pub deny_over : a ≤ b → r ≡ leb a b → not r ≡ true → ⊥
+  pub deny_over : a ≤ b → r ≡ leb a b → r ≡ false → ⊥
   deny_over h e t = let l : b < a = over_most e t in omega arith
 
 module _ {a : ℕ} {r : Bool} where

@@ -1,15 +1,14 @@
 -- Laws of opening, by cases, and of the head of a fresh book.
-use Rattle.std.proofs.Common.{◌≡◌, ℕ, ◌+◌, ◌*◌, ◌<◌, ◌≤◌, Bool, true, false, cond, not, ◌&&◌, ltb, leb, List, [], ◌∷◌, length, get_or, drop, set, sym, refl, ap, ◌∙◌, arith, drop-drop, drop-set-lt, ltb-false, le-ltb, lt-ltb, ne_eqb, le-leb}
+use Rattle.std.proofs.Common.{◌≡◌, ℕ, ◌*◌, ◌<◌, ◌≤◌, true, ◌&&◌, List, [], ◌∷◌, length, drop, set, sym, refl, ap, ◌∙◌, arith, drop-drop, drop-set-lt, ltb-false, le-ltb, lt-ltb, ne_eqb, le-leb}
 use borrow.Author.Tests.{lt-leb, not-false}
 use Rattle.measures.specs.Ranges.{most_price}
-use Rattle.measures.specs.Lists.{table, table_from}
+use Rattle.measures.specs.Lists.{table_from}
 use Rattle.measures.proofs.RangeLaws.{In, inside, outside}
 use Rattle.limits.specs.Units.{most_days, days_in}
 use Rattle.measures.proofs.ListLaws.{and_left}
 use Rattle.matching.specs.Memory.{orders_in}
-use Rattle.book.specs.declared.Answer.{Answer}
 use Rattle.book.specs.declared.Answer.TheVariants.{Done, Refused}
-use Rattle.book.specs.Book.{rules_of, Book}
+use Rattle.book.specs.Book.{rules_of}
 use Rattle.book.specs.Sound.{prices_in}
 use Rattle.book.specs.Refusals.{first_refusal, bad_opening}
 use Rattle.book.proofs.Laws.Answer.RefusalLaws.{none_applies}
@@ -31,7 +30,7 @@ use Rattle.book.specs.Layout.{
   word,
   decode,
 }
-use Rattle.book.specs.Contract.{Told, told_by, Opened}
+use Rattle.book.specs.Contract.{Opened}
 
 -- the published length by cases
 pub words_none : (days : ℕ) → (In 1 most_days days → ⊥) → 0 ≡ words_for days

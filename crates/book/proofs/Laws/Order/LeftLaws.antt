@@ -1,5 +1,5 @@
 -- Orders that do not cross or go one way, and rows between two units.
-use Rattle.std.proofs.Common.{◌≡◌, ℕ, ◌-◌, ◌<◌, Bool, true, false, not, ◌&&◌, eqb, ltb, List, refl, ap, lt-ltb, eq-eqb, eqb-true}
+use Rattle.std.proofs.Common.{◌≡◌, ℕ, ◌<◌, Bool, true, false, not, ◌&&◌, eqb, ltb, List, refl, ap, lt-ltb, eq-eqb, eqb-true}
 use Rattle.measures.specs.Lists.{Each, every}
 use Rattle.measures.proofs.RangeLaws.{In}
 use Rattle.measures.proofs.ListLaws.{or_left, or_right, or_other, and_true, and_left, and_right, not_fails}

@@ -2,7 +2,7 @@
 use Rattle.std.proofs.Common.{◌≡◌, ℕ, zero, suc, ◌+◌, ◌-◌, ◌*◌, ◌<◌, ◌≤◌, Bool, true, false, cond, not, ◌&&◌, ◌||◌, eqb, ltb, leb, List, [], ◌∷◌, ◌++◌, length, get_or, sym, refl, ap, ◌∙◌, arith, le-ltb, lt-ltb, eq-eqb, ne_eqb, le-leb}
 use borrow.Author.Tests.{lt-leb}
 use Rattle.measures.specs.Ranges.{most_energy}
-use Rattle.measures.specs.Lists.{keep, sum_of, sum, all}
+use Rattle.measures.specs.Lists.{keep, sum_of, sum}
 use Rattle.measures.proofs.RangeLaws.{In, inside, outside}
 use Rattle.measures.proofs.ListLaws.{cond-true, cond-false, or_left, or_right, sum_of-table, sum_ext, sum_more}
 use Rattle.matching.specs.Orders.{Order as OpenOrder, sells}

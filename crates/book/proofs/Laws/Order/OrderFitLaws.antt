@@ -8,7 +8,7 @@ use Rattle.measures.proofs.ListLaws.{both_ways, all_true, all_at, all_by, every_
 use Rattle.limits.specs.Units.{generator}
 use Rattle.matching.proofs.Laws.Lists.EachLaws.{each_at}
 use Rattle.book.specs.Book.{EnrolledUnit, no_unit, unit_of}
-use Rattle.book.specs.Trades.{raises, lowers}
+use Rattle.book.specs.Trades.{raises}
 use Rattle.book.specs.Fit.{unit_fits}
 use Rattle.book.specs.Sound.{sound, unit_in}
 use Rattle.book.specs.Refusals.{first_refusal}

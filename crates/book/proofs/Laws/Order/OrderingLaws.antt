@@ -12,26 +12,7 @@ use Rattle.book.specs.Book.{Book, call_phase, most_orders, most_numbers, unit_of
 use Rattle.book.specs.Trades.{raises, lowers}
 use Rattle.book.specs.Fit.{Declaration, nothing}
 use Rattle.book.specs.Sound.{one_direction, sound}
-use Rattle.book.specs.Refusals.{
-  marked_against,
-  accepted,
-  orders_of_unit,
-  unsound,
-  unknown_unit,
-  few_rows,
-  bad_price,
-  bad_quantity,
-  bad_period,
-  bad_direction,
-  other_direction,
-  two_open,
-  needs_place,
-  orders_full,
-  numbers_used,
-  hour_misfit,
-  term_misfit,
-  volume_misfit,
-}
+use Rattle.book.specs.Refusals.{marked_against, orders_of_unit, unsound, unknown_unit, few_rows, bad_price, bad_quantity, bad_period, bad_direction, other_direction, two_open, needs_place, orders_full, numbers_used, hour_misfit, term_misfit, volume_misfit}
 use Rattle.book.specs.Order.{order_declares, order_refusal, new_order, ordering}
 use Rattle.matching.proofs.Laws.Lists.RemainLaws.{each_holds}
 use Rattle.book.proofs.Laws.Sound.FitLaws.{Fits, fits_with, fits_after}

@@ -4,8 +4,7 @@ use native.Mathlib.Decide.{ℕ_discrete}
 use Rattle.measures.specs.Lists.{table}
 use Rattle.measures.proofs.ListLaws.{table-set, table_ext}
 use Rattle.limits.specs.Units.{periods}
-use Rattle.matching.specs.Orders.{Order as OpenOrder}
-use Rattle.book.specs.Book.{Figures, no_figures, EnrolledUnit, no_unit, OpenOffer, Book, with_units}
+use Rattle.book.specs.Book.{Figures, no_figures, EnrolledUnit, no_unit, OpenOffer, with_units}
 use Rattle.book.specs.Layout.{
   DAYS,
   FLOOR,

@@ -1,6 +1,6 @@
 -- What "fits" says, and when a unit still fits after a call (specs/Fit.antt).
 use Rattle.std.proofs.Common.{◌≡◌, ℕ, ◌+◌, ◌<◌, ◌≤◌, Bool, true, false, ◌||◌, eqb, leb, refl, ap, le_trans, arith, eqb-true, le-leb, leb-true}
-use Rattle.measures.specs.Lists.{holds, sum}
+use Rattle.measures.specs.Lists.{sum}
 use Rattle.measures.proofs.ListLaws.{and_true, and_left, and_right, or_other, all_true, holds-all, all_at, all_by, sum_mono}
 use Rattle.limits.specs.Units.{periods}
 use Rattle.limits.specs.Limits.{hour_of, hour_limit, term_limit, volume_limit}

@@ -1,6 +1,6 @@
 -- What stands open of a unit in a period, when declarations go, lessen or come (specs/Fit.antt).
-use Rattle.std.proofs.Common.{◌≡◌, ℕ, zero, suc, ◌+◌, ◌<◌, ◌≤◌, Bool, true, false, cond, ◌&&◌, eqb, List, [], ◌∷◌, ◌++◌, get_or, refl, ap, arith, ne_eqb}
-use Rattle.measures.specs.Lists.{Each, sum}
+use Rattle.std.proofs.Common.{◌≡◌, ℕ, ◌+◌, ◌<◌, ◌≤◌, Bool, true, false, cond, ◌&&◌, eqb, List, [], ◌∷◌, ◌++◌, get_or, refl, ap, arith, ne_eqb}
+use Rattle.measures.specs.Lists.{Each}
 use Rattle.measures.proofs.ListLaws.{sum-zero, sum_of_append}
 use Rattle.limits.specs.Units.{periods}
 use Rattle.matching.specs.Orders.{Order as OpenOrder}

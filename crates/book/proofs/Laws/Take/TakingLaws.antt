@@ -4,7 +4,7 @@ use native.Mathlib.Decide.{ℕ_discrete}
 use borrow.Author.Tests.{eqb-false, not-false}
 use Rattle.measures.specs.Ranges.{most_energy}
 use Rattle.measures.specs.Lists.{Each}
-use Rattle.measures.specs.Sharing.{total, parts}
+use Rattle.measures.specs.Sharing.{total}
 use Rattle.measures.proofs.RangeLaws.{In, within}
 use Rattle.measures.proofs.ListLaws.{both_ways, and_left, and_right}
 use Rattle.measures.proofs.SharingLaws.{no-part_exceeds}
@@ -15,20 +15,7 @@ use Rattle.book.specs.Book.{no_unit, OpenOffer, no_offer, Book, unit_of, figures
 use Rattle.book.specs.Trades.{rows_booked}
 use Rattle.book.specs.Fit.{open_offers, open_raising, open_lowering, Declaration, nothing}
 use Rattle.book.specs.Sound.{sound}
-use Rattle.book.specs.Refusals.{
-  accepted,
-  same_side,
-  can_take,
-  unsound,
-  unknown_unit,
-  few_rows,
-  bad_quantity,
-  no_such_offer,
-  cannot_take,
-  hour_misfit,
-  term_misfit,
-  volume_misfit,
-}
+use Rattle.book.specs.Refusals.{same_side, can_take, unsound, unknown_unit, few_rows, bad_quantity, no_such_offer, cannot_take, hour_misfit, term_misfit, volume_misfit}
 use Rattle.book.specs.Offer.{raising_amounts}
 use Rattle.book.specs.Take.{taken_parts, take_refusal, take_rows, offers_less, taking}
 use Rattle.matching.proofs.Laws.Lists.EachLaws.{each_at}

@@ -1,0 +1,35 @@
+-- `offer_fit`: amounts copied over zeros declare what is offered, and a sound book's unit fits without them.
+use Rattle.std.proofs.Common.{◌≡◌, ℕ, ◌≤◌, length, get_or, replicate, refl, arith}
+use Rattle.book.proofs.Laws.Answer.MadeLaws.{sound_readable}
+use Rattle.book.proofs.Laws.Check.MisfitLaws.{zeros_at}
+use Rattle.book.proofs.Laws.Offer.OfferFitLaws.{sound_ranged, offer_fits, copied_at, copied_small, zeros_small}
+use Rattle.book.proofs.offering.offer_fit.Goals as goal
+use Rattle.book.proofs.offering.offer_fit.Goals.{After-copy_amounts, Start}
+
+few : (c : Start) → length c.args.amounts.now ≤ 744
+few c = let r = sound_readable c.args.book.now c.requires.0 in omega arith
+
+copied : (c : After-copy_amounts) → (k : ℕ) → get_or c.copy_amounts.new.copy k 0 ≡ get_or c.args.amounts.now k 0
+copied c =
+    copied_at (replicate {A = ℕ} 744 0) c.args.amounts.now c.copy_amounts.new.copy (zeros_at 744) c.copy_amounts.ensures.0
+    c.copy_amounts.ensures.1
+
+pub copy_amounts-requires : goal.copy_amounts-requires
+copy_amounts-requires c = few (goal.at.copy_amounts-requires c).Start
+
+pub misfit-requires : goal.misfit-requires
+misfit-requires c = record {
+  book_value = (c.requires.0, sound_ranged c.args.book.now c.requires.0, c.requires.1, c.requires.2);
+  raising_len = (
+    c.copy_amounts.auto.copy,
+    refl,
+    copied_small c.args.amounts.now c.copy_amounts.new.copy c.requires.4 (copied (goal.at.misfit-requires c).After-copy_amounts),
+    zeros_small (replicate {A = ℕ} 744 0) (zeros_at 744),
+  );
+}
+
+pub returns : goal.returns
+returns c =
+    let a = c.args in
+    offer_fits a.book.now c.requires.0 a.unit (c.requires.1, c.requires.2) a.amounts.now c.copy_amounts.new.copy (replicate {A = ℕ} 744 0)
+    c.misfit.result (copied (goal.at.returns c).After-copy_amounts) (zeros_at 744) c.misfit.ensures

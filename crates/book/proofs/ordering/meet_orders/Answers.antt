@@ -1,0 +1,37 @@
+-- `meet_orders`: the part comes back as matching leaves it, and the count is of what stands.
+use Rattle.std.proofs.Common.{ap, ◌∙◌, arith}
+use borrow.Rule.Slice.PartMut.{mid_len}
+use Rattle.matching.specs.declared.orders.Matched.{Matched}
+use Rattle.matching.specs.Memory.{as_order}
+use Rattle.matching.specs.Answers.{answer_of}
+use Rattle.book.specs.Inner.Readable.{Readable}
+use Rattle.book.specs.Layout.{orders_start, amounts_start}
+use Rattle.book.proofs.Laws.Answer.MadeLaws.{sound_readable}
+use Rattle.book.proofs.Laws.Order.RestWaitLaws.{met_unfit, met_rolled}
+use Rattle.book.proofs.ordering.meet_orders.Goals as goal
+use Rattle.book.proofs.ordering.meet_orders.Goals.{Start}
+
+ok : (c : Start) → Readable c.args.book.now
+ok c = sound_readable _ c.requires.0
+
+pub bounds-book-7 : goal.bounds-book-7
+bounds-book-7 c = let r = ok (goal.at.bounds-book-7 c).Start in omega arith
+
+pub slice_bounds-meet-end : goal.slice_bounds-meet-end
+slice_bounds-meet-end c = let r = ok (goal.at.slice_bounds-meet-end c).Start in omega arith
+
+pub bounds-book-7-in-Done : goal.bounds-book-7-in-Done
+bounds-book-7-in-Done c =
+    let r = ok (goal.at.bounds-book-7-in-Done c).Start in omega arith
+
+pub returns-in-Unfit : goal.returns-in-Unfit
+returns-in-Unfit c =
+    absurd (met_unfit c.args.book.now c.meet-met.new.orders c.args.rows.now c.meet-met.new.rows (as_order c.args.o) c.meet-met.result
+    c.requires.0 c.requires.1 c.meet-met.ensures (ap (λ (x : Matched). (answer_of x).fits) c.in-Unfit.is))
+
+pub returns-in-Done : goal.returns-in-Done
+returns-in-Done c =
+    let r = ok (goal.at.returns-in-Done c).Start in
+    met_rolled c.args.book.now c.meet-met.new.orders c.args.rows.now c.meet-met.new.rows (as_order c.args.o) c.meet-met.result
+    c.requires.0 c.requires.1 c.meet-met.ensures _ _ _
+    (ap answer_of c.in-Done.is) (c.meet-met.auto.orders ∙ mid_len orders_start amounts_start c.args.book.now (omega arith))

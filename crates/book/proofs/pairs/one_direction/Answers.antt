@@ -1,0 +1,16 @@
+-- `one_direction`: no order of the unit and the period stands before it, or the one found stands for all.
+use Rattle.std.proofs.Common.{arith}
+use Rattle.book.proofs.Laws.Check.TogetherLaws.{direction_alone, direction_tested}
+use Rattle.book.proofs.pairs.one_direction.Goals as goal
+
+pub returns-then-t-eq0 : goal.returns-then-t-eq0
+returns-then-t-eq0 c =
+    let g = c.requires in
+    let n = g.0.readable.orders_to in
+    direction_alone _ _ (omega arith) _ c.if-t-eq0.true c.find_alike-t.ensures
+
+pub returns : goal.returns
+returns c =
+    let g = c.requires in
+    let n = g.0.readable.orders_to in
+    direction_tested _ _ (omega arith) _ c.if-t-eq0.false c.find_alike-t.ensures g.3

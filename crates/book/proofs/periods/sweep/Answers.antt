@@ -1,0 +1,44 @@
+-- `sweep`: the orders' part is cleared and comes back, and the rest of the book stays.
+use borrow.Rule.Slice.PartMut.{mid_len}
+use Rattle.std.proofs.Common.{ap, ◌∙◌, arith}
+use Rattle.matching.specs.declared.orders.Matched.{Matched}
+use Rattle.matching.specs.Answers.{answer_of}
+use Rattle.matching.proofs.Laws.Periods.PassingLaws.{all_gives, all_fit}
+use Rattle.book.specs.Inner.Readable.{Readable}
+use Rattle.book.specs.Layout.{orders_start, amounts_start}
+use Rattle.book.proofs.Laws.Answer.MadeLaws.{sound_readable}
+use Rattle.book.proofs.Laws.Clear.ClearEffectLaws.{clear_fits, swept}
+use Rattle.book.proofs.periods.sweep.Goals as goal
+use Rattle.book.proofs.periods.sweep.Goals.{Start}
+
+ok : (c : Start) → Readable c.args.book.now
+ok c = sound_readable _ c.requires.0
+
+pub bounds-book-7 : goal.bounds-book-7
+bounds-book-7 c = let r = ok (goal.at.bounds-book-7 c).Start in omega arith
+
+pub bounds-book-0 : goal.bounds-book-0
+bounds-book-0 c = let r = ok (goal.at.bounds-book-0 c).Start in omega arith
+
+pub overflow_mul-end : goal.overflow_mul-end
+overflow_mul-end c = let r = ok (goal.at.overflow_mul-end c).Start in omega arith
+
+pub slice_bounds-clear_periods-end : goal.slice_bounds-clear_periods-end
+slice_bounds-clear_periods-end c = let r = ok (goal.at.slice_bounds-clear_periods-end c).Start in omega arith
+
+pub bounds-book-7-in-Done : goal.bounds-book-7-in-Done
+bounds-book-7-in-Done c =
+    let r = ok (goal.at.bounds-book-7-in-Done c).Start in omega arith
+
+pub returns-in-Unfit : goal.returns-in-Unfit
+returns-in-Unfit c =
+    all_fit _ _ _ _ _ _ _ (clear_fits _ _ c.requires.0 c.requires.1) c.clear_periods-t.ensures
+    (ap (λ (a : Matched). (answer_of a).fits) c.in-Unfit.is)
+
+pub returns-in-Done : goal.returns-in-Done
+returns-in-Done c =
+    let r = ok (goal.at.returns-in-Done c).Start in
+    let t = c.clear_periods-t in
+    swept _ _ _ _ _ _ c.requires.0 (t.auto.orders ∙ mid_len orders_start amounts_start c.args.book.now (omega arith))
+    (all_gives _ _ _ _ _ _ _ _ _ (clear_fits _ _ c.requires.0 c.requires.1) t.ensures (ap (λ (a : Matched). (answer_of a).count) c.in-Done.is)
+    (ap (λ (a : Matched). (answer_of a).standing) c.in-Done.is))

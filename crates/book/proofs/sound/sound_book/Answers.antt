@@ -1,0 +1,85 @@
+-- `sound_book`: a test that fails contradicts soundness; the orders and the fit of the units decide the rest.
+use Rattle.std.proofs.Common.{◌≡◌, ◌≤◌, true, length, sym, ◌∙◌, arith}
+use Rattle.measures.proofs.ListLaws.{not_both}
+use Rattle.book.specs.Sound.{head_in}
+use Rattle.book.specs.Layout.{DAYS, book_words, word, decode}
+use Rattle.book.specs.Inner.Readable.{Readable, Ranged}
+use Rattle.book.proofs.Laws.Memory.RangeFacts.{head_facts, readable}
+use Rattle.book.proofs.Laws.Check.SoundInLaws.{sound_fails, sound_by_open, never_short, ranged}
+use Rattle.book.proofs.sound.sound_book.Goals as goal
+use Rattle.book.proofs.sound.sound_book.Goals.{Else-book-days, Else-not-orders_in}
+
+-- what holds once the head and the length passed
+headed : (c : Else-book-days) → head_in (decode c.args.book.now) ≡ true
+headed c = sym c.head_in.ensures ∙ c.if-not-head_in.false
+
+long_enough : (c : Else-book-days) → book_words (word c.args.book.now DAYS) ≤ length
+    c.args.book.now
+long_enough c =
+    omega arith
+
+can_read : (c : Else-book-days) → Readable c.args.book.now
+can_read c = readable _ (head_facts _ (headed c)) (long_enough c)
+
+-- and once the ranges passed
+in_range : (c : Else-not-orders_in)
+    → Ranged c.args.book.now
+in_range c =
+    ranged _ (omega arith) (sym c.head_in.ensures ∙ c.if-not-head_in.false)
+    (sym c.units_in.ensures ∙ c.if-not-units_in.false)
+    (sym c.offers_in.ensures ∙ c.if-not-offers_in.false)
+    (sym c.orders_in.ensures ∙ c.if-not-orders_in.false)
+
+pub returns-then-book-lt-FIGURES : goal.returns-then-book-lt-FIGURES
+returns-then-book-lt-FIGURES c = sound_fails _ (never_short _ (omega arith))
+
+pub returns-then-not-head_in : goal.returns-then-not-head_in
+returns-then-not-head_in c = sound_fails _ (λ s. not_both _ s.head (sym c.head_in.ensures ∙ c.if-not-head_in.true))
+
+pub returns-then-book-ne-LAYOUT_NUMBER : goal.returns-then-book-ne-LAYOUT_NUMBER
+returns-then-book-ne-LAYOUT_NUMBER c = sound_fails _ (λ s. c.if-book-ne-LAYOUT_NUMBER.true s.layout)
+
+pub overflow_mul-days : goal.overflow_mul-days
+overflow_mul-days c =
+    let h = head_facts c.args.book.now (sym c.head_in.ensures ∙ c.if-not-head_in.false) in omega arith
+
+pub overflow_add-days : goal.overflow_add-days
+overflow_add-days c =
+    let h = head_facts c.args.book.now (sym c.head_in.ensures ∙ c.if-not-head_in.false) in omega arith
+
+pub returns-then-book-days : goal.returns-then-book-days
+returns-then-book-days c = sound_fails c.args.book.now (λ s. let l = s.long in omega arith)
+
+pub units_in-requires : goal.units_in-requires
+units_in-requires c = can_read (goal.at.units_in-requires c).Else-book-days
+
+pub returns-then-not-units_in : goal.returns-then-not-units_in
+returns-then-not-units_in c = sound_fails _ (λ s. not_both _ s.units (sym c.units_in.ensures ∙ c.if-not-units_in.true))
+
+pub offers_in-requires : goal.offers_in-requires
+offers_in-requires c = can_read (goal.at.offers_in-requires c).Else-book-days
+
+pub returns-then-not-offers_in : goal.returns-then-not-offers_in
+returns-then-not-offers_in c = sound_fails _ (λ s. not_both _ s.offers (sym c.offers_in.ensures ∙ c.if-not-offers_in.true))
+
+pub orders_in-requires : goal.orders_in-requires
+orders_in-requires c = can_read (goal.at.orders_in-requires c).Else-book-days
+
+pub returns-then-not-orders_in : goal.returns-then-not-orders_in
+returns-then-not-orders_in c = sound_fails _ (λ s. not_both _ s.orders (sym c.orders_in.ensures ∙ c.if-not-orders_in.true))
+
+pub numbers_differ-requires : goal.numbers_differ-requires
+numbers_differ-requires c = can_read (goal.at.numbers_differ-requires c).Else-book-days
+
+pub returns-then-not-numbers_differ : goal.returns-then-not-numbers_differ
+returns-then-not-numbers_differ c = sound_fails _ (λ s. not_both _ s.numbers (sym c.numbers_differ.ensures ∙ c.if-not-numbers_differ.true))
+
+pub open_fit-requires : goal.open_fit-requires
+open_fit-requires c = (in_range (goal.at.open_fit-requires c).Else-not-orders_in, (head_facts _ (headed (goal.at.open_fit-requires c).Else-book-days)).ceiling)
+
+pub returns : goal.returns
+returns c =
+    let r = in_range ((goal.at.returns c).Else-not-orders_in) in
+    c.open_fit.ensures
+    ∙ sound_by_open c.args.book.now (long_enough ((goal.at.returns c).Else-book-days)) c.if-book-ne-LAYOUT_NUMBER.false (headed ((goal.at.returns c).Else-book-days)) r.units r.offers r.orders
+    (sym c.numbers_differ.ensures ∙ c.if-not-numbers_differ.false)

@@ -1,0 +1,96 @@
+-- `link_orders`: the orders passed are linked, by unit and day and by period.
+use Rattle.std.proofs.Common.{◌<◌, length, refl, arith}
+use Rattle.book.specs.Inner.Whole.{by_day, by_period}
+use Rattle.book.proofs.Laws.Memory.RangeFacts.{OrderWords}
+use Rattle.book.proofs.Laws.Check.ShareLaws.{order_words_lem}
+use Rattle.book.proofs.Laws.Check.LinkedLaws.{linking_none, linking_more, linking_ends, period_key, day_key}
+use Rattle.book.proofs.standing.link_orders.Goals as goal
+use Rattle.book.proofs.standing.link_orders.Goals.{In-loop-k, Start}
+
+-- the order in turn is in range, and its keys have places
+words : (c : In-loop-k) → OrderWords c.args.book.now c.loop-k.k
+words c = order_words_lem _ _ c.requires.0 c.loop-k-test.true
+
+day : (c : In-loop-k) → by_day c.args.book.now c.loop-k.k < length c.args.last.now
+day c = omega (arith, day_key c.args.book.now c.loop-k.k c.requires.0 c.loop-k-test.true)
+
+period : (c : In-loop-k) → by_period c.args.book.now c.loop-k.k < length c.args.firsts.now
+period c = omega (arith, period_key c.args.book.now c.loop-k.k c.requires.0 c.loop-k-test.true)
+
+pub loop-k-init : goal.loop-k-init
+loop-k-init c = let g = c.requires in (linking_none _ _ _ _ g.3, linking_none _ _ _ _ g.6)
+
+pub overflow_mul-v : goal.overflow_mul-v
+overflow_mul-v c = omega (arith, (words (goal.at.overflow_mul-v c).In-loop-k).period, c.requires.0.readable.days_to)
+
+pub overflow_sub-v : goal.overflow_sub-v
+overflow_sub-v c = omega (arith, (words (goal.at.overflow_sub-v c).In-loop-k).unit)
+
+pub overflow_add-v-in-loop-k : goal.overflow_add-v-in-loop-k
+overflow_add-v-in-loop-k c =
+    let w = words (goal.at.overflow_add-v-in-loop-k c).In-loop-k in let r = c.requires.0.readable in omega (arith, w.unit, w.period, r.units_to, r.days_to)
+
+pub offset_bounds-last-v : goal.offset_bounds-last-v
+unfolding by_day
+offset_bounds-last-v c = omega (arith, day (goal.at.offset_bounds-last-v c).In-loop-k)
+
+pub bounds-last-v : goal.bounds-last-v
+unfolding by_day
+bounds-last-v c = omega (arith, day (goal.at.bounds-last-v c).In-loop-k, c.loop-k.invariant.0.lasts)
+
+pub bounds-own-k : goal.bounds-own-k
+bounds-own-k c =
+    let g = c.requires.2 in let l = c.loop-k.invariant.0.befores in omega arith
+
+pub offset_bounds-last-v-in-loop-k : goal.offset_bounds-last-v-in-loop-k
+unfolding by_day
+offset_bounds-last-v-in-loop-k c = omega (arith, day (goal.at.offset_bounds-last-v-in-loop-k c).In-loop-k)
+
+pub bounds-last-v-in-loop-k : goal.bounds-last-v-in-loop-k
+unfolding by_day
+bounds-last-v-in-loop-k c = omega (arith, day (goal.at.bounds-last-v-in-loop-k c).In-loop-k, c.loop-k.invariant.0.lasts)
+
+pub offset_bounds-firsts-p : goal.offset_bounds-firsts-p
+unfolding by_period
+offset_bounds-firsts-p c = omega (arith, period (goal.at.offset_bounds-firsts-p c).In-loop-k)
+
+pub bounds-firsts-p : goal.bounds-firsts-p
+unfolding by_period
+bounds-firsts-p c = omega (arith, period (goal.at.bounds-firsts-p c).In-loop-k, c.loop-k.invariant.1.lasts)
+
+pub bounds-peers-k : goal.bounds-peers-k
+bounds-peers-k c =
+    let g = c.requires.5 in let l = c.loop-k.invariant.1.befores in omega arith
+
+pub offset_bounds-firsts-p-in-loop-k : goal.offset_bounds-firsts-p-in-loop-k
+unfolding by_period
+offset_bounds-firsts-p-in-loop-k c = omega (arith, period (goal.at.offset_bounds-firsts-p-in-loop-k c).In-loop-k)
+
+pub bounds-firsts-p-in-loop-k : goal.bounds-firsts-p-in-loop-k
+unfolding by_period
+bounds-firsts-p-in-loop-k c = omega (arith, period (goal.at.bounds-firsts-p-in-loop-k c).In-loop-k, c.loop-k.invariant.1.lasts)
+
+pub loop-k-preserved : goal.loop-k-preserved
+unfolding by_day by_period
+loop-k-preserved c =
+    let t = c.loop-k-test.true in
+    let i = c.loop-k.invariant in
+    let g = c.requires in (
+      linking_more _ _ _ _ _ _ _ i.0 _ refl t (day (goal.at.loop-k-preserved c).In-loop-k) (omega (arith, t, g.2)),
+      linking_more _ _ _ _ _ _ _ i.1 _ refl t (period (goal.at.loop-k-preserved c).In-loop-k) (omega (arith, t, g.5)),
+    )
+
+pub shape_of-last : goal.shape_of-last
+shape_of-last c = c.loop-k.invariant.0.lasts
+
+pub shape_of-own : goal.shape_of-own
+shape_of-own c = c.loop-k.invariant.0.befores
+
+pub shape_of-firsts : goal.shape_of-firsts
+shape_of-firsts c = c.loop-k.invariant.1.lasts
+
+pub shape_of-peers : goal.shape_of-peers
+shape_of-peers c = c.loop-k.invariant.1.befores
+
+pub returns : goal.returns
+returns c = let i = c.loop-k.invariant in (linking_ends _ _ _ _ _ _ _ i.0 (omega arith), linking_ends _ _ _ _ _ _ _ i.1 (omega arith))

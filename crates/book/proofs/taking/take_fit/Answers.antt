@@ -1,0 +1,34 @@
+-- `take_fit`: the parts are shared once, and lent to the fit in a copy, to which it adds what is open.
+use Rattle.std.proofs.Common.{refl, arith, rules}
+use Rattle.book.proofs.Laws.Answer.MadeLaws.{sound_readable}
+use Rattle.book.proofs.Laws.Take.PartyLaws.{offer_sound}
+use Rattle.book.proofs.Laws.Take.InPlaceLaws.{raising_small, lowering_small, sound_ranged, take_fitted}
+use Rattle.book.proofs.taking.take_fit.Goals as goal
+
+pub share_offer-requires : goal.share_offer-requires
+share_offer-requires c =
+    let m = c.args.book.now in
+    let p = c.requires in
+    let g = sound_readable m p.0 in
+    (g, omega arith, p.4, p.5, (offer_sound m c.args.j p.0 p.1).whole.1, search rules)
+
+pub misfit-requires : goal.misfit-requires
+misfit-requires c =
+    let a = c.args in
+    let p = c.requires in record {
+      book_value = (p.0, sound_ranged a.book.now p.0, p.2, p.3);
+      raising_len = (
+        search rules,
+        refl,
+        raising_small a.book.now a.unit a.j a.quantity.0 p.0 p.1 (p.2, p.3) p.4 p.5 _ _ p.6
+            c.share_offer.ensures,
+        lowering_small a.book.now a.unit a.j a.quantity.0 p.0 p.1 (p.2, p.3) p.4 p.5,
+      );
+    }
+
+pub returns : goal.returns
+returns c =
+    let a = c.args in
+    let p = c.requires in
+    take_fitted a.book.now a.unit a.j a.quantity.0 p.0 p.1 (p.2, p.3) p.4 p.5 _ _ p.6 c.share_offer.ensures _
+    c.misfit.ensures
