@@ -1,6 +1,7 @@
 // The engine for Rust and C: paper 01's calls on numbers and slices. Each call on a book returns the refusal, or 0, and
 // writes its number and its count of rows to `out`.
 #![tactic(auto)]
+
 ghost use Rattle.std.specs.Prelude.{◌≡◌, [], ◌∷◌, length};
 ghost use Rattle.measures.specs.Sharing.{sharing, Is};
 ghost use Rattle.limits.specs.Limits.{limits_at};

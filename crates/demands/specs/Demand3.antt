@@ -4,12 +4,12 @@ use Rattle.measures.specs.Ranges.{between}
 use Rattle.measures.specs.Lists.{sum_of, sum}
 use Rattle.limits.specs.Units.{periods, generator}
 use Rattle.limits.specs.Limits.{hour_of, hour_limit, term_limit, volume_limit}
-use Rattle.matching.specs.Orders.{Order as OpenOrder, Row}
+use Rattle.matching.specs.Orders.{Order as OpenOrder}
 use Rattle.matching.specs.Memory.{no_order}
-use Rattle.book.specs.Book.{Figures, Rules, Book, figures_of, net}
+use Rattle.book.specs.Book.{Rules, Book, figures_of, net}
 use Rattle.book.specs.Trades.{raises, lowers}
 use Rattle.book.specs.Opening.{fresh, opening_refusal}
-use Rattle.book.specs.Curve.{first_half, second_half, points}
+use Rattle.book.specs.Curve.{points}
 use Rattle.book.specs.Calls.{Call, outcome, answered, book_after}
 use Rattle.demands.specs.Tally.{Member, Amounts, no_amounts, Tally, opened, tallied}
 

@@ -6,9 +6,9 @@ use Rattle.measures.specs.Figures.{AllShared, figure1}
 use Rattle.limits.specs.Figures.{AllLimited, figure5, figure6}
 use Rattle.matching.specs.Orders.{Row}
 use Rattle.matching.specs.Figures.{Figure2, Figure3, Figure4}
-use Rattle.book.specs.Opening.{fresh, opening_refusal}
-use Rattle.book.specs.Curve.{Drawn, curve}
-use Rattle.book.specs.Calls.{Call, call_enrol, call_offer, call_take, call_withdraw, call_order, call_cancel, call_clear, call_close, Heard, answers, book_after}
+use Rattle.book.specs.Opening.{fresh}
+use Rattle.book.specs.Curve.{curve}
+use Rattle.book.specs.Calls.{Call, call_enrol, call_offer, call_take, call_order, call_close, Heard, answers, book_after}
 
 -- answers: accepted with a number and rows, or refused
 abbrev pub ok : ℕ → List Row → Heard

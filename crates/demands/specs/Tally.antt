@@ -1,9 +1,9 @@
 -- Paper 01, "The tally": what calls' arguments and answers sum to. Nothing comes from the book.
-use Rattle.std.specs.Prelude.{ℕ, zero, suc, ◌+◌, ◌-◌, min, Bool, cond, not, ◌&&◌, List, [], ◌∷◌, ◌++◌, length, get_or, set, eqb, leb}
+use Rattle.std.specs.Prelude.{ℕ, ◌-◌, min, cond, not, ◌&&◌, List, [], ◌∷◌, ◌++◌, get_or, set, eqb, leb}
 use Rattle.measures.specs.Lists.{keep, sum_of}
 use Rattle.limits.specs.Units.{periods}
 use Rattle.matching.specs.Orders.{Order as OpenOrder, Row, buys, less, order_with}
-use Rattle.matching.specs.Clearing.{Cleared, clear_from}
+use Rattle.matching.specs.Clearing.{clear_from}
 use Rattle.book.specs.Book.{Rules}
 use Rattle.book.specs.Calls.{Call, call_enrol, call_offer, call_take, call_withdraw, call_order, call_cancel, call_clear, call_close, Heard}
 

@@ -16,20 +16,7 @@ use Rattle.limits.specs.Units.{periods, generator}
 use Rattle.book.specs.Book.{OpenOffer, Book, most_offers, most_numbers, known, unit_of, next_number}
 use Rattle.book.specs.Fit.{Declaration, nothing}
 use Rattle.book.specs.Sound.{energy_in, bilateral_sides, sound}
-use Rattle.book.specs.Refusals.{
-  accepted,
-  unsound,
-  unknown_unit,
-  unknown_partner,
-  bad_price,
-  bad_amounts,
-  wrong_partner,
-  offers_full,
-  numbers_used,
-  hour_misfit,
-  term_misfit,
-  volume_misfit,
-}
+use Rattle.book.specs.Refusals.{unsound, unknown_unit, unknown_partner, bad_price, bad_amounts, wrong_partner, offers_full, numbers_used, hour_misfit, term_misfit, volume_misfit}
 use Rattle.book.specs.Offer.{raising_amounts, offer_refusal, offering}
 use Rattle.book.proofs.Laws.Sound.FitLaws.{Fits, fits_with, fits_after}
 use Rattle.book.proofs.Laws.Sound.SoundLaws.{Sides, OfferRanges, Sound, sound_facts, sound-holds}

@@ -18,22 +18,7 @@ use Rattle.limits.specs.Units.{periods, generator}
 use Rattle.matching.specs.Orders.{Order as OpenOrder, Row}
 use Rattle.matching.proofs.Laws.Lists.EachLaws.{each_map}
 use Rattle.matching.proofs.Laws.Lists.SumLaws.{sum_of-zero}
-use Rattle.book.specs.Book.{
-  Figures,
-  no_figures,
-  EnrolledUnit,
-  no_unit,
-  OpenOffer,
-  Book,
-  unit_of,
-  figures_of,
-  with_units,
-  with_offers,
-  with_orders,
-  no_trades,
-  next_number,
-  net,
-}
+use Rattle.book.specs.Book.{Figures, no_figures, EnrolledUnit, no_unit, OpenOffer, Book, unit_of, figures_of, with_units, with_offers, with_orders, no_trades, next_number}
 use Rattle.book.specs.Trades.{rows_booked}
 use Rattle.book.specs.Sound.{energy_in}
 use Rattle.book.specs.Refusals.{first_refusal, accepted, unsound}

@@ -5,33 +5,16 @@ use Rattle.measures.specs.Sharing.{ahead, part, parts, less_each}
 use Rattle.measures.proofs.FiguresHold.{figure1-holds}
 use Rattle.limits.specs.Limits.{hour_limit, term_limit, volume_limit}
 use Rattle.limits.proofs.FiguresHold.{figure5-holds, figure6-holds}
-use Rattle.matching.specs.Orders.{rising, lessen, bid_ahead, ask_ahead, insert, laid}
-use Rattle.matching.specs.Rolling.{candidate, counterparts, matches, match_row, after_matches, meet}
-use Rattle.matching.specs.Clearing.{
-  traded_at,
-  largest,
-  cleared_volume,
-  marginal,
-  filled,
-  fills_of,
-  end_to_end,
-  rows_of_bid,
-  overlap_rows,
-  after_fills,
-  clear_period,
-  clear_from,
-}
+use Rattle.matching.specs.Orders.{rising}
 use Rattle.matching.proofs.Laws.Figures.FiguresHold.{figure2_holds, figure3_holds, figure4_holds}
 use Rattle.book.specs.Trades.{traded, booked, rows_booked}
 use Rattle.book.specs.Fit.{open_orders, open_offers, open_raising, open_lowering, hour_fits, hours_fit, term_fits, volume_fits, unit_fits}
 use Rattle.book.specs.Sound.{head_in, unit_in, offer_in, order_in, numbers_differ, each_two, sound}
 use Rattle.book.specs.Refusals.{first_refusal}
-use Rattle.book.specs.Opening.{opening_refusal}
 use Rattle.book.specs.Enrol.{enrol_refusal, enrolment}
 use Rattle.book.specs.Offer.{offer_refusal, offering}
 use Rattle.book.specs.Take.{take_refusal, take_rows_from, take_rows, offers_less, taking}
-use Rattle.book.specs.Order.{order_refusal, waiting, ordering}
-use Rattle.book.specs.Clear.{clear_refusal, clearing}
+use Rattle.book.specs.Order.{order_refusal, ordering}
 use Rattle.book.specs.Close.{closing}
 use Rattle.book.specs.Curve.{curve_refusal, points_from, curve}
 use Rattle.book.specs.Calls.{answers, book_after}

@@ -3,7 +3,7 @@ use mathlib.Core.Path.{◌≡◌, ap}
 use mathlib.Core.Bool.{true}
 use mathlib.Core.List.{List, [], ◌∷◌}
 use native.Mathlib.Decide.{ℕ_discrete}
-use Rattle.book.specs.Book.{Rules, Book}
+use Rattle.book.specs.Book.{Book}
 use Rattle.book.specs.Sound.{sound}
 use Rattle.book.specs.Refusals.{Outcome}
 use Rattle.book.specs.Opening.{fresh}
