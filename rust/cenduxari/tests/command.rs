@@ -10,10 +10,11 @@ use std::sync::OnceLock;
 const TOOLS: [(&str, &str); 4] = [
     (
         "rt",
-        "echo 'fn one::half: proved'; echo 'rt: one proved (6 s)'; echo 'rt: two proved (7 s)'
+        "echo 'fn one::half: proved'; echo 'crate one: modules loaded=1'; echo 'logic=proved functions=1'
+        echo 'crate two: modules loaded=1'; echo 'logic=proved functions=2'
         [ -z \"${FAILS-}\" ] || exit 1
-        mkdir -p target/staticlib target/bin; touch target/staticlib/libcenduxari.a
-        printf '#!/bin/sh\\necho rehearsed; cat' >target/bin/rehearse; chmod +x target/bin/rehearse",
+        mkdir -p out ../../target/bin; touch out/libcenduxari.a
+        printf '#!/bin/sh\\necho rehearsed; cat' >../../target/bin/rehearse; chmod +x ../../target/bin/rehearse",
     ),
     ("cargo", "[ \"$1\" != --version ] || { echo cargo ${RUST-9.0.0}; exit; }; pwd; echo \"$*\"; cat"),
     ("rustc", "echo rustc 9.0.0"),
@@ -42,7 +43,7 @@ fn place() -> &'static Path {
 /// A repository of this name with the command, where nothing is built.
 fn repository(name: &str) -> PathBuf {
     let repository = place().join(name);
-    for folder in [".ci", "rust", "crates"] {
+    for folder in [".ci", "rust", "crates/cenduxari", "crates/rehearse"] {
         fs::create_dir_all(repository.join(folder)).unwrap();
     }
     for file in ["cenduxari", ".ci/setup", "rust/Cargo.toml", "crates.txt"] {
@@ -107,7 +108,7 @@ fn builds_once_and_takes_files_from_the_callers_folder() {
     assert!(curve.ends_with("--example curve -- a.svg\n"), "{curve}");
     // A line for each crate as it is proved, once.
     assert!(
-        said.ends_with("\n  one proved (6 s)\n  two proved (7 s)\n") && !said.contains("half"),
+        said.ends_with("\n  one proved\n  two proved\n") && !said.contains("half"),
         "{said}"
     );
     let (replayed, said, _) = asked(&repository, &["replay", "list"], &[]);
