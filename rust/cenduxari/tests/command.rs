@@ -6,15 +6,16 @@ use std::path::{Path, PathBuf};
 use std::process::{Command, Stdio};
 use std::sync::OnceLock;
 
-/// The tools by their names. `rt` proves two crates and builds the archive or the program, unless it is to fail.
+/// The tools by their names. `rt` proves two crates and builds the archive and the program in the crate that it is asked for, unless
+/// it is to fail.
 const TOOLS: [(&str, &str); 4] = [
     (
         "rt",
         "echo 'fn one::half: proved'; echo 'crate one: modules loaded=1'; echo 'logic=proved functions=1'
         echo 'crate two: modules loaded=1'; echo 'logic=proved functions=2'
         [ -z \"${FAILS-}\" ] || exit 1
-        mkdir -p out ../../target/bin; touch out/libcenduxari.a
-        printf '#!/bin/sh\\necho rehearsed; cat' >../../target/bin/rehearse; chmod +x ../../target/bin/rehearse",
+        mkdir -p out; touch out/libcenduxari.a
+        printf '#!/bin/sh\\necho rehearsed; cat' >out/rehearse; chmod +x out/rehearse",
     ),
     ("cargo", "[ \"$1\" != --version ] || { echo cargo ${RUST-9.0.0}; exit; }; pwd; echo \"$*\"; cat"),
     ("rustc", "echo rustc 9.0.0"),
@@ -109,13 +110,14 @@ fn builds_once_and_takes_files_from_the_callers_folder() {
     assert!(curve.starts_with(&format!("{}\n", caller.display())), "{curve}");
     assert!(curve.ends_with("--example curve -- a.svg\n"), "{curve}");
     // A line for each crate as it is proved, once.
-    assert!(
-        said.ends_with("\n  one proved\n  two proved\n") && !said.contains("half"),
-        "{said}"
-    );
+    assert!(said.ends_with("\n  one proved\n  two proved\n") && !said.contains("half"), "{said}");
     let (replayed, said, _) = asked(&repository, &["replay", "list"], &[]);
     assert!(replayed.ends_with("--bin replay\na line\n"), "{replayed}");
     assert_eq!(said, "");
+    // The program is built by itself, and once too.
+    let (rehearsed, said, status) = asked(&repository, &["rehearse", "list"], &[]);
+    assert_eq!((rehearsed.as_str(), status), ("rehearsed\na line\n", Some(0)));
+    assert!(said.ends_with("\n  one proved\n  two proved\n"), "{said}");
     assert_eq!(
         asked(&repository, &["rehearse", "list"], &[]),
         ("rehearsed\na line\n".into(), String::new(), Some(0))
