@@ -1,5 +1,5 @@
 //! The proved program `rehearse` against the second engine, byte for byte: the shared vectors, bytes of any kind, lines
-//! of any length, and inputs cut at every place. Left out where target/bin/rehearse is not built (`rt check rehearse`).
+//! of any length, and inputs cut at every place. Left out where target/bin/rehearse is not built (.ci/setup).
 
 use second::beside::pairs;
 use second::random::Random;
