@@ -8,14 +8,6 @@ use Rattle.limits.proofs.LimitLaws.{term-most, no_days, no_kind, no_capacity, no
 use Rattle.limits.proofs.unit_limits.Goals as goal
 use Rattle.limits.proofs.unit_limits.Goals.{Else-not-in_range, Then-not-in_range}
 
--- what `in_range` says of the asset, on either side of its test
-asset-out : (c : Then-not-in_range) → most_energy < c.args.unit.asset.0
-asset-out c = leb-false _ _ (sym c.in_range.ensures ∙ c.if-not-in_range.true)
-
-asset-in : (c : Else-not-in_range) → c.args.unit.asset.0
-    ≤ most_energy
-asset-in c = leb-true _ _ (sym c.in_range.ensures ∙ c.if-not-in_range.false)
-
 pub returns-then-days-lt1 : goal.returns-then-days-lt1
 returns-then-days-lt1 c = no_days _ _ _ _ _ (omega arith)
 
@@ -35,10 +27,10 @@ pub returns-then-unit-gt-MOST_CAPACITY : goal.returns-then-unit-gt-MOST_CAPACITY
 returns-then-unit-gt-MOST_CAPACITY c = no_capacity _ _ _ _ _ (omega arith) (omega arith) (omega arith)
 
 pub returns-then-not-in_range : goal.returns-then-not-in_range
-returns-then-not-in_range c = no_asset _ _ _ _ _ (omega arith) (omega arith) (omega arith) (asset-out (goal.at.returns-then-not-in_range c).Then-not-in_range)
+returns-then-not-in_range c = no_asset _ _ _ _ _ (omega arith) (omega arith) (omega arith) (leb-false _ _ (sym c.in_range.ensures ∙ c.if-not-in_range.true))
 
 pub returns-then-days-period : goal.returns-then-days-period
-returns-then-days-period c = no_period _ _ _ _ _ (omega arith) (omega arith) (omega arith) (asset-in (goal.at.returns-then-days-period c).Else-not-in_range) (omega arith)
+returns-then-days-period c = no_period _ _ _ _ _ (omega arith) (omega arith) (omega arith) (leb-true _ _ (sym c.in_range.ensures ∙ c.if-not-in_range.false)) (omega arith)
 
 pub volume_limit-volume-requires : goal.volume_limit-volume-requires
 volume_limit-volume-requires c = rw c.term_limit-whole.ensures (term-most _ _ _ _ (omega arith) (omega arith))
@@ -46,4 +38,4 @@ volume_limit-volume-requires c = rw c.term_limit-whole.ensures (term-most _ _ _ 
 pub returns : goal.returns
 returns c =
     simp (c.volume_limit-volume.ensures, c.term_limit-whole.ensures, c.hour_limit-hour.ensures)
-    (all_in _ _ _ _ _ (omega arith) (omega arith) (omega arith) (asset-in (goal.at.returns c).Else-not-in_range) (omega arith))
+    (all_in _ _ _ _ _ (omega arith) (omega arith) (omega arith) (leb-true _ _ (sym c.in_range.ensures ∙ c.if-not-in_range.false)) (omega arith))

@@ -1,5 +1,6 @@
 -- From an outcome to the contract of a call: a law for the refused and one for the accepted.
-use Rattle.std.proofs.Common.{◌≡◌, ℕ, ◌+◌, ◌≤◌, Bool, true, false, cond, not, ◌&&◌, eqb, leb, List, [], ◌∷◌, length, sym, refl, ap, ◌∙◌, ap₂, arith, length-append, ltb-false, eq-eqb, ne_eqb, leb-true}
+use Rattle.std.proofs.Common.{◌≡◌, ℕ, ◌+◌, ◌≤◌, Bool, true, false, cond, not, ◌&&◌, eqb, leb, List, [], ◌∷◌, length, refl}
+use Rattle.std.proofs.Common.{sym, ap, ◌∙◌, ap₂, arith, length-append, ltb-false, eq-eqb, ne_eqb, leb-true}
 use Rattle.measures.proofs.ListLaws.{cond-true, cond-false, and_left, and_right, all_true, both_ways}
 use Rattle.matching.specs.Orders.{Row}
 use Rattle.matching.specs.Memory.{written}

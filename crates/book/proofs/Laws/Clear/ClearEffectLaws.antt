@@ -1,5 +1,6 @@
 -- Clear on a sound book in memory: the orders' part cleared, its rows booked, and the phase set.
-use Rattle.std.proofs.Common.{◌≡◌, ℕ, ◌+◌, ◌*◌, ◌≤◌, true, List, length, get_or, set, ap, ◌∙◌, arith, length-drop, length-set, length-take, get_or-set_other, get_or-set_same, drop-set-lt}
+use Rattle.std.proofs.Common.{◌≡◌, ℕ, ◌+◌, ◌*◌, ◌≤◌, true, List, length, get_or, set}
+use Rattle.std.proofs.Common.{ap, ◌∙◌, arith, length-drop, length-set, length-take, get_or-set_other, get_or-set_same, drop-set-lt}
 use borrow.Rule.Slice.PartMut.{put_mid}
 use Rattle.measures.specs.Lists.{table}
 use Rattle.matching.specs.Orders.{Row, rising, numbers}

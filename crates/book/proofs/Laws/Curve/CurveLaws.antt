@@ -1,5 +1,6 @@
 -- Laws of the curve: its checks by cases, a sound book's figures, and the points one after the other.
-use Rattle.std.proofs.Common.{◌≡◌, ℕ, suc, ◌+◌, ◌-◌, ◌*◌, ◌/◌, ◌<◌, ◌≤◌, Bool, true, false, eqb, List, [], ◌∷◌, ◌++◌, length, get_or, take, drop, set, sym, refl, ap, ◌∙◌, append_assoc, add-one, arith, length-set, take-append-drop, take-suc-set, drop-set-lt, ltb-false, ltb-true, le-ltb, lt-ltb, ne_eqb}
+use Rattle.std.proofs.Common.{◌≡◌, ℕ, suc, ◌+◌, ◌-◌, ◌*◌, ◌/◌, ◌<◌, ◌≤◌, Bool, true, false, eqb, List, [], ◌∷◌, ◌++◌, length, get_or, take, drop, set, refl}
+use Rattle.std.proofs.Common.{sym, ap, ◌∙◌, append_assoc, add-one, arith, length-set, take-append-drop, take-suc-set, drop-set-lt, ltb-false, ltb-true, le-ltb, lt-ltb, ne_eqb}
 use borrow.Author.Tests.{not-false}
 use Rattle.measures.proofs.RangeLaws.{In, inside, outside, within}
 use Rattle.measures.specs.Ranges.{between}

@@ -1,5 +1,6 @@
 -- The tests of ranges as facts, of a plain book and of one in memory.
-use Rattle.std.proofs.Common.{◌≡◌, ℕ, ◌+◌, ◌-◌, ◌*◌, ◌<◌, ◌≤◌, Bool, true, false, not, leb, List, length, get_or, drop, sym, refl, ap, ◌∙◌, arith, get_or-drop, get_or-take, ltb-true, lt-ltb, eq-eqb, ne_eqb, le-leb, leb-true}
+use Rattle.std.proofs.Common.{◌≡◌, ℕ, ◌+◌, ◌-◌, ◌*◌, ◌<◌, ◌≤◌, Bool, true, false, not, leb, List, length, get_or, drop, refl}
+use Rattle.std.proofs.Common.{sym, ap, ◌∙◌, arith, get_or-drop, get_or-take, ltb-true, lt-ltb, eq-eqb, ne_eqb, le-leb, leb-true}
 use Rattle.measures.specs.Ranges.{most_energy, most_price}
 use Rattle.measures.specs.Lists.{every, all, table}
 use Rattle.measures.specs.Sharing.{total}

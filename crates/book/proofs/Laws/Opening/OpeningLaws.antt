@@ -1,5 +1,6 @@
 -- Laws of opening, by cases, and of the head of a fresh book.
-use Rattle.std.proofs.Common.{◌≡◌, ℕ, ◌*◌, ◌<◌, ◌≤◌, true, ◌&&◌, List, [], ◌∷◌, length, drop, set, sym, refl, ap, ◌∙◌, arith, drop-drop, drop-set-lt, ltb-false, le-ltb, lt-ltb, ne_eqb, le-leb}
+use Rattle.std.proofs.Common.{◌≡◌, ℕ, ◌*◌, ◌<◌, ◌≤◌, true, ◌&&◌, List, [], ◌∷◌, length, drop, set, refl}
+use Rattle.std.proofs.Common.{sym, ap, ◌∙◌, arith, drop-drop, drop-set-lt, ltb-false, le-ltb, lt-ltb, ne_eqb, le-leb}
 use borrow.Author.Tests.{lt-leb, not-false}
 use Rattle.measures.specs.Ranges.{most_price}
 use Rattle.measures.specs.Lists.{table_from}

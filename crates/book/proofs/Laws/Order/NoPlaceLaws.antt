@@ -1,5 +1,6 @@
 -- An order that needs no place: what was accepted is so still, and what is let through trades whole.
-use Rattle.std.proofs.Common.{◌≡◌, ℕ, ◌<◌, ◌≤◌, Bool, true, false, cond, ◌&&◌, eqb, ltb, leb, ◌⊎◌, List, [], ◌∷◌, ◌++◌, length, refl, ap, ◌∙◌, inl, inr, append-nil, arith, ltb-false, eq-eqb, ne_eqb}
+use Rattle.std.proofs.Common.{◌≡◌, ℕ, ◌<◌, ◌≤◌, Bool, true, false, cond, ◌&&◌, eqb, ltb, leb, ◌⊎◌, List, [], ◌∷◌, ◌++◌, length, refl}
+use Rattle.std.proofs.Common.{ap, ◌∙◌, inl, inr, append-nil, arith, ltb-false, eq-eqb, ne_eqb}
 use borrow.Author.Tests.{eqb-false}
 use Rattle.measures.specs.Lists.{sum_of, table_from}
 use Rattle.measures.proofs.ListLaws.{cond-false, and_right_false}

@@ -1,5 +1,6 @@
 -- Order in the call phase leaves a sound book; what an accepted order passed, in either phase.
-use Rattle.std.proofs.Common.{◌≡◌, ℕ, ◌<◌, ◌≤◌, Bool, true, false, cond, not, ◌&&◌, ◌||◌, eqb, ltb, List, [], ◌∷◌, length, sym, refl, arith, ltb-false, ltb-true, le-ltb, lt-ltb, eq-eqb, ne_eqb, eqb-true, leb-false, leb-true}
+use Rattle.std.proofs.Common.{◌≡◌, ℕ, ◌<◌, ◌≤◌, Bool, true, false, cond, not, ◌&&◌, ◌||◌, eqb, ltb, List, [], ◌∷◌, length, refl}
+use Rattle.std.proofs.Common.{sym, arith, ltb-false, ltb-true, le-ltb, lt-ltb, eq-eqb, ne_eqb, eqb-true, leb-false, leb-true}
 use native.Mathlib.Decide.{ℕ_discrete}
 use borrow.Author.Tests.{not-false}
 use Rattle.measures.specs.Ranges.{most_energy}
@@ -12,7 +13,8 @@ use Rattle.book.specs.Book.{Book, call_phase, most_orders, most_numbers, unit_of
 use Rattle.book.specs.Trades.{raises, lowers}
 use Rattle.book.specs.Fit.{Declaration, nothing}
 use Rattle.book.specs.Sound.{one_direction, sound}
-use Rattle.book.specs.Refusals.{marked_against, orders_of_unit, unsound, unknown_unit, few_rows, bad_price, bad_quantity, bad_period, bad_direction, other_direction, two_open, needs_place, orders_full, numbers_used, hour_misfit, term_misfit, volume_misfit}
+use Rattle.book.specs.Refusals.{marked_against, orders_of_unit, unsound, unknown_unit, few_rows, bad_price, bad_quantity, bad_period}
+use Rattle.book.specs.Refusals.{bad_direction, other_direction, two_open, needs_place, orders_full, numbers_used, hour_misfit, term_misfit, volume_misfit}
 use Rattle.book.specs.Order.{order_declares, order_refusal, new_order, ordering}
 use Rattle.matching.proofs.Laws.Lists.RemainLaws.{each_holds}
 use Rattle.book.proofs.Laws.Sound.FitLaws.{Fits, fits_with, fits_after}

@@ -1,5 +1,6 @@
 -- An order in the rolling phase on a sound book in memory: the open orders fit for matching, and what matching leaves.
-use Rattle.std.proofs.Common.{◌≡◌, ℕ, zero, suc, ◌-◌, ◌*◌, ◌≤◌, Bool, true, false, cond, ◌&&◌, eqb, List, [], ◌∷◌, ◌++◌, length, set, sym, refl, ap, ◌∙◌, subst, append-nil, arith, eq-eqb, ne_eqb, le-leb}
+use Rattle.std.proofs.Common.{◌≡◌, ℕ, zero, suc, ◌-◌, ◌*◌, ◌≤◌, Bool, true, false, cond, ◌&&◌, eqb, List, [], ◌∷◌, ◌++◌, length, set, refl}
+use Rattle.std.proofs.Common.{sym, ap, ◌∙◌, subst, append-nil, arith, eq-eqb, ne_eqb, le-leb}
 use borrow.Rule.Slice.PartMut.{put_mid, mid_len}
 use Rattle.measures.specs.Ranges.{most_energy}
 use Rattle.measures.proofs.ListLaws.{and_true, not_both}

@@ -9,37 +9,28 @@ use Rattle.book.proofs.Laws.Curve.CurveLaws.{curved_unsound, curved_checked, cur
 use Rattle.book.proofs.calls.curve.Goals as goal
 use Rattle.book.proofs.calls.curve.Goals.{Else-no-ne0, Else-not-sound_book}
 
--- a sound book, and what its checks passed
-is-sound : (c : Else-not-sound_book) → sound_in c.args.book.now ≡ true
-is-sound c = sym c.sound_book.ensures ∙ c.if-not-sound_book.false
-
-passed : (c : Else-no-ne0) → (In 1 (word c.args.book.now UNITS)
-    c.args.unit) × (48 ≤ length c.args.points.now)
-    × (c.args.day < word c.args.book.now DAYS)
-passed c = curve_passed _ _ _ _ (sym c.if-no-ne0.false ∙ c.curve_checks-no.ensures)
-
 pub returns-then-not-sound_book : goal.returns-then-not-sound_book
 returns-then-not-sound_book c = curved_unsound _ _ _ _ (sym c.sound_book.ensures ∙ c.if-not-sound_book.true)
 
 pub curve_checks-no-requires : goal.curve_checks-no-requires
-curve_checks-no-requires c = sound_readable _ (is-sound (goal.at.curve_checks-no-requires c).Else-not-sound_book)
+curve_checks-no-requires c = sound_readable _ (sym c.sound_book.ensures ∙ c.if-not-sound_book.false)
 
 pub returns-then-no-ne0 : goal.returns-then-no-ne0
-returns-then-no-ne0 c = curved_checked _ _ _ _ _ (is-sound (goal.at.returns-then-no-ne0 c).Else-not-sound_book) c.curve_checks-no.ensures c.if-no-ne0.true
+returns-then-no-ne0 c = curved_checked _ _ _ _ _ (sym c.sound_book.ensures ∙ c.if-not-sound_book.false) c.curve_checks-no.ensures c.if-no-ne0.true
 
 pub overflow_sub-unit : goal.overflow_sub-unit
-overflow_sub-unit c = let p = passed (goal.at.overflow_sub-unit c).Else-no-ne0 in omega arith
+overflow_sub-unit c = let p = curve_passed _ _ _ _ (sym c.if-no-ne0.false ∙ c.curve_checks-no.ensures) in omega arith
 
 pub write_points-requires : goal.write_points-requires
 write_points-requires c =
-    let p = passed (goal.at.write_points-requires c).Else-no-ne0 in
-    let s = is-sound (goal.at.write_points-requires c).Else-not-sound_book in
+    let p = curve_passed _ _ _ _ (sym c.if-no-ne0.false ∙ c.curve_checks-no.ensures) in
+    let s = sym c.sound_book.ensures ∙ c.if-not-sound_book.false in
     (sound_readable _ s, sound_netted _ _ s (omega arith), omega arith, omega arith, omega arith)
 
 pub returns : goal.returns
 returns c =
-    let p = passed (goal.at.returns c).Else-no-ne0 in
+    let p = curve_passed _ _ _ _ (sym c.if-no-ne0.false ∙ c.curve_checks-no.ensures) in
     let e : c.args.unit - 1 + 1 ≡ c.args.unit = omega arith in
-    curved_drawn _ _ _ _ _ (is-sound (goal.at.returns c).Else-not-sound_book) (sym c.if-no-ne0.false ∙ c.curve_checks-no.ensures)
+    curved_drawn _ _ _ _ _ (sym c.sound_book.ensures ∙ c.if-not-sound_book.false) (sym c.if-no-ne0.false ∙ c.curve_checks-no.ensures)
     (c.write_points.ensures ∙ ap (λ (u : ℕ). points (decode c.args.book.now) u c.args.day
     ++ drop 48 c.args.points.now) e)

@@ -6,25 +6,22 @@ use Rattle.book.proofs.Laws.Cancel.CancelLaws.{cancel_unknown, cancel_absent, ca
 use Rattle.book.proofs.cancelling.cancel_checks.Goals as goal
 use Rattle.book.proofs.cancelling.cancel_checks.Goals.{Start}
 
-ok : (c : Start) → Readable c.args.book.now
-ok c = sound_readable _ c.requires
-
 pub returns-then-unit-lt1 : goal.returns-then-unit-lt1
 returns-then-unit-lt1 c = cancel_unknown c.args.book.now c.requires c.args.number c.args.unit (omega arith)
 
 pub bounds-book-5 : goal.bounds-book-5
-bounds-book-5 c = let r = ok (goal.at.bounds-book-5 c).Start in omega arith
+bounds-book-5 c = let r = sound_readable _ c.requires in omega arith
 
 pub returns-then-book-unit : goal.returns-then-book-unit
 returns-then-book-unit c = cancel_unknown c.args.book.now c.requires c.args.number c.args.unit (omega arith)
 
 pub bounds-book-7 : goal.bounds-book-7
 bounds-book-7 c =
-    let r = ok (goal.at.bounds-book-7 c).Start in omega arith
+    let r = sound_readable _ c.requires in omega arith
 
 pub order_place-k-requires : goal.order_place-k-requires
 order_place-k-requires c =
-    ok (goal.at.order_place-k-requires c).Start
+    sound_readable _ c.requires
 
 pub returns-then-n-k : goal.returns-then-n-k
 returns-then-n-k c = cancel_absent c.args.book.now c.requires c.args.number
@@ -32,19 +29,19 @@ returns-then-n-k c = cancel_absent c.args.book.now c.requires c.args.number
 
 pub overflow_mul-k : goal.overflow_mul-k
 overflow_mul-k c =
-    let r = ok (goal.at.overflow_mul-k c).Start in omega arith
+    let r = sound_readable _ c.requires in omega arith
 
 pub overflow_add-k : goal.overflow_add-k
 overflow_add-k c =
-    let r = ok (goal.at.overflow_add-k c).Start in omega arith
+    let r = sound_readable _ c.requires in omega arith
 
 pub offset_bounds-book-k : goal.offset_bounds-book-k
 offset_bounds-book-k c =
-    let r = ok (goal.at.offset_bounds-book-k c).Start in omega arith
+    let r = sound_readable _ c.requires in omega arith
 
 pub bounds-book-k : goal.bounds-book-k
 bounds-book-k c =
-    let r = ok (goal.at.bounds-book-k c).Start in omega arith
+    let r = sound_readable _ c.requires in omega arith
 
 pub returns-then-book-k : goal.returns-then-book-k
 returns-then-book-k c =
@@ -60,4 +57,4 @@ returns c =
 
 pub overflow_add-k-2 : goal.overflow_add-k-2
 overflow_add-k-2 c =
-    let r = ok (goal.at.overflow_add-k-2 c).Start in omega arith
+    let r = sound_readable _ c.requires in omega arith

@@ -6,30 +6,27 @@ use Rattle.book.proofs.Laws.Enrol.EnrolLaws.{enrolled_in, enrolled_aside}
 use Rattle.book.proofs.enrolling.enrol_effect.Goals as goal
 use Rattle.book.proofs.enrolling.enrol_effect.Goals.{Start}
 
-ok : (c : Start) → Readable c.args.book.now
-ok c = sound_readable _ c.requires.0
-
 pub bounds-book-5 : goal.bounds-book-5
-bounds-book-5 c = let r = ok (goal.at.bounds-book-5 c).Start in omega arith
+bounds-book-5 c = let r = sound_readable _ c.requires.0 in omega arith
 
 pub empty_unit-requires : goal.empty_unit-requires
-empty_unit-requires c = (ok (goal.at.empty_unit-requires c).Start, c.requires.1)
+empty_unit-requires c = (sound_readable _ c.requires.0, c.requires.1)
 
 pub bounds-book-at : goal.bounds-book-at
 bounds-book-at c =
-    let r = ok (goal.at.bounds-book-at c).Start in omega arith
+    let r = sound_readable _ c.requires.0 in omega arith
 
 pub bounds-book-at-2 : goal.bounds-book-at-2
 bounds-book-at-2 c =
-    let r = ok (goal.at.bounds-book-at-2 c).Start in simp length-set (omega arith)
+    let r = sound_readable _ c.requires.0 in simp length-set (omega arith)
 
 pub bounds-book-at-3 : goal.bounds-book-at-3
 bounds-book-at-3 c =
-    let r = ok (goal.at.bounds-book-at-3 c).Start in simp length-set (omega arith)
+    let r = sound_readable _ c.requires.0 in simp length-set (omega arith)
 
 pub bounds-book-5-2 : goal.bounds-book-5-2
 bounds-book-5-2 c =
-    let r = ok (goal.at.bounds-book-5-2 c).Start in simp length-set (omega arith)
+    let r = sound_readable _ c.requires.0 in simp length-set (omega arith)
 
 pub shape_of-book : goal.shape_of-book
 shape_of-book c = simp length-set c.empty_unit.auto.book
@@ -38,6 +35,6 @@ pub returns : goal.returns
 returns c =
     let u = c.args.unit in
     let w = c.empty_unit in (
-      enrolled_in c.args.book.now w.new.book u.kind u.capacity u.asset.0 (ok (goal.at.returns c).Start) c.requires.1 w.ensures,
-      enrolled_aside c.args.book.now w.new.book u.kind u.capacity u.asset.0 (ok (goal.at.returns c).Start) c.requires.1 w.ensures,
+      enrolled_in c.args.book.now w.new.book u.kind u.capacity u.asset.0 (sound_readable _ c.requires.0) c.requires.1 w.ensures,
+      enrolled_aside c.args.book.now w.new.book u.kind u.capacity u.asset.0 (sound_readable _ c.requires.0) c.requires.1 w.ensures,
     )

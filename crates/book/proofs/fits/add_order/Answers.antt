@@ -6,9 +6,6 @@ use Rattle.book.proofs.Laws.Check.ShareLaws.{order_words_lem, added_none, share_
 use Rattle.book.proofs.fits.add_order.Goals as goal
 use Rattle.book.proofs.fits.add_order.Goals.{Start}
 
-facts : (c : Start) → OrderWords c.args.book.now c.args.k
-facts c = order_words_lem _ _ c.requires.ranged.0 c.requires.ranged.1
-
 pub returns-then-book-at : goal.returns-then-book-at
 returns-then-book-at c = added_none _ _ _ _ (λ p h. share_other _ _ _ _ c.if-book-at.true p)
 
@@ -17,24 +14,24 @@ returns-then-book-at-2 c = added_none _ _ _ _ (λ p h. share_against _ _ _ _ c.i
 
 pub offset_bounds-totals-p : goal.offset_bounds-totals-p
 offset_bounds-totals-p c =
-    omega (arith, facts (goal.at.offset_bounds-totals-p c).Start)
+    omega (arith, order_words_lem _ _ c.requires.ranged.0 c.requires.ranged.1)
 
 pub bounds-totals-p : goal.bounds-totals-p
 bounds-totals-p c =
-    omega (arith, facts (goal.at.bounds-totals-p c).Start)
+    omega (arith, order_words_lem _ _ c.requires.ranged.0 c.requires.ranged.1)
 
 pub overflow_add-totals-2 : goal.overflow_add-totals-2
 overflow_add-totals-2 c =
-    omega (arith, facts (goal.at.overflow_add-totals-2 c).Start, c.requires.totals_len.1 (word c.args.book.now (order_place c.args.k + PERIOD)))
+    omega (arith, order_words_lem _ _ c.requires.ranged.0 c.requires.ranged.1, c.requires.totals_len.1 (word c.args.book.now (order_place c.args.k + PERIOD)))
 
 pub offset_bounds-totals-p-2 : goal.offset_bounds-totals-p-2
 offset_bounds-totals-p-2 c =
-    omega (arith, facts (goal.at.offset_bounds-totals-p-2 c).Start)
+    omega (arith, order_words_lem _ _ c.requires.ranged.0 c.requires.ranged.1)
 
 pub bounds-totals-p-2 : goal.bounds-totals-p-2
 bounds-totals-p-2 c =
-    omega (arith, facts (goal.at.bounds-totals-p-2 c).Start)
+    omega (arith, order_words_lem _ _ c.requires.ranged.0 c.requires.ranged.1)
 
 pub returns : goal.returns
 returns c =
-    order_added _ _ _ _ c.if-book-at.false c.if-book-at-2.false _ _ (omega (arith, facts (goal.at.returns c).Start)) (facts (goal.at.returns c).Start).quantity.1
+    order_added _ _ _ _ c.if-book-at.false c.if-book-at-2.false _ _ (omega (arith, order_words_lem _ _ c.requires.ranged.0 c.requires.ranged.1)) (order_words_lem _ _ c.requires.ranged.0 c.requires.ranged.1).quantity.1

@@ -4,10 +4,7 @@ use Rattle.book.proofs.Laws.Answer.MadeLaws.{sound_readable}
 use Rattle.book.proofs.Laws.Check.MisfitLaws.{zeros_at}
 use Rattle.book.proofs.Laws.Offer.OfferFitLaws.{sound_ranged, offer_fits, copied_at, copied_small, zeros_small}
 use Rattle.book.proofs.offering.offer_fit.Goals as goal
-use Rattle.book.proofs.offering.offer_fit.Goals.{After-copy_amounts, Start}
-
-few : (c : Start) → length c.args.amounts.now ≤ 744
-few c = let r = sound_readable c.args.book.now c.requires.0 in omega arith
+use Rattle.book.proofs.offering.offer_fit.Goals.{After-copy_amounts}
 
 copied : (c : After-copy_amounts) → (k : ℕ) → get_or c.copy_amounts.new.copy k 0 ≡ get_or c.args.amounts.now k 0
 copied c =
@@ -15,7 +12,7 @@ copied c =
     c.copy_amounts.ensures.1
 
 pub copy_amounts-requires : goal.copy_amounts-requires
-copy_amounts-requires c = few (goal.at.copy_amounts-requires c).Start
+copy_amounts-requires c = let r = sound_readable c.args.book.now c.requires.0 in omega arith
 
 pub misfit-requires : goal.misfit-requires
 misfit-requires c = record {

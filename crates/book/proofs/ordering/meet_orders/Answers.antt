@@ -11,18 +11,15 @@ use Rattle.book.proofs.Laws.Order.RestWaitLaws.{met_unfit, met_rolled}
 use Rattle.book.proofs.ordering.meet_orders.Goals as goal
 use Rattle.book.proofs.ordering.meet_orders.Goals.{Start}
 
-ok : (c : Start) → Readable c.args.book.now
-ok c = sound_readable _ c.requires.0
-
 pub bounds-book-7 : goal.bounds-book-7
-bounds-book-7 c = let r = ok (goal.at.bounds-book-7 c).Start in omega arith
+bounds-book-7 c = let r = sound_readable _ c.requires.0 in omega arith
 
 pub slice_bounds-meet-end : goal.slice_bounds-meet-end
-slice_bounds-meet-end c = let r = ok (goal.at.slice_bounds-meet-end c).Start in omega arith
+slice_bounds-meet-end c = let r = sound_readable _ c.requires.0 in omega arith
 
 pub bounds-book-7-in-Done : goal.bounds-book-7-in-Done
 bounds-book-7-in-Done c =
-    let r = ok (goal.at.bounds-book-7-in-Done c).Start in omega arith
+    let r = sound_readable _ c.requires.0 in omega arith
 
 pub returns-in-Unfit : goal.returns-in-Unfit
 returns-in-Unfit c =
@@ -31,7 +28,7 @@ returns-in-Unfit c =
 
 pub returns-in-Done : goal.returns-in-Done
 returns-in-Done c =
-    let r = ok (goal.at.returns-in-Done c).Start in
+    let r = sound_readable _ c.requires.0 in
     met_rolled c.args.book.now c.meet-met.new.orders c.args.rows.now c.meet-met.new.rows (as_order c.args.o) c.meet-met.result
     c.requires.0 c.requires.1 c.meet-met.ensures _ _ _
     (ap answer_of c.in-Done.is) (c.meet-met.auto.orders ∙ mid_len orders_start amounts_start c.args.book.now (omega arith))

@@ -6,21 +6,18 @@ use Rattle.book.proofs.Laws.Order.OrderFitLaws.{sound_ranged, alone_length, zero
 use Rattle.book.proofs.ordering.order_fit.Goals as goal
 use Rattle.book.proofs.ordering.order_fit.Goals.{Start}
 
-ok : (c : Start) → Readable c.args.book.now
-ok c = sound_readable _ c.requires.0
-
 pub offset_bounds-amounts-wanted : goal.offset_bounds-amounts-wanted
-offset_bounds-amounts-wanted c = let r = ok (goal.at.offset_bounds-amounts-wanted c).Start in omega arith
+offset_bounds-amounts-wanted c = let r = sound_readable _ c.requires.0 in omega arith
 
 pub bounds-amounts-wanted : goal.bounds-amounts-wanted
-bounds-amounts-wanted c = let r = ok (goal.at.bounds-amounts-wanted c).Start in omega arith
+bounds-amounts-wanted c = let r = sound_readable _ c.requires.0 in omega arith
 
 pub raises_net-requires : goal.raises_net-requires
-raises_net-requires c = (ok (goal.at.raises_net-requires c).Start, c.requires.1.from, c.requires.1.upto)
+raises_net-requires c = (sound_readable _ c.requires.0, c.requires.1.from, c.requires.1.upto)
 
 pub misfit-requires : goal.misfit-requires
 misfit-requires c =
-    let r = ok (goal.at.misfit-requires c).Start in record {
+    let r = sound_readable _ c.requires.0 in record {
       book_value = (c.requires.0, sound_ranged _ c.requires.0, c.requires.1.from, c.requires.1.upto);
       raising_len = (
         alone_length 744 c.args.wanted.period c.args.wanted.quantity.0,
@@ -33,13 +30,13 @@ misfit-requires c =
 
 pub returns-then-raises_net : goal.returns-then-raises_net
 returns-then-raises_net c =
-    let r = ok (goal.at.returns-then-raises_net c).Start in
+    let r = sound_readable _ c.requires.0 in
     fit_raising _ c.requires.0 744 _ _ _ _ _ c.requires.1.from c.requires.1.upto (omega arith) (sym c.raises_net.ensures
     ∙ c.if-raises_net.true) c.misfit.ensures
 
 pub misfit-requires-2 : goal.misfit-requires-2
 misfit-requires-2 c =
-    let r = ok (goal.at.misfit-requires-2 c).Start in record {
+    let r = sound_readable _ c.requires.0 in record {
       book_value = (c.requires.0, sound_ranged _ c.requires.0, c.requires.1.from, c.requires.1.upto);
       raising_len = (
         refl,
@@ -52,6 +49,6 @@ misfit-requires-2 c =
 
 pub returns : goal.returns
 returns c =
-    let r = ok (goal.at.returns c).Start in
+    let r = sound_readable _ c.requires.0 in
     fit_lowering _ c.requires.0 744 _ _ _ _ _ c.requires.1.from c.requires.1.upto (omega arith) c.requires.1.direction (sym c.raises_net.ensures
     ∙ c.if-raises_net.false) c.misfit-2.ensures

@@ -9,18 +9,15 @@ use Rattle.book.proofs.Laws.Order.RestWaitLaws.{put_same}
 use Rattle.book.proofs.ordering.order_in_call.Goals as goal
 use Rattle.book.proofs.ordering.order_in_call.Goals.{After-slice_known-2-1, Start}
 
-ok : (c : Start) → Readable c.args.book.now
-ok c = sound_readable _ c.requires.0
-
 pub bounds-book-4 : goal.bounds-book-4
-bounds-book-4 c = let r = ok (goal.at.bounds-book-4 c).Start in omega arith
+bounds-book-4 c = let r = sound_readable _ c.requires.0 in omega arith
 
 pub append-requires : goal.append-requires
-append-requires c = let r = ok (goal.at.append-requires c).Start in (omega arith, omega arith)
+append-requires c = let r = sound_readable _ c.requires.0 in (omega arith, omega arith)
 
 pub next_number-requires : goal.next_number-requires
 next_number-requires c =
-    let r = ok (goal.at.next_number-requires c).Start in
+    let r = sound_readable _ c.requires.0 in
     let h = c.append.ensures in
     let a = h.low GIVEN (omega arith) (omega arith) in
     let l = h.long in
@@ -28,7 +25,7 @@ next_number-requires c =
 
 pub returns : goal.returns
 returns c =
-    let r = ok (goal.at.returns c).Start in
+    let r = sound_readable _ c.requires.0 in
     let h = put_same _ _ c.fresh-o.ensures _ _ c.append.ensures in
     let n = c.next_number.ensures in (
       called c.args.book.now _ _ _ _ _ _ _ r.units_to r.offers_to h n.0,

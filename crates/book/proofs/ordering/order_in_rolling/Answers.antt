@@ -17,11 +17,8 @@ use Rattle.book.proofs.Laws.Order.RestWaitLaws.{waits_same, rolled_same}
 use Rattle.book.proofs.ordering.order_in_rolling.Goals as goal
 use Rattle.book.proofs.ordering.order_in_rolling.Goals.{Start}
 
-ok : (c : Start) → Readable c.args.book.now
-ok c = sound_readable _ c.requires.0
-
 pub bounds-book-4 : goal.bounds-book-4
-bounds-book-4 c = let r = ok (goal.at.bounds-book-4 c).Start in omega arith
+bounds-book-4 c = let r = sound_readable _ c.requires.0 in omega arith
 
 pub overflow_add-number : goal.overflow_add-number
 overflow_add-number c =

@@ -11,24 +11,21 @@ use Rattle.book.proofs.Laws.Clear.ClearEffectLaws.{clear_fits, swept}
 use Rattle.book.proofs.periods.sweep.Goals as goal
 use Rattle.book.proofs.periods.sweep.Goals.{Start}
 
-ok : (c : Start) → Readable c.args.book.now
-ok c = sound_readable _ c.requires.0
-
 pub bounds-book-7 : goal.bounds-book-7
-bounds-book-7 c = let r = ok (goal.at.bounds-book-7 c).Start in omega arith
+bounds-book-7 c = let r = sound_readable _ c.requires.0 in omega arith
 
 pub bounds-book-0 : goal.bounds-book-0
-bounds-book-0 c = let r = ok (goal.at.bounds-book-0 c).Start in omega arith
+bounds-book-0 c = let r = sound_readable _ c.requires.0 in omega arith
 
 pub overflow_mul-end : goal.overflow_mul-end
-overflow_mul-end c = let r = ok (goal.at.overflow_mul-end c).Start in omega arith
+overflow_mul-end c = let r = sound_readable _ c.requires.0 in omega arith
 
 pub slice_bounds-clear_periods-end : goal.slice_bounds-clear_periods-end
-slice_bounds-clear_periods-end c = let r = ok (goal.at.slice_bounds-clear_periods-end c).Start in omega arith
+slice_bounds-clear_periods-end c = let r = sound_readable _ c.requires.0 in omega arith
 
 pub bounds-book-7-in-Done : goal.bounds-book-7-in-Done
 bounds-book-7-in-Done c =
-    let r = ok (goal.at.bounds-book-7-in-Done c).Start in omega arith
+    let r = sound_readable _ c.requires.0 in omega arith
 
 pub returns-in-Unfit : goal.returns-in-Unfit
 returns-in-Unfit c =
@@ -37,7 +34,7 @@ returns-in-Unfit c =
 
 pub returns-in-Done : goal.returns-in-Done
 returns-in-Done c =
-    let r = ok (goal.at.returns-in-Done c).Start in
+    let r = sound_readable _ c.requires.0 in
     let t = c.clear_periods-t in
     swept _ _ _ _ _ _ c.requires.0 (t.auto.orders ∙ mid_len orders_start amounts_start c.args.book.now (omega arith))
     (all_gives _ _ _ _ _ _ _ _ _ (clear_fits _ _ c.requires.0 c.requires.1) t.ensures (ap (λ (a : Matched). (answer_of a).count) c.in-Done.is)

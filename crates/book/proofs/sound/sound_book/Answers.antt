@@ -7,23 +7,10 @@ use Rattle.book.specs.Inner.Readable.{Readable, Ranged}
 use Rattle.book.proofs.Laws.Memory.RangeFacts.{head_facts, readable}
 use Rattle.book.proofs.Laws.Check.SoundInLaws.{sound_fails, sound_by_open, never_short, ranged}
 use Rattle.book.proofs.sound.sound_book.Goals as goal
-use Rattle.book.proofs.sound.sound_book.Goals.{Else-book-days, Else-not-orders_in}
+use Rattle.book.proofs.sound.sound_book.Goals.{Else-not-orders_in}
 
--- what holds once the head and the length passed
-headed : (c : Else-book-days) → head_in (decode c.args.book.now) ≡ true
-headed c = sym c.head_in.ensures ∙ c.if-not-head_in.false
-
-long_enough : (c : Else-book-days) → book_words (word c.args.book.now DAYS) ≤ length
-    c.args.book.now
-long_enough c =
-    omega arith
-
-can_read : (c : Else-book-days) → Readable c.args.book.now
-can_read c = readable _ (head_facts _ (headed c)) (long_enough c)
-
--- and once the ranges passed
-in_range : (c : Else-not-orders_in)
-    → Ranged c.args.book.now
+-- what holds once the ranges passed
+in_range : (c : Else-not-orders_in) → Ranged c.args.book.now
 in_range c =
     ranged _ (omega arith) (sym c.head_in.ensures ∙ c.if-not-head_in.false)
     (sym c.units_in.ensures ∙ c.if-not-units_in.false)
@@ -51,35 +38,37 @@ pub returns-then-book-days : goal.returns-then-book-days
 returns-then-book-days c = sound_fails c.args.book.now (λ s. let l = s.long in omega arith)
 
 pub units_in-requires : goal.units_in-requires
-units_in-requires c = can_read (goal.at.units_in-requires c).Else-book-days
+units_in-requires c = readable _ (head_facts _ (sym c.head_in.ensures ∙ c.if-not-head_in.false)) (omega arith)
 
 pub returns-then-not-units_in : goal.returns-then-not-units_in
 returns-then-not-units_in c = sound_fails _ (λ s. not_both _ s.units (sym c.units_in.ensures ∙ c.if-not-units_in.true))
 
 pub offers_in-requires : goal.offers_in-requires
-offers_in-requires c = can_read (goal.at.offers_in-requires c).Else-book-days
+offers_in-requires c = readable _ (head_facts _ (sym c.head_in.ensures ∙ c.if-not-head_in.false)) (omega arith)
 
 pub returns-then-not-offers_in : goal.returns-then-not-offers_in
 returns-then-not-offers_in c = sound_fails _ (λ s. not_both _ s.offers (sym c.offers_in.ensures ∙ c.if-not-offers_in.true))
 
 pub orders_in-requires : goal.orders_in-requires
-orders_in-requires c = can_read (goal.at.orders_in-requires c).Else-book-days
+orders_in-requires c = readable _ (head_facts _ (sym c.head_in.ensures ∙ c.if-not-head_in.false)) (omega arith)
 
 pub returns-then-not-orders_in : goal.returns-then-not-orders_in
 returns-then-not-orders_in c = sound_fails _ (λ s. not_both _ s.orders (sym c.orders_in.ensures ∙ c.if-not-orders_in.true))
 
 pub numbers_differ-requires : goal.numbers_differ-requires
-numbers_differ-requires c = can_read (goal.at.numbers_differ-requires c).Else-book-days
+numbers_differ-requires c = readable _ (head_facts _ (sym c.head_in.ensures ∙ c.if-not-head_in.false)) (omega arith)
 
 pub returns-then-not-numbers_differ : goal.returns-then-not-numbers_differ
 returns-then-not-numbers_differ c = sound_fails _ (λ s. not_both _ s.numbers (sym c.numbers_differ.ensures ∙ c.if-not-numbers_differ.true))
 
 pub open_fit-requires : goal.open_fit-requires
-open_fit-requires c = (in_range (goal.at.open_fit-requires c).Else-not-orders_in, (head_facts _ (headed (goal.at.open_fit-requires c).Else-book-days)).ceiling)
+open_fit-requires c =
+    (in_range (goal.at.open_fit-requires c).Else-not-orders_in, (head_facts _ (sym c.head_in.ensures ∙ c.if-not-head_in.false)).ceiling)
 
 pub returns : goal.returns
 returns c =
-    let r = in_range ((goal.at.returns c).Else-not-orders_in) in
+    let h = sym c.head_in.ensures ∙ c.if-not-head_in.false in
+    let r = in_range (goal.at.returns c).Else-not-orders_in in
     c.open_fit.ensures
-    ∙ sound_by_open c.args.book.now (long_enough ((goal.at.returns c).Else-book-days)) c.if-book-ne-LAYOUT_NUMBER.false (headed ((goal.at.returns c).Else-book-days)) r.units r.offers r.orders
+    ∙ sound_by_open c.args.book.now (omega arith) c.if-book-ne-LAYOUT_NUMBER.false h r.units r.offers r.orders
     (sym c.numbers_differ.ensures ∙ c.if-not-numbers_differ.false)

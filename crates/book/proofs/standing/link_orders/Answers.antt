@@ -7,36 +7,26 @@ use Rattle.book.proofs.Laws.Check.LinkedLaws.{linking_none, linking_more, linkin
 use Rattle.book.proofs.standing.link_orders.Goals as goal
 use Rattle.book.proofs.standing.link_orders.Goals.{In-loop-k, Start}
 
--- the order in turn is in range, and its keys have places
-words : (c : In-loop-k) → OrderWords c.args.book.now c.loop-k.k
-words c = order_words_lem _ _ c.requires.0 c.loop-k-test.true
-
-day : (c : In-loop-k) → by_day c.args.book.now c.loop-k.k < length c.args.last.now
-day c = omega (arith, day_key c.args.book.now c.loop-k.k c.requires.0 c.loop-k-test.true)
-
-period : (c : In-loop-k) → by_period c.args.book.now c.loop-k.k < length c.args.firsts.now
-period c = omega (arith, period_key c.args.book.now c.loop-k.k c.requires.0 c.loop-k-test.true)
-
 pub loop-k-init : goal.loop-k-init
 loop-k-init c = let g = c.requires in (linking_none _ _ _ _ g.3, linking_none _ _ _ _ g.6)
 
 pub overflow_mul-v : goal.overflow_mul-v
-overflow_mul-v c = omega (arith, (words (goal.at.overflow_mul-v c).In-loop-k).period, c.requires.0.readable.days_to)
+overflow_mul-v c = omega (arith, (order_words_lem _ _ c.requires.0 c.loop-k-test.true).period, c.requires.0.readable.days_to)
 
 pub overflow_sub-v : goal.overflow_sub-v
-overflow_sub-v c = omega (arith, (words (goal.at.overflow_sub-v c).In-loop-k).unit)
+overflow_sub-v c = omega (arith, (order_words_lem _ _ c.requires.0 c.loop-k-test.true).unit)
 
 pub overflow_add-v-in-loop-k : goal.overflow_add-v-in-loop-k
 overflow_add-v-in-loop-k c =
-    let w = words (goal.at.overflow_add-v-in-loop-k c).In-loop-k in let r = c.requires.0.readable in omega (arith, w.unit, w.period, r.units_to, r.days_to)
+    let w = order_words_lem _ _ c.requires.0 c.loop-k-test.true in let r = c.requires.0.readable in omega (arith, w.unit, w.period, r.units_to, r.days_to)
 
 pub offset_bounds-last-v : goal.offset_bounds-last-v
 unfolding by_day
-offset_bounds-last-v c = omega (arith, day (goal.at.offset_bounds-last-v c).In-loop-k)
+offset_bounds-last-v c = omega (arith, day_key c.args.book.now c.loop-k.k c.requires.0 c.loop-k-test.true)
 
 pub bounds-last-v : goal.bounds-last-v
 unfolding by_day
-bounds-last-v c = omega (arith, day (goal.at.bounds-last-v c).In-loop-k, c.loop-k.invariant.0.lasts)
+bounds-last-v c = omega (arith, day_key c.args.book.now c.loop-k.k c.requires.0 c.loop-k-test.true, c.loop-k.invariant.0.lasts)
 
 pub bounds-own-k : goal.bounds-own-k
 bounds-own-k c =
@@ -44,19 +34,19 @@ bounds-own-k c =
 
 pub offset_bounds-last-v-in-loop-k : goal.offset_bounds-last-v-in-loop-k
 unfolding by_day
-offset_bounds-last-v-in-loop-k c = omega (arith, day (goal.at.offset_bounds-last-v-in-loop-k c).In-loop-k)
+offset_bounds-last-v-in-loop-k c = omega (arith, day_key c.args.book.now c.loop-k.k c.requires.0 c.loop-k-test.true)
 
 pub bounds-last-v-in-loop-k : goal.bounds-last-v-in-loop-k
 unfolding by_day
-bounds-last-v-in-loop-k c = omega (arith, day (goal.at.bounds-last-v-in-loop-k c).In-loop-k, c.loop-k.invariant.0.lasts)
+bounds-last-v-in-loop-k c = omega (arith, day_key c.args.book.now c.loop-k.k c.requires.0 c.loop-k-test.true, c.loop-k.invariant.0.lasts)
 
 pub offset_bounds-firsts-p : goal.offset_bounds-firsts-p
 unfolding by_period
-offset_bounds-firsts-p c = omega (arith, period (goal.at.offset_bounds-firsts-p c).In-loop-k)
+offset_bounds-firsts-p c = omega (arith, period_key c.args.book.now c.loop-k.k c.requires.0 c.loop-k-test.true)
 
 pub bounds-firsts-p : goal.bounds-firsts-p
 unfolding by_period
-bounds-firsts-p c = omega (arith, period (goal.at.bounds-firsts-p c).In-loop-k, c.loop-k.invariant.1.lasts)
+bounds-firsts-p c = omega (arith, period_key c.args.book.now c.loop-k.k c.requires.0 c.loop-k-test.true, c.loop-k.invariant.1.lasts)
 
 pub bounds-peers-k : goal.bounds-peers-k
 bounds-peers-k c =
@@ -64,11 +54,11 @@ bounds-peers-k c =
 
 pub offset_bounds-firsts-p-in-loop-k : goal.offset_bounds-firsts-p-in-loop-k
 unfolding by_period
-offset_bounds-firsts-p-in-loop-k c = omega (arith, period (goal.at.offset_bounds-firsts-p-in-loop-k c).In-loop-k)
+offset_bounds-firsts-p-in-loop-k c = omega (arith, period_key c.args.book.now c.loop-k.k c.requires.0 c.loop-k-test.true)
 
 pub bounds-firsts-p-in-loop-k : goal.bounds-firsts-p-in-loop-k
 unfolding by_period
-bounds-firsts-p-in-loop-k c = omega (arith, period (goal.at.bounds-firsts-p-in-loop-k c).In-loop-k, c.loop-k.invariant.1.lasts)
+bounds-firsts-p-in-loop-k c = omega (arith, period_key c.args.book.now c.loop-k.k c.requires.0 c.loop-k-test.true, c.loop-k.invariant.1.lasts)
 
 pub loop-k-preserved : goal.loop-k-preserved
 unfolding by_day by_period
@@ -76,8 +66,8 @@ loop-k-preserved c =
     let t = c.loop-k-test.true in
     let i = c.loop-k.invariant in
     let g = c.requires in (
-      linking_more _ _ _ _ _ _ _ i.0 _ refl t (day (goal.at.loop-k-preserved c).In-loop-k) (omega (arith, t, g.2)),
-      linking_more _ _ _ _ _ _ _ i.1 _ refl t (period (goal.at.loop-k-preserved c).In-loop-k) (omega (arith, t, g.5)),
+      linking_more _ _ _ _ _ _ _ i.0 _ refl t (omega (arith, day_key c.args.book.now c.loop-k.k c.requires.0 t)) (omega (arith, t, g.2)),
+      linking_more _ _ _ _ _ _ _ i.1 _ refl t (omega (arith, period_key c.args.book.now c.loop-k.k c.requires.0 t)) (omega (arith, t, g.5)),
     )
 
 pub shape_of-last : goal.shape_of-last

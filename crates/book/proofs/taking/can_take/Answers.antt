@@ -5,9 +5,6 @@ use Rattle.book.proofs.Laws.Memory.TestLaws.{within_most, over_most, settles}
 use Rattle.book.proofs.taking.can_take.Goals as goal
 use Rattle.book.proofs.taking.can_take.Goals.{Else-not-at_most}
 
-enough : (c : Else-not-at_most) → c.args.quantity.0 ≤ c.offer_total-whole.result.0
-enough c = within_most c.at_most.ensures c.if-not-at_most.false
-
 pub returns-then-not-at_most : goal.returns-then-not-at_most
 returns-then-not-at_most c =
     takes_past _ _ _ _ _ c.offer_total-whole.ensures c.requires.6 (over_most c.at_most.ensures c.if-not-at_most.true)
@@ -19,7 +16,7 @@ returns-then-partner-unit c =
 pub returns-then-partner-ne0 : goal.returns-then-partner-ne0
 returns-then-partner-ne0 c =
     let w = c.offer_total-whole in
-    let le = enough (goal.at.returns-then-partner-ne0 c).Else-not-at_most in
+    let le = within_most c.at_most.ensures c.if-not-at_most.false in
     let e = c.at_most-then-partner-ne0.ensures in
     settles _ _
     (λ t. let ge : w.result.0 ≤ c.args.quantity.0 = within_most e t in
@@ -29,12 +26,12 @@ returns-then-partner-ne0 c =
 
 pub returns-then-own : goal.returns-then-own
 returns-then-own c =
-    takes_load _ _ _ _ _ c.offer_total-whole.ensures c.requires.6 (omega arith) (enough (goal.at.returns-then-own c).Else-not-at_most) _
+    takes_load _ _ _ _ _ c.offer_total-whole.ensures c.requires.6 (omega arith) (within_most c.at_most.ensures c.if-not-at_most.false) _
     (sym c.is_generator-own.ensures ∙ c.if-own.true)
     c.is_generator-other.ensures
 
 pub returns : goal.returns
 returns c =
-    takes-generator _ _ _ _ _ c.offer_total-whole.ensures c.requires.6 (omega arith) (enough (goal.at.returns c).Else-not-at_most) _
+    takes-generator _ _ _ _ _ c.offer_total-whole.ensures c.requires.6 (omega arith) (within_most c.at_most.ensures c.if-not-at_most.false) _
     (sym c.is_generator-own.ensures ∙ c.if-own.false)
     c.is_generator-other.ensures

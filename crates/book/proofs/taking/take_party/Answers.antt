@@ -6,10 +6,6 @@ use Rattle.measures.specs.Ranges.{most_energy}
 use Rattle.measures.proofs.RangeLaws.{In}
 use Rattle.book.proofs.Laws.Memory.TestLaws.{within_most, is_some, deny_over, deny_none}
 use Rattle.book.proofs.taking.take_party.Goals as goal
-use Rattle.book.proofs.taking.take_party.Goals.{Else-not-in_range}
-
-energy : (c : Else-not-in_range) → In 1 most_energy c.args.quantity.0
-energy c = (is_some c.is_zero.ensures c.if-is_zero.false, within_most c.in_range.ensures c.if-not-in_range.false)
 
 pub returns-then-unit-lt1 : goal.returns-then-unit-lt1
 returns-then-unit-lt1 c = party_unknown _ _ _ _ _ (omega arith)
@@ -34,18 +30,21 @@ find_offer-j-requires c = sound_readable _ c.requires
 
 pub returns-then-j : goal.returns-then-j
 returns-then-j c =
-    party_none _ _ _ _ _ (omega arith) (omega arith) (energy (goal.at.returns-then-j c).Else-not-in_range) c.requires _ c.find_offer-j.ensures (omega arith)
+    let e : In 1 most_energy c.args.quantity.0 = (is_some c.is_zero.ensures c.if-is_zero.false, within_most c.in_range.ensures c.if-not-in_range.false) in
+    party_none _ _ _ _ _ (omega arith) (omega arith) e c.requires _ c.find_offer-j.ensures (omega arith)
 
 pub can_take-requires : goal.can_take-requires
 can_take-requires c =
-    can_asks _ _ _ _ _ c.requires c.find_offer-j.ensures (omega arith) (omega arith) (energy (goal.at.can_take-requires c).Else-not-in_range).1
+    can_asks _ _ _ _ _ c.requires c.find_offer-j.ensures (omega arith) (omega arith) (within_most c.in_range.ensures c.if-not-in_range.false)
 
 pub returns-then-not-can_take : goal.returns-then-not-can_take
 returns-then-not-can_take c =
-    party_cannot _ _ _ _ _ (omega arith) (omega arith) (energy (goal.at.returns-then-not-can_take c).Else-not-in_range) c.requires _ c.find_offer-j.ensures (omega arith)
+    let e : In 1 most_energy c.args.quantity.0 = (is_some c.is_zero.ensures c.if-is_zero.false, within_most c.in_range.ensures c.if-not-in_range.false) in
+    party_cannot _ _ _ _ _ (omega arith) (omega arith) e c.requires _ c.find_offer-j.ensures (omega arith)
     (sym c.can_take.ensures ∙ c.if-not-can_take.true)
 
 pub returns : goal.returns
 returns c =
-    party_passed _ _ _ _ _ (omega arith) (omega arith) (energy (goal.at.returns c).Else-not-in_range) c.requires _ c.find_offer-j.ensures (omega arith)
+    let e : In 1 most_energy c.args.quantity.0 = (is_some c.is_zero.ensures c.if-is_zero.false, within_most c.in_range.ensures c.if-not-in_range.false) in
+    party_passed _ _ _ _ _ (omega arith) (omega arith) e c.requires _ c.find_offer-j.ensures (omega arith)
     (sym c.can_take.ensures ∙ c.if-not-can_take.false)

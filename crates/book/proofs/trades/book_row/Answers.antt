@@ -7,19 +7,16 @@ use Rattle.book.proofs.Laws.Rows.BookingLaws.{row_traded, seller-asks, buyer-ask
 use Rattle.book.proofs.trades.book_row.Goals as goal
 use Rattle.book.proofs.trades.book_row.Goals.{After-row_at-row}
 
-fits : (c : After-row_at-row) → RowFits c.args.book.now (as_row c.row_at-row.result)
-fits c = subst (λ (r : Row). RowFits c.args.book.now r) (sym c.row_at-row.ensures) c.requires.3
-
 pub book_trade-requires : goal.book_trade-requires
 book_trade-requires c =
-    seller-asks c.args.book.now (as_row c.row_at-row.result) c.requires.0 (fits (goal.at.book_trade-requires c).After-row_at-row) c.requires.4
+    seller-asks c.args.book.now (as_row c.row_at-row.result) c.requires.0 (subst (λ (r : Row). RowFits c.args.book.now r) (sym c.row_at-row.ensures) c.requires.3) c.requires.4
 
 pub book_trade-requires-2 : goal.book_trade-requires-2
 book_trade-requires-2 c =
-    buyer-asks c.args.book.now _ (as_row c.row_at-row.result) c.requires.0 (fits (goal.at.book_trade-requires-2 c).After-row_at-row) c.requires.4 c.book_trade.ensures
+    buyer-asks c.args.book.now _ (as_row c.row_at-row.result) c.requires.0 (subst (λ (r : Row). RowFits c.args.book.now r) (sym c.row_at-row.ensures) c.requires.3) c.requires.4 c.book_trade.ensures
 
 pub returns : goal.returns
 returns c =
     subst (λ (r : Row). RowTraded c.args.book.now c.book_trade-2.new.book r) c.row_at-row.ensures
-    (row_traded _ _ _ (as_row c.row_at-row.result) (fits (goal.at.returns c).After-row_at-row) c.book_trade.ensures
+    (row_traded _ _ _ (as_row c.row_at-row.result) (subst (λ (r : Row). RowFits c.args.book.now r) (sym c.row_at-row.ensures) c.requires.3) c.book_trade.ensures
     c.book_trade-2.ensures)

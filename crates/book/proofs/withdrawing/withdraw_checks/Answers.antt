@@ -6,15 +6,12 @@ use Rattle.book.proofs.Laws.Withdraw.OfferPlaceLaws.{withdraw_unknown, withdraw_
 use Rattle.book.proofs.withdrawing.withdraw_checks.Goals as goal
 use Rattle.book.proofs.withdrawing.withdraw_checks.Goals.{Start}
 
-ok : (c : Start) → Readable c.args.book.now
-ok c = sound_readable _ c.requires
-
 pub returns-then-unit-lt1 : goal.returns-then-unit-lt1
 returns-then-unit-lt1 c =
     withdraw_unknown c.args.book.now c.requires c.args.number c.args.unit (λ h. omega (arith, h.0, c.if-unit-lt1.true))
 
 pub bounds-book-5 : goal.bounds-book-5
-bounds-book-5 c = let r = ok (goal.at.bounds-book-5 c).Start in omega arith
+bounds-book-5 c = let r = sound_readable _ c.requires in omega arith
 
 pub returns-then-book-unit : goal.returns-then-book-unit
 returns-then-book-unit c =
@@ -22,12 +19,12 @@ returns-then-book-unit c =
 
 pub find_offer-j-requires : goal.find_offer-j-requires
 find_offer-j-requires c =
-    ok (goal.at.find_offer-j-requires c).Start
+    sound_readable _ c.requires
 
 pub returns-then-j : goal.returns-then-j
 returns-then-j c =
     withdraw_absent c.args.book.now c.requires c.args.number c.args.unit (c.if-unit-lt1.false, c.if-book-unit.false)
-    (λ k l. c.find_offer-j.ensures.unmet k l (omega (arith, c.if-j.true, (ok (goal.at.returns-then-j c).Start).offers_to)))
+    (λ k l. c.find_offer-j.ensures.unmet k l (omega (arith, c.if-j.true, (sound_readable _ c.requires).offers_to)))
 
 pub overflow_mul-j : goal.overflow_mul-j
 overflow_mul-j c = omega (arith, c.if-j.false)
@@ -40,7 +37,7 @@ offset_bounds-book-j c = omega (arith, c.if-j.false)
 
 pub bounds-book-j : goal.bounds-book-j
 bounds-book-j c =
-    let r = ok (goal.at.bounds-book-j c).Start in
+    let r = sound_readable _ c.requires in
     omega (arith, c.if-j.false, r.days_from, r.long)
 
 pub returns-then-book-j : goal.returns-then-book-j
@@ -60,7 +57,7 @@ offset_bounds-book-j-2 c = omega (arith, c.if-j.false)
 
 pub bounds-book-j-2 : goal.bounds-book-j-2
 bounds-book-j-2 c =
-    let r = ok (goal.at.bounds-book-j-2 c).Start in
+    let r = sound_readable _ c.requires in
     omega (arith, c.if-j.false, r.days_from, r.long)
 
 pub returns-then-book-j-eq1 : goal.returns-then-book-j-eq1

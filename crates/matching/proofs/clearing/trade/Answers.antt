@@ -7,13 +7,10 @@ use Rattle.matching.proofs.Laws.Clearing.StepLaws.{sides_few, bids_at_margin, as
 use Rattle.matching.proofs.clearing.trade.Goals as goal
 use Rattle.matching.proofs.clearing.trade.Goals.{After-shared_slice_known-1, After-shared_slice_known-2-1, After-slice_known-1, Start}
 
-fit-here : (s : Start) → Fit s.args.orders.now s.args.rows.now s.args.n
-fit-here s = fit_gives _ _ _ s.requires.0
-
 pub fill-fb-requires : goal.fill-fb-requires
 fill-fb-requires c =
     let a = c.args in
-    let f = fit-here (goal.at.fill-fb-requires c).Start in (
+    let f = fit_gives _ _ _ c.requires.0 in (
       f.inside,
       f.few,
       omega arith,
@@ -27,7 +24,7 @@ fill-fb-requires c =
 pub fill-fa-requires : goal.fill-fa-requires
 fill-fa-requires c =
     let a = c.args in
-    let f = fit-here (goal.at.fill-fa-requires c).Start in (
+    let f = fit_gives _ _ _ c.requires.0 in (
       f.inside,
       f.few,
       omega arith,
@@ -40,7 +37,7 @@ fill-fa-requires c =
 
 pub put_overlaps-count-requires : goal.put_overlaps-count-requires
 put_overlaps-count-requires c =
-    let f = fit-here (goal.at.put_overlaps-count-requires c).Start in
+    let f = fit_gives _ _ _ c.requires.0 in
     let w = sides_few _ _ _ _ _ _ _ c.requires.2 c.requires.3 in
     let x = c.fill-fb.ensures.0 in
     let y = c.fill-fa.ensures.0 in
@@ -48,7 +45,7 @@ put_overlaps-count-requires c =
 
 pub leave_rests-standing-requires : goal.leave_rests-standing-requires
 leave_rests-standing-requires c =
-    let f = fit-here (goal.at.leave_rests-standing-requires c).Start in
+    let f = fit_gives _ _ _ c.requires.0 in
     (f.inside, f.few, f.rises, c.fill-fb.ensures.1, c.fill-fa.ensures.1)
 
 pub returns : goal.returns

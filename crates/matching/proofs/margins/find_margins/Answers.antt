@@ -2,7 +2,8 @@
 use mathlib.Core.Path.{sym, ◌∙◌}
 use native.Mathlib.Omega.{arith}
 use Rattle.matching.proofs.Laws.Laying.LayingLaws.{stand_below}
-use Rattle.matching.proofs.Laws.Clearing.PlaceLaws.{stand_here, walk_at_start, walk_at_bid, walk_at_ask, walk_at_takes, walk_at_bids_end, walk_at_asks_end, walk_at_apart, turns_bid, turns_ask, turns-take}
+use Rattle.matching.proofs.Laws.Clearing.PlaceLaws.{stand_here, walk_at_start, walk_at_bid, walk_at_ask, walk_at_takes}
+use Rattle.matching.proofs.Laws.Clearing.PlaceLaws.{walk_at_bids_end, walk_at_asks_end, walk_at_apart, turns_bid, turns_ask, turns-take}
 use borrow.Author.Tests.{eqb-true, eqb-false, leb-true, leb-false}
 use Rattle.matching.proofs.margins.find_margins.Goals as goal
 
