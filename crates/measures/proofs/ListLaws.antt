@@ -50,6 +50,10 @@ pub or_right : (a b : Bool) → b ≡ true → (a || b) ≡ true
 or_right true b e = refl
 or_right false b e = e
 
+pub or_neither : (a b : Bool) → (a || b) ≡ false → (a ≡ false) × (b ≡ false)
+or_neither true b e = both_ways e
+or_neither false b e = (refl, e)
+
 pub or_other : (a b : Bool) → (a || b) ≡ true → a ≡ false → b ≡ true
 or_other true b e f = both_ways f
 or_other false b e f = e
@@ -341,6 +345,12 @@ sum_first (suc n) f = let t = sum_first n f in omega arith
 pub total_at : (l : List ℕ) → total l ≡ sum (length l) (λ i. get_or l i 0)
 total_at [] = sym (sum_none _)
 total_at (x ∷ l) = rw (total_at l) (sym (sum_first (length l) (λ i. get_or (x ∷ l) i 0)))
+
+-- an amount is at most the total
+pub amount_le : (l : List ℕ) (i : ℕ) → get_or l i 0 ≤ total l
+amount_le [] i = omega arith
+amount_le (x ∷ l) zero = omega arith
+amount_le (x ∷ l) (suc i) = let t = amount_le l i in omega arith
 
 pub total-table : (n : ℕ) (f : ℕ → ℕ) → total (table n f) ≡ sum n f
 total-table n f = total-sum_of (table n f) ∙ sum_of-table (λ x. x) n f

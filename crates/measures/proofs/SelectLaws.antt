@@ -13,7 +13,7 @@ use Rattle.measures.specs.Ranges.{most_energy}
 use Rattle.measures.specs.Lists.{sum, one, count}
 use Rattle.measures.specs.Sharing.{total, rounded, fraction, before, ahead, part, parts}
 use Rattle.measures.specs.Inner.Cuts.{Shareable, half, packed, rest, reach, ties, Edged, Written, Divided, settled}
-use Rattle.measures.proofs.ListLaws.{sum_none, sum_more, sum_ext, sum_at, sum_prefix, total_at}
+use Rattle.measures.proofs.ListLaws.{sum_none, sum_more, sum_ext, sum_prefix, amount_le}
 use Rattle.measures.proofs.LargestLaws.{reach_past, chosen_early, chosen_late}
 use Rattle.measures.proofs.SharingLaws.{rounded-sum, fraction-less, left_over-length, parts-length, part_at}
 
@@ -48,13 +48,10 @@ written_is l m m' room same w = ext_get_or 0 m' (l ++ drop (length l) m) long (�
         ∙ sym (ap (λ (k : ℕ). get_or (l ++ drop (length l) m) k 0) e ∙ get_or-append-add l (drop (length l) m) (j - length l) 0
         ∙ get_or-drop (length l) m (j - length l) 0 ∙ ap (λ (k : ℕ). get_or m k 0) (sym e))
 
--- an amount is at most the sum, and a rounded part at most d
-pub amount_le : (rs : List ℕ) (i : ℕ) → i < length rs → get_or rs i 0 ≤ total rs
-amount_le rs i h = rw (total_at rs) (sum_at (length rs) (λ j. get_or rs j 0) i h)
-
+-- a rounded part is at most d
 rounded_le : (d : ℕ) (rs : List ℕ) (i : ℕ) → i < length rs → rounded d rs i ≤ d
 rounded_le d rs i h =
-    let l : d * get_or rs i 0 ≤ total rs * d = rw (mul_comm (total rs) d) (mul-le-mul_left d (amount_le rs i h)) in
+    let l : d * get_or rs i 0 ≤ total rs * d = rw (mul_comm (total rs) d) (mul-le-mul_left d (amount_le rs i)) in
     div-le_of_le-mul (total rs) l
 
 -- `divide`

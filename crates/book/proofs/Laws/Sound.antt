@@ -3,3 +3,4 @@ pub mod FormedLaws
 pub mod FitLaws
 pub mod OpenLaws
 pub mod DeclareLaws
+pub mod RangedLaws

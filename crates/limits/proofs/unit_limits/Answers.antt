@@ -1,9 +1,7 @@
 -- `unit_limits`: a law of `limits_at` for each way out.
-use Prim.Native.Nat.{◌≤◌, ◌<◌}
 use mathlib.Core.Path.{sym, ◌∙◌}
 use native.Mathlib.Omega.{arith}
 use borrow.Author.Tests.{leb-true, leb-false}
-use Rattle.measures.specs.Ranges.{most_energy}
 use Rattle.limits.proofs.LimitLaws.{term-most, no_days, no_kind, no_capacity, no_asset, no_period, all_in}
 use Rattle.limits.proofs.unit_limits.Goals as goal
 use Rattle.limits.proofs.unit_limits.Goals.{Else-not-in_range, Then-not-in_range}

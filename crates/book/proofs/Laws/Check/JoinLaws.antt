@@ -1,5 +1,5 @@
 -- The fit of a unit in memory is that of the decoded book.
-use Rattle.std.proofs.Common.{◌≡◌, ℕ, ◌+◌, ◌-◌, ◌*◌, ◌<◌, ◌≤◌, Bool, true, false, cond, ◌&&◌, eqb, leb, List, get_or, sym, refl, ap, ◌∙◌, arith}
+use Rattle.std.proofs.Common.{◌≡◌, ℕ, ◌+◌, ◌-◌, ◌<◌, ◌≤◌, Bool, true, false, cond, ◌&&◌, eqb, leb, List, get_or, sym, refl, ap, ◌∙◌, arith}
 use Rattle.measures.specs.Lists.{holds, sum, every, all}
 use Rattle.measures.proofs.RangeLaws.{In}
 use Rattle.measures.proofs.ListLaws.{all_ext, sum_ext, sum_of-table, every-table, table_at}
@@ -24,27 +24,10 @@ use Rattle.book.specs.Fit.{
   term_fits,
   volume_fits,
 }
-use Rattle.book.specs.Layout.{
-  DAYS,
-  UNITS,
-  OFFERS,
-  ORDERS,
-  unit_place,
-  offer_place,
-  order_place,
-  UNIT,
-  figure_place,
-  LOWERED,
-  word,
-  figures_at,
-  amount_at,
-  offer_at,
-  orders_part,
-  decode,
-}
+use Rattle.book.specs.Layout.{DAYS, UNITS, OFFERS, ORDERS, unit_place, offer_place, UNIT, figure_place, LOWERED, word, figures_at, amount_at, offer_at, orders_part, decode}
 use Rattle.book.specs.Inner.Readable.{marks_in, unit_whole, declared, misfit_of, Fitted}
 use Rattle.book.specs.Inner.Fitting.{Added, order_share, offer_share, mark_holds, hour_holds, term_part, volume_part, term_at, volume_at, unit_holds, UnitCame}
-use Rattle.book.proofs.Laws.Memory.RangeFacts.{unit_at_lem, order_word}
+use Rattle.book.proofs.Laws.Memory.RangeFacts.{unit_at_lem, order_word_at}
 
 -- the direction that raises a unit of a kind, and the one that lowers it
 pub raises_by : (kind d : ℕ) → raises kind d ≡ eqb d (cond (generator kind) 0 1)
@@ -68,10 +51,9 @@ module _ (m : List ℕ) (u p : ℕ) where
       && f (order_at (orders_part m) k).direction) (order_at (orders_part m) k).quantity 0
       ≡ order_share m u direction k p
   unfolding order_share
-  order_is f direction k e h = rw (e (order_at (orders_part m) k).direction, at 1 (omega arith), at 2 (omega arith), at 3 (omega arith), at 5 (omega arith))
-    where
-      at : (i : ℕ) → i < 6 → get_or (orders_part m) (6 * k + i) 0 ≡ word m (order_place k + i)
-      at i l = order_word m (6 * k + i) (omega arith) ∙ ap (word m) (omega arith)
+  order_is f direction k e h =
+      let at = order_word_at m k h in
+      rw (e (order_at (orders_part m) k).direction, at 1 (omega arith), at 2 (omega arith), at 3 (omega arith), at 5 (omega arith))
 
   pub orders_open : (f : ℕ → Bool) (direction : ℕ) → ((d : ℕ) → f d ≡ eqb d direction) → word m ORDERS ≤ 256
       → open_orders f u p (decode m).orders ≡ sum (word m ORDERS) (λ k. order_share m u direction k p)

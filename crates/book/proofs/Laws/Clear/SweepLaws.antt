@@ -14,27 +14,16 @@ use Rattle.matching.proofs.Laws.Lists.SumLaws.{sum_of_le, sum_of_has}
 use Rattle.matching.proofs.Laws.Orders.ExchangeLaws.{Exchanged, is_of, open_of}
 use Rattle.book.specs.Book.{no_unit, Book, unit_of}
 use Rattle.book.specs.Trades.{raises, lowers}
-use Rattle.book.specs.Fit.{nothing, open_orders, open_raising, open_lowering}
+use Rattle.book.specs.Fit.{nothing, open_raising, open_lowering}
 use Rattle.book.proofs.Laws.Sound.FitLaws.{Fits}
 use Rattle.book.proofs.Laws.Sound.SoundLaws.{OrderRanges, UnitRanges, Sound}
 use Rattle.book.proofs.Laws.Clear.ClearedLaws.{rows_by_orders, clear_exchanged, clear_units}
+use Rattle.book.proofs.Laws.Sound.OpenLaws.{open_part}
 
 module _ {A : Type 0} (f : A → ℕ) where
   sum-most : (l : List A) → Each (λ x. f x ≤ 5_000_000) l → sum_of f l ≤ 5_000_000 * length l
   sum-most [] h = omega arith
   sum-most (x ∷ xs) h = let t = sum-most xs h.1 in let u = h.0 in omega arith
-
--- an order is among its unit's open orders of its period
-among : (f : ℕ → Bool) (os : List OpenOrder) (o : OpenOrder) → Has o os → f o.direction ≡ true → o.quantity ≤ open_orders f o.unit o.period os
-unfolding open_orders
-among f os o h e =
-    let w : OpenOrder → ℕ = λ x. cond (eqb x.unit o.unit && eqb x.period o.period && f x.direction) x.quantity 0 in
-    let t = sum_of_has w os o h in
-    let c : (eqb o.unit o.unit && eqb o.period o.period && f o.direction)
-    ≡ true = and_true (eqb o.unit o.unit && eqb o.period o.period) (f o.direction)
-    (and_true (eqb o.unit o.unit) (eqb o.period o.period) (eq-eqb o.unit o.unit refl) (eq-eqb o.period o.period refl)) e in
-    let q : w o ≡ o.quantity = cond-true (eqb o.unit o.unit && eqb o.period o.period && f o.direction) o.quantity 0 c refl in
-    omega arith
 
 -- either way an order raises or lowers
 raises_or_lowers : (k d : ℕ) → d ≤ 1 → lowers k d ≡ false → raises k d ≡ true
@@ -66,14 +55,14 @@ module _ (b : Book) (s : Sound b) where
 
       go : (l : Bool) → lowers k o.direction ≡ l → o.quantity ≤ 5_000_000
       go true e =
-          let t = among (lowers k) b.orders o h e in
+          let t = open_part (lowers k) b.orders o h e in
           let x = f.raising o.period r.period in
           let y = f.lowering o.period r.period in
           let c = hour_most k (unit_of b o.unit).capacity (hour_of o.period) in
           let m = capacity_most o.unit r.unit in
           omega arith
       go false e =
-          let t = among (raises k) b.orders o h (raises_or_lowers k o.direction r.direction e) in
+          let t = open_part (raises k) b.orders o h (raises_or_lowers k o.direction r.direction e) in
           let x = f.raising o.period r.period in
           let c = hour_most k (unit_of b o.unit).capacity (hour_of o.period) in
           let m = capacity_most o.unit r.unit in

@@ -22,7 +22,7 @@ use Rattle.measures.proofs.ListLaws.{
 use Rattle.limits.specs.Units.{most_days, most_capacity, periods, generator}
 use Rattle.matching.specs.Memory.{order_at, orders_in}
 use Rattle.matching.proofs.Laws.Orders.OrderLaws.{orders_length}
-use Rattle.book.specs.Book.{EnrolledUnit, Book, no_unit, unit_of}
+use Rattle.book.specs.Book.{EnrolledUnit, Book, no_unit, unit_of, OpenOffer, no_offer}
 use Rattle.book.specs.Sound.{head_in, bilateral_sides, offer_in, order_in}
 use Rattle.book.specs.Layout.{
   DAYS,
@@ -168,6 +168,14 @@ pub unit_at_lem : (m : List ℕ) (u : ℕ) → In 1 (word m UNITS) u → unit_of
 unfolding decode
 unit_at_lem m u h = table_at (word m UNITS) (unit_at m (word m DAYS)) (u - 1) no_unit (omega arith)
 
+-- the offer at a place, and its number
+pub offer_at_lem : (m : List ℕ) (j : ℕ) → j < word m OFFERS → get_or (decode m).offers j no_offer ≡ offer_at m (word m DAYS) j
+unfolding decode
+offer_at_lem m j h = table_at (word m OFFERS) (offer_at m (word m DAYS)) j no_offer h
+
+pub offer_number : (m : List ℕ) (j : ℕ) → j < word m OFFERS → (get_or (decode m).offers j no_offer).number ≡ word m (offer_place j)
+offer_number m j h = ap (λ (o : OpenOffer). o.number) (offer_at_lem m j h)
+
 pub kind_at : (m : List ℕ) (u : ℕ) → In 1 (word m UNITS) u → (unit_of (decode m) u).kind ≡ word m (unit_place (u - 1))
 kind_at m u h = ap (λ (x : EnrolledUnit). x.kind) (unit_at_lem m u h)
 
@@ -277,8 +285,8 @@ pub record OrderWords (m : List ℕ) (k : ℕ) : Type 0 where
   pub quantity : In 1 most_energy (word m (order_place k + QUANTITY))
 
 module _ (m : List ℕ) (k : ℕ) (h : k < 256) where
-  at : (i : ℕ) → i < 6 → get_or (orders_part m) (6 * k + i) 0 ≡ word m (order_place k + i)
-  at i l = order_word m (6 * k + i) (omega arith) ∙ ap (word m) (omega arith)
+  pub order_word_at : (i : ℕ) → i < 6 → get_or (orders_part m) (6 * k + i) 0 ≡ word m (order_place k + i)
+  order_word_at i l = order_word m (6 * k + i) (omega arith) ∙ ap (word m) (omega arith)
 
   at0 : get_or (orders_part m) (6 * k) 0 ≡ word m (order_place k)
   at0 = order_word m (6 * k) (omega arith)
@@ -289,11 +297,11 @@ module _ (m : List ℕ) (k : ℕ) (h : k < 256) where
       let t = all_true _ e in
       record {
         number = within 1 (word m GIVEN) _ (rw at0 at t.0);
-        unit = within 1 (word m UNITS) _ (rw (units_held m, at UNIT (omega arith)) at t.1.0);
-        direction = leb-true _ _ (rw (at DIRECTION (omega arith)) at t.1.1.0);
-        period = ltb-true _ _ (rw (at PERIOD (omega arith)) at t.1.1.1.0);
-        price = within (word m FLOOR) (word m CEILING) _ (rw (at PRICE (omega arith)) at t.1.1.1.1.0);
-        quantity = within 1 most_energy _ (rw (at QUANTITY (omega arith)) at t.1.1.1.1.1.0);
+        unit = within 1 (word m UNITS) _ (rw (units_held m, order_word_at UNIT (omega arith)) at t.1.0);
+        direction = leb-true _ _ (rw (order_word_at DIRECTION (omega arith)) at t.1.1.0);
+        period = ltb-true _ _ (rw (order_word_at PERIOD (omega arith)) at t.1.1.1.0);
+        price = within (word m FLOOR) (word m CEILING) _ (rw (order_word_at PRICE (omega arith)) at t.1.1.1.1.0);
+        quantity = within 1 most_energy _ (rw (order_word_at QUANTITY (omega arith)) at t.1.1.1.1.1.0);
       }
 
   pub order_holds : OrderWords m k → order_in (decode m) (order_at (orders_part m) k) ≡ true
@@ -302,14 +310,14 @@ module _ (m : List ℕ) (k : ℕ) (h : k < 256) where
       holds-all _ (
         rw at0 (inside 1 (word m GIVEN) _ w.number),
         (
-          rw (units_held m, at UNIT (omega arith)) (inside 1 (word m UNITS) _ w.unit),
+          rw (units_held m, order_word_at UNIT (omega arith)) (inside 1 (word m UNITS) _ w.unit),
           (
-            rw (at DIRECTION (omega arith)) (le-leb _ _ w.direction),
+            rw (order_word_at DIRECTION (omega arith)) (le-leb _ _ w.direction),
             (
-              rw (at PERIOD (omega arith)) (lt-ltb _ _ w.period),
+              rw (order_word_at PERIOD (omega arith)) (lt-ltb _ _ w.period),
               (
-                rw (at PRICE (omega arith)) (inside (word m FLOOR) (word m CEILING) _ w.price),
-                (rw (at QUANTITY (omega arith)) (inside 1 most_energy _ w.quantity), tt),
+                rw (order_word_at PRICE (omega arith)) (inside (word m FLOOR) (word m CEILING) _ w.price),
+                (rw (order_word_at QUANTITY (omega arith)) (inside 1 most_energy _ w.quantity), tt),
               ),
             ),
           ),

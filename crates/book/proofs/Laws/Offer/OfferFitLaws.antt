@@ -1,67 +1,27 @@
 -- What a sound book in memory gives of its units, and the fit of an offer's amounts.
-use Rattle.std.proofs.Common.{◌≡◌, ℕ, zero, suc, ◌+◌, ◌-◌, ◌<◌, ◌≤◌, true, List, [], ◌∷◌, length, get_or, set, sym, refl, ◌∙◌, arith, length-set, get_or-set_other, get_or-set_same}
+use Rattle.std.proofs.Common.{◌≡◌, ℕ, ◌+◌, ◌<◌, ◌≤◌, true, List, length, get_or, set, sym, refl, ◌∙◌, arith, length-set, get_or-set_other, get_or-set_same}
 use native.Mathlib.Decide.{dec_lt, ℕ_discrete}
 use lib.ListN.{get_or-eq_default}
 use Rattle.measures.specs.Ranges.{most_energy}
 use Rattle.measures.specs.Sharing.{total}
-use Rattle.measures.proofs.ListLaws.{all_true, holds-all, all_by, all_at, every_at, table_at}
+use Rattle.measures.proofs.ListLaws.{amount_le}
 use Rattle.measures.proofs.RangeLaws.{In}
-use Rattle.book.specs.Book.{no_unit}
-use Rattle.book.specs.Fit.{unit_fits}
-use Rattle.book.specs.Sound.{sound, unit_in}
-use Rattle.book.specs.Layout.{DAYS, UNITS, word, unit_at, decode}
-use Rattle.book.specs.Inner.Readable.{Ranged, unit_fields_in, marks_in, declared, Fitted, small}
+use Rattle.book.specs.Layout.{UNITS, word, decode}
+use Rattle.book.specs.Inner.Readable.{declared, Fitted, small}
 use Rattle.book.specs.Refusals.{first_refusal}
 use Rattle.book.specs.Contract.{sound_in}
 use Rattle.book.specs.Offer.{raising_amounts}
-use Rattle.book.proofs.Laws.Memory.RangeFacts.{units_held, unit_at_lem}
-use Rattle.book.proofs.Laws.Answer.MadeLaws.{sound-book, sound_readable}
 use Rattle.book.proofs.Laws.Check.MisfitLaws.{misfit_ext, misfit_declared}
 use Rattle.book.proofs.Laws.Offer.OfferChainLaws.{fit_of}
+use Rattle.book.proofs.Laws.Sound.RangedLaws.{sound_marks, sound_fits}
 
-module _ (m : List ℕ) (s : sound_in m ≡ true) where
-  -- each unit is in range, with today's directions
-  unit_in_lem : (k : ℕ) → k < word m UNITS → unit_in (word m DAYS) (unit_at m (word m DAYS) k) ≡ true
-  unfolding sound decode
-  unit_in_lem k h =
-      let t = all_true _ (sound-book m s) in
-      let l : k < length (decode m).units = omega (arith, units_held m) in
-      rw (table_at (word m UNITS) (unit_at m (word m DAYS)) k no_unit h) at (every_at (unit_in (word m DAYS)) (decode m).units k no_unit t.1.0 l)
-
-  fields : (k : ℕ) → k < word m UNITS → unit_fields_in m k ≡ true
-  unfolding unit_in unit_fields_in
-  fields k h = let t = all_true _ (unit_in_lem k h) in holds-all _ (t.0, (t.1.0, (t.1.1.0, tt)))
-
-  pub sound_ranged : Ranged m
-  unfolding sound
-  sound_ranged =
-      let t = all_true _ (sound-book m s) in
-      record { readable = sound_readable m s; units = all_by (word m UNITS) (unit_fields_in m) fields; offers = t.1.1.0; orders = t.1.1.1.0 }
-
-  module _ (u : ℕ) (h : In 1 (word m UNITS) u) where
-    pub sound_marks : marks_in (decode m) u ≡ true
-    unfolding marks_in unit_in
-    sound_marks = let t = all_true _ (unit_in_lem (u - 1) (omega arith)) in rw (unit_at_lem m u h) t.1.1.1.1.0
-
-    pub sound_fits : unit_fits (decode m) u ≡ true
-    unfolding sound
-    sound_fits =
-        let t = all_true _ (sound-book m s) in
-        let e : u - 1 + 1 ≡ u = omega arith in
-        rw e at (all_at (length (decode m).units) (λ k. unit_fits (decode m) (k + 1)) (u - 1) t.1.1.1.1.1.1.1.0 (omega (arith, units_held m)))
-
-    -- what the fit of lent amounts came to is the first of the three checks
-    pub offer_fits : (l raising lowering : List ℕ) (r : ℕ) → ((p : ℕ) → get_or raising p 0 ≡ get_or l p 0) → ((p : ℕ) → get_or lowering p 0 ≡ 0)
-        → Fitted (decode m) u (declared raising lowering) r → r ≡ first_refusal (fit_of (decode m) u l)
-    offer_fits l raising lowering r f g w =
-        w.clean sound_marks ∙ misfit_ext (decode m) u (declared raising lowering) (raising_amounts l) f g
-        ∙ misfit_declared (decode m) u (raising_amounts l) sound_fits
-
--- an amount is at most the total
-pub amount_below : (l : List ℕ) (i : ℕ) → get_or l i 0 ≤ total l
-amount_below [] i = omega arith
-amount_below (x ∷ l) zero = omega arith
-amount_below (x ∷ l) (suc i) = let t = amount_below l i in omega arith
+module _ (m : List ℕ) (s : sound_in m ≡ true) (u : ℕ) (h : In 1 (word m UNITS) u) where
+  -- what the fit of lent amounts came to is the first of the three checks
+  pub offer_fits : (l raising lowering : List ℕ) (r : ℕ) → ((p : ℕ) → get_or raising p 0 ≡ get_or l p 0) → ((p : ℕ) → get_or lowering p 0 ≡ 0)
+      → Fitted (decode m) u (declared raising lowering) r → r ≡ first_refusal (fit_of (decode m) u l)
+  offer_fits l raising lowering r f g w =
+      w.clean (sound_marks m s u h) ∙ misfit_ext (decode m) u (declared raising lowering) (raising_amounts l) f g
+      ∙ misfit_declared (decode m) u (raising_amounts l) (sound_fits m s u h)
 
 -- the amounts copied so far
 pub record Copying (z l x : List ℕ) (i : ℕ) : Type 0 where
@@ -100,11 +60,8 @@ copied_at z l x zeros here kept k = go (dec_lt k (length l))
         kept k n ∙ zeros k ∙ sym (get_or-eq_default l 0 n)
 
 -- zeros, and amounts with a total in range, are small
-pub zeros_small : (x : List ℕ) → ((k : ℕ) → get_or x k 0 ≡ 0) → small x
-zeros_small x h k = let e = h k in omega arith
-
 pub copied_small : (l x : List ℕ) → total l ≤ most_energy → ((k : ℕ) → get_or x k 0 ≡ get_or l k 0) → small x
 copied_small l x t h k =
     let e = h k in
-    let b = amount_below l k in
+    let b = amount_le l k in
     omega arith

@@ -3,7 +3,7 @@ use Rattle.std.proofs.Common.{◌≡◌, ℕ, ◌<◌, ◌≤◌, Bool, true, fa
 use Rattle.std.proofs.Common.{ap, ◌∙◌, inl, inr, append-nil, arith, ltb-false, eq-eqb, ne_eqb}
 use borrow.Author.Tests.{eqb-false}
 use Rattle.measures.specs.Lists.{sum_of, table_from}
-use Rattle.measures.proofs.ListLaws.{cond-false, and_right_false}
+use Rattle.measures.proofs.ListLaws.{cond-false, and_right_false, or_neither}
 use Rattle.matching.specs.Orders.{Order as OpenOrder, leaving, ask_ahead, insert, laid}
 use Rattle.matching.specs.Rolling.{Met, meet, candidate, counterparts, matches}
 use Rattle.matching.proofs.Laws.Rolling.RollingLaws.{traded_and_left}
@@ -35,7 +35,7 @@ use Rattle.book.proofs.Laws.Answer.RefusalLaws.{not-refused, first_passed}
 use Rattle.book.proofs.Laws.Answer.MadeLaws.{decided-refused, decided-accepted}
 use Rattle.book.proofs.Laws.Sound.SoundLaws.{sound_facts}
 use Rattle.book.proofs.Laws.Rows.TradeLaws.{kept_rows}
-use Rattle.book.proofs.Laws.Order.OrderingLaws.{or_neither, call_needs, rest_needs, whole_needs_none, order_passed}
+use Rattle.book.proofs.Laws.Order.OrderingLaws.{call_needs, rest_needs, whole_needs_none, order_passed}
 
 -- a check that is not the first to apply may apply or not
 earlier_first : (pre post : List Check) (n : ℕ) (t : Bool) → (first_refusal (pre ++ (check n true ∷ post)) ≡ n → ⊥)

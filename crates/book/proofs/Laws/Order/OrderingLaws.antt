@@ -1,12 +1,12 @@
 -- Order in the call phase leaves a sound book; what an accepted order passed, in either phase.
-use Rattle.std.proofs.Common.{◌≡◌, ℕ, ◌<◌, ◌≤◌, Bool, true, false, cond, not, ◌&&◌, ◌||◌, eqb, ltb, List, [], ◌∷◌, length, refl}
+use Rattle.std.proofs.Common.{◌≡◌, ℕ, ◌<◌, ◌≤◌, Bool, true, false, cond, not, ◌&&◌, eqb, ltb, List, [], ◌∷◌, length, refl}
 use Rattle.std.proofs.Common.{sym, arith, ltb-false, ltb-true, le-ltb, lt-ltb, eq-eqb, ne_eqb, eqb-true, leb-false, leb-true}
 use native.Mathlib.Decide.{ℕ_discrete}
 use borrow.Author.Tests.{not-false}
 use Rattle.measures.specs.Ranges.{most_energy}
 use Rattle.measures.specs.Lists.{Each, keep}
 use Rattle.measures.proofs.RangeLaws.{In, within}
-use Rattle.measures.proofs.ListLaws.{and_true, or_left, or_right, not_both}
+use Rattle.measures.proofs.ListLaws.{and_true, or_left, or_right, not_both, or_neither}
 use Rattle.matching.specs.Orders.{Order as OpenOrder}
 use Rattle.matching.specs.Rolling.{meet}
 use Rattle.book.specs.Book.{Book, call_phase, most_orders, most_numbers, unit_of, figures_of}
@@ -54,10 +54,6 @@ one_direction_lem u d p (x ∷ os) e = go (eqb x.unit u && eqb x.period p) refl 
           && eqb x.period p) (and_true (eqb x.unit u) (eqb x.period p) (eq-eqb _ _ a) (eq-eqb _ _ c)) q),
       ih h,
     )
-
-pub or_neither : (a c : Bool) → (a || c) ≡ false → (a ≡ false) × (c ≡ false)
-or_neither true c e = absurd (not_both true refl e)
-or_neither false c e = (refl, e)
 
 needed_not : (a c : Bool) → (a && c) ≡ false → c ≡ true → a ≡ false
 needed_not true c e n = absurd (not_both c n e)

@@ -1,5 +1,5 @@
 -- An order in the rolling phase on a sound book in memory: the open orders fit for matching, and what matching leaves.
-use Rattle.std.proofs.Common.{◌≡◌, ℕ, zero, suc, ◌-◌, ◌*◌, ◌≤◌, Bool, true, false, cond, ◌&&◌, eqb, List, [], ◌∷◌, ◌++◌, length, set, refl}
+use Rattle.std.proofs.Common.{◌≡◌, ℕ, zero, suc, ◌-◌, ◌*◌, ◌≤◌, Bool, true, false, List, [], ◌∷◌, ◌++◌, length, set, refl}
 use Rattle.std.proofs.Common.{sym, ap, ◌∙◌, subst, append-nil, arith, eq-eqb, ne_eqb, le-leb}
 use borrow.Rule.Slice.PartMut.{put_mid, mid_len}
 use Rattle.measures.specs.Ranges.{most_energy}
@@ -13,10 +13,9 @@ use Rattle.matching.specs.Memory.{orders_in}
 use Rattle.matching.specs.Answers.{Answer, answer_of, fit, Meets}
 use Rattle.measures.specs.Lists.{Each, Has}
 use Rattle.matching.proofs.Laws.Lists.EachLaws.{each_at, each_has, has_each}
-use Rattle.matching.proofs.Laws.Lists.SumLaws.{sum_of_has}
 use Rattle.book.specs.Book.{Book, no_unit, unit_of}
 use Rattle.book.specs.Trades.{raises, lowers}
-use Rattle.book.specs.Fit.{open_orders, open_raising, open_lowering}
+use Rattle.book.specs.Fit.{open_raising, open_lowering}
 use Rattle.book.specs.Layout.{ORDERS, orders_start, orders_words, amounts_start, word, orders_part, decode}
 use Rattle.book.specs.Contract.{sound_in}
 use Rattle.book.specs.Order.{waiting}
@@ -26,13 +25,7 @@ use Rattle.book.proofs.Laws.Check.NumberLaws.{orders_from}
 use Rattle.book.proofs.Laws.Answer.MadeLaws.{sound-book, sound_readable}
 use Rattle.book.proofs.Laws.Sound.SoundLaws.{UnitRanges, OrderRanges, Sound, sound_facts}
 use Rattle.book.proofs.Laws.Order.WaitLaws.{orders_put}
-
--- an order in the direction that f picks is part of what its unit has open
-open_part : (f : ℕ → Bool) (os : List OpenOrder) (o : OpenOrder) → Has o os → f o.direction ≡ true → o.quantity ≤ open_orders f o.unit o.period os
-unfolding open_orders
-open_part f os o h e =
-    rw (eq-eqb o.unit o.unit refl, eq-eqb o.period o.period refl, e)
-    at (sum_of_has (λ (x : OpenOrder). cond (eqb x.unit o.unit && eqb x.period o.period && f x.direction) x.quantity 0) os o h)
+use Rattle.book.proofs.Laws.Sound.OpenLaws.{open_part}
 
 -- an open order is within its unit's capacity
 module _ (b : Book) (s : Sound b) (o : OpenOrder) (h : Has o b.orders) where

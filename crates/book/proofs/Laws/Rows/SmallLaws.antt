@@ -17,6 +17,7 @@ use Rattle.book.specs.Contract.{sound_in}
 use Rattle.book.specs.Inner.RowsIn.{Small, small_figures}
 use Rattle.book.proofs.Laws.Memory.RangeFacts.{units_held, unit_at_lem, days_held}
 use Rattle.book.proofs.Laws.Answer.MadeLaws.{sound-book, sound_head}
+use Rattle.book.proofs.Laws.Sound.RangedLaws.{sound_fits}
 
 -- the figures of a unit in memory
 pub figures_at_lem : (m : List ℕ) (u p : ℕ) → In 1 (word m UNITS) u → p < 24 * word m DAYS → figures_of (decode m) u p ≡ figures_at m (u - 1) p
@@ -54,13 +55,6 @@ module _ (b : Book) (u : ℕ) (fit : unit_fits b u ≡ true) where
 
 -- each unit of a sound book fits, and its capacity is in range
 module _ (m : List ℕ) (e : sound_in m ≡ true) where
-  pub unit_fits_lem : (u : ℕ) → In 1 (word m UNITS) u → unit_fits (decode m) u ≡ true
-  unfolding sound
-  unit_fits_lem u h =
-      let t = all_true _ (sound-book m e) in
-      let k : u - 1 + 1 ≡ u = omega arith in
-      rw k at (all_at (length (decode m).units) (λ i. unit_fits (decode m) (i + 1)) (u - 1) t.1.1.1.1.1.1.1.0 (omega (arith, units_held m)))
-
   capacity_most : (u : ℕ) → In 1 (word m UNITS) u → (unit_of (decode m) u).capacity ≤ most_capacity
   unfolding sound unit_in
   capacity_most u h =
@@ -74,8 +68,8 @@ module _ (m : List ℕ) (e : sound_in m ≡ true) where
       let d = days_held m in
       let hd = (sound_head m e).days in
       let c = capacity_most (k + 1) h in
-      let a = hour_small (decode m) (k + 1) (unit_fits_lem (k + 1) h) p (omega arith) in
-      let v = volume-small (decode m) (k + 1) (unit_fits_lem (k + 1) h) p (omega arith) c (omega arith) in
+      let a = hour_small (decode m) (k + 1) (sound_fits m e (k + 1) h) p (omega arith) in
+      let v = volume-small (decode m) (k + 1) (sound_fits m e (k + 1) h) p (omega arith) c (omega arith) in
       let q : k + 1 - 1 ≡ k = omega arith in
       let f : figures_of (decode m) (k + 1) p ≡ figures_at m k p = figures_at_lem m (k + 1) p h hp ∙ ap (λ (t : ℕ). figures_at m t p) q in
       let x : (figures_of (decode m) (k + 1) p).raised ≡ word m (figure_place k p + RAISED) = ap (λ (z : Figures). z.raised) f in

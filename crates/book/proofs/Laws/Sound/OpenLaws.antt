@@ -1,6 +1,6 @@
 -- What stands open of a unit in a period, when declarations go, lessen or come (specs/Fit.antt).
-use Rattle.std.proofs.Common.{◌≡◌, ℕ, ◌+◌, ◌<◌, ◌≤◌, Bool, true, false, cond, ◌&&◌, eqb, List, [], ◌∷◌, ◌++◌, get_or, refl, ap, arith, ne_eqb}
-use Rattle.measures.specs.Lists.{Each}
+use Rattle.std.proofs.Common.{◌≡◌, ℕ, ◌+◌, ◌<◌, ◌≤◌, Bool, true, false, cond, ◌&&◌, eqb, List, [], ◌∷◌, ◌++◌, get_or, refl, ap, arith, ne_eqb, eq-eqb}
+use Rattle.measures.specs.Lists.{Each, Has}
 use Rattle.measures.proofs.ListLaws.{sum-zero, sum_of_append}
 use Rattle.limits.specs.Units.{periods}
 use Rattle.matching.specs.Orders.{Order as OpenOrder}
@@ -11,6 +11,7 @@ use Rattle.book.specs.Fit.{open_orders, open_offers, open_raising, open_lowering
 use Rattle.matching.proofs.Laws.Lists.RemainLaws.{Remains, remains-sum}
 use Rattle.book.proofs.Laws.Sound.FormedLaws.{LessOffer}
 use Rattle.book.proofs.Laws.Sound.FitLaws.{raised_to, volume_to, Fits, Moved}
+use Rattle.matching.proofs.Laws.Lists.SumLaws.{sum_of_has}
 
 cond_mono : (t : Bool) (x y : ℕ) → x ≤ y → cond t x 0 ≤ cond t y 0
 cond_mono true x y h = h
@@ -22,6 +23,13 @@ offer_opens u p o = cond (eqb o.unit u) (get_or o.amounts p 0) 0
 
 abbrev pub order_opens : (ℕ → Bool) → ℕ → ℕ → OpenOrder → ℕ
 order_opens f u p o = cond (eqb o.unit u && eqb o.period p && f o.direction) o.quantity 0
+
+-- an order in the direction that f picks is part of what its unit has open
+pub open_part : (f : ℕ → Bool) (os : List OpenOrder) (o : OpenOrder) → Has o os → f o.direction ≡ true → o.quantity ≤ open_orders f o.unit o.period os
+unfolding open_orders
+open_part f os o h e =
+    rw (eq-eqb o.unit o.unit refl, eq-eqb o.period o.period refl, e)
+    at (sum_of_has (λ (x : OpenOrder). cond (eqb x.unit o.unit && eqb x.period o.period && f x.direction) x.quantity 0) os o h)
 
 module _ (u p : ℕ) where
   pub offers_less_lem : (xs ys : List OpenOffer) → Remains LessOffer xs ys → open_offers u p xs ≤ open_offers u p ys

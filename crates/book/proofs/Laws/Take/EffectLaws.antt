@@ -19,14 +19,14 @@ use Rattle.book.specs.Refusals.{first_refusal}
 use Rattle.book.specs.Layout.{DAYS, UNITS, OFFERS, word, amount_at, offer_at, decode}
 use Rattle.book.specs.Contract.{sound_in}
 use Rattle.book.specs.Inner.RowsIn.{Found, parts_at, AmountsLeft, PartsThere, RowsPut, PartTaken, WholeTaken, PartsLent, TakeMade}
-use Rattle.book.proofs.Laws.Memory.RangeFacts.{units_held, offers_held}
+use Rattle.book.proofs.Laws.Memory.RangeFacts.{units_held, offers_held, offer_at_lem}
 use Rattle.book.proofs.Laws.Answer.RefusalLaws.{none_applies}
 use Rattle.book.proofs.Laws.Sound.SoundLaws.{sound_facts}
 use Rattle.book.proofs.Laws.Answer.MadeLaws.{sound-book, sound_readable, chain_sound}
 use Rattle.book.proofs.Laws.Memory.KeptLaws.{number_apart}
 use Rattle.book.proofs.Laws.Cancel.CancelLaws.{sound_rises}
 use Rattle.book.proofs.Laws.Take.PartyLaws.{offer_sound}
-use Rattle.book.proofs.Laws.Take.FoundLaws.{offer_at_lem, unmet_before, met_there, found_offer, found_none}
+use Rattle.book.proofs.Laws.Take.FoundLaws.{unmet_before, met_there, found_offer, found_none}
 use Rattle.book.proofs.Laws.Take.TakenLaws.{less_stays, less_goes}
 use Rattle.book.proofs.Laws.Take.TakingLaws.{TakePassed, take_passed}
 

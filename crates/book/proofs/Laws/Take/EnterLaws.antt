@@ -5,7 +5,7 @@ use native.Mathlib.Decide.{dec_lt}
 use Rattle.measures.specs.Ranges.{most_energy}
 use Rattle.measures.specs.Lists.{table}
 use Rattle.measures.proofs.RangeLaws.{In}
-use Rattle.measures.proofs.ListLaws.{cond_case, table_at}
+use Rattle.measures.proofs.ListLaws.{cond_case, table_at, amount_le}
 use Rattle.limits.specs.Units.{periods, generator}
 use Rattle.matching.specs.Orders.{Row}
 use Rattle.matching.specs.Memory.{written, row_at, rows_in}
@@ -40,7 +40,6 @@ use Rattle.book.proofs.Laws.Memory.WordLaws.{aside_by}
 use Rattle.book.proofs.Laws.Rows.SmallLaws.{no_row, row_written, rows_written, sound-small}
 use Rattle.book.proofs.Laws.Take.PartyLaws.{offer_sound}
 use Rattle.book.proofs.Laws.Check.ShareLaws.{get_d_past}
-use Rattle.book.proofs.Laws.Take.InPlaceLaws.{at_most-total}
 
 -- the rows from period p on name the two units, periods of the term and the parts
 module _ (m : List ℕ) (w s b pr : ℕ) (hs : In 1 (word m UNITS) s) (hb : In 1 (word m UNITS) b) where
@@ -82,7 +81,7 @@ module _ (m : List ℕ) (u j : ℕ) (l : List ℕ) (s : sound_in m ≡ true) (hj
       go (yes h) =
           let a = pt i h in
           let b = get_or-take (24 * word m DAYS) l i 0 h in
-          let c = at_most-total (table (periods (word m DAYS)) (amount_at m j)) i in
+          let c = amount_le (table (periods (word m DAYS)) (amount_at m j)) i in
           let d = table_at (periods (word m DAYS)) (amount_at m j) i 0 h in
           let e = (offer_sound m j s hj).whole in
           omega arith

@@ -6,13 +6,13 @@ use borrow.Author.Tests.{lt-leb}
 use Rattle.measures.specs.Ranges.{most_energy}
 use Rattle.measures.specs.Lists.{keep, table}
 use Rattle.measures.specs.Sharing.{total}
-use Rattle.measures.proofs.ListLaws.{cond-true, cond-false, and_true, and_left-false, and_right_false, table_at}
+use Rattle.measures.proofs.ListLaws.{cond-true, cond-false, and_true, and_left-false, and_right_false}
 use Rattle.limits.specs.Units.{periods, generator}
 use Rattle.book.specs.Book.{OpenOffer, no_offer, unit_of, offer_of, offer_open}
 use Rattle.book.specs.Refusals.{same_side}
 use Rattle.book.specs.Layout.{DAYS, OFFERS, offer_place, UNIT, PARTNER, word, amount_at, offer_at, decode}
 use Rattle.book.specs.Inner.RowsIn.{Found, takes}
-use Rattle.book.proofs.Laws.Memory.RangeFacts.{offers_held}
+use Rattle.book.proofs.Laws.Memory.RangeFacts.{offers_held, offer_at_lem, offer_number}
 
 -- the first of a list that passes a test
 module _ {A : Type 0} (f : A → Bool) (d : A) where
@@ -49,22 +49,15 @@ found_nowhere m n j h u = record {
       (omega arith);
 }
 
-pub offer_at_lem : (m : List ℕ) (j : ℕ) → j < word m OFFERS → get_or (decode m).offers j no_offer ≡ offer_at m (word m DAYS) j
-unfolding decode
-offer_at_lem m j h = table_at (word m OFFERS) (offer_at m (word m DAYS)) j no_offer h
-
 module _ (m : List ℕ) (n r : ℕ) (f : Found m n r) where
-  number_is : (i : ℕ) → i < word m OFFERS → (get_or (decode m).offers i no_offer).number ≡ word m (offer_place i)
-  number_is i h = ap (λ (o : OpenOffer). o.number) (offer_at_lem m i h)
-
   pub unmet_before : r < 8 → (i : ℕ) → i < r → eqb (get_or (decode m).offers i no_offer).number n ≡ false
   unmet_before h i l =
       let t = f.there h in
       let u : i < word m OFFERS = omega arith in
-      ne_eqb _ _ (λ e. f.unmet i u l (sym (number_is i u) ∙ e))
+      ne_eqb _ _ (λ e. f.unmet i u l (sym (offer_number m i u) ∙ e))
 
   pub met_there : r < 8 → eqb (get_or (decode m).offers r no_offer).number n ≡ true
-  met_there h = eq-eqb _ _ (number_is r (f.there h) ∙ f.number h)
+  met_there h = eq-eqb _ _ (offer_number m r (f.there h) ∙ f.number h)
 
   pub found_offer : r < 8 → (offer_of (decode m) n ≡ offer_at m (word m DAYS) r) × (offer_open (decode m) n ≡ true)
   found_offer h =
@@ -76,7 +69,7 @@ module _ (m : List ℕ) (n r : ℕ) (f : Found m n r) where
   pub found_none : word m OFFERS ≤ 8 → 8 ≤ r → offer_open (decode m) n ≡ false
   found_none few h =
       let k = keep_none (λ (o : OpenOffer). eqb o.number n) no_offer (decode m).offers (λ i l. let u : i
-      < word m OFFERS = omega (arith, offers_held m) in ne_eqb _ _ (λ e. f.unmet i u (omega arith) (sym (number_is i u) ∙ e))) in
+      < word m OFFERS = omega (arith, offers_held m) in ne_eqb _ _ (λ e. f.unmet i u (omega arith) (sym (offer_number m i u) ∙ e))) in
       ap (λ (l : List OpenOffer). ltb 0 (length l)) k
 
 -- who can take the offer at place j

@@ -1,29 +1,25 @@
 -- An offer's amounts shared and lessened where they stand, and the fit of the parts.
-use Rattle.std.proofs.Common.{◌≡◌, ℕ, zero, suc, ◌+◌, ◌-◌, ◌*◌, ◌<◌, ◌≤◌, true, leb, List, [], ◌∷◌, ◌++◌, length, get_or, take, drop, replicate, refl}
+use Rattle.std.proofs.Common.{◌≡◌, ℕ, zero, suc, ◌+◌, ◌-◌, ◌*◌, ◌<◌, ◌≤◌, true, List, [], ◌∷◌, ◌++◌, length, get_or, take, drop, replicate, refl}
 use Rattle.std.proofs.Common.{sym, ap, ◌∙◌, arith, length-take-le, get_or-drop, get_or-take, get_or-append-add}
 use native.Mathlib.Decide.{dec_lt}
 use lib.ListN.{get_or-append}
 use borrow.Rule.Slice.PartMut.{put_mid, post_of, same_len_mid, mid_len, drop_put}
 use Rattle.measures.specs.Ranges.{most_energy}
-use Rattle.measures.specs.Lists.{table, every}
+use Rattle.measures.specs.Lists.{table}
 use Rattle.measures.specs.Sharing.{total, parts, less_each, sharing, Is}
 use Rattle.measures.proofs.SharingLaws.{is_shared, parts-sum}
 use Rattle.measures.proofs.LessLaws.{less-length, less_at_lem}
-use Rattle.measures.proofs.ListLaws.{table-length, table_at, table_is, all_by, all_true, holds-all, every_at}
+use Rattle.measures.proofs.ListLaws.{table-length, table_is, amount_le}
 use Rattle.measures.proofs.RangeLaws.{In}
 use Rattle.limits.specs.Units.{periods}
-use Rattle.book.specs.Book.{Figures, EnrolledUnit, no_unit}
-use Rattle.book.specs.Sound.{sound, unit_in}
 use Rattle.book.specs.Offer.{raising_amounts}
-use Rattle.book.specs.Layout.{DAYS, UNITS, OFFERS, amounts_place, amount_place, word, unit_at, amount_at, decode}
+use Rattle.book.specs.Layout.{DAYS, UNITS, OFFERS, amounts_place, amount_place, word, amount_at, decode}
 use Rattle.book.specs.Contract.{sound_in}
-use Rattle.book.specs.Inner.Readable.{Readable, Ranged, unit_fields_in, marks_in, declared, Fitted, small}
+use Rattle.book.specs.Inner.Readable.{Readable, declared, Fitted, small}
 use Rattle.book.specs.Inner.RowsIn.{fit_checks, parts_at, Nothing, TakeFit, AmountsLess}
-use Rattle.book.proofs.Laws.Memory.RangeFacts.{units_held, unit_at_lem}
-use Rattle.book.proofs.Laws.Answer.MadeLaws.{sound-book, sound_readable}
 use Rattle.book.proofs.Laws.Check.MisfitLaws.{zeros_at, misfit_ext, misfit_declared}
-use Rattle.book.proofs.Laws.Rows.SmallLaws.{unit_fits_lem}
 use Rattle.book.proofs.Laws.Take.PartyLaws.{offer_sound}
+use Rattle.book.proofs.Laws.Sound.RangedLaws.{sound_marks, sound_fits}
 
 -- the amounts of the offer at place j, where they stand
 module _ (m : List ℕ) (j : ℕ) (g : Readable m) (hj : j < 8) where
@@ -90,36 +86,6 @@ padded_at [] zs z i = z i
 padded_at (y ∷ l) zs z zero = refl
 padded_at (y ∷ l) zs z (suc i) = padded_at l zs z i
 
-pub at_most-total : (l : List ℕ) (i : ℕ) → get_or l i 0 ≤ total l
-at_most-total [] i = omega arith
-at_most-total (y ∷ l) zero = omega arith
-at_most-total (y ∷ l) (suc i) = let t = at_most-total l i in omega arith
-
--- a sound book in memory has every word in range, and each unit's directions
-module _ (m : List ℕ) (s : sound_in m ≡ true) where
-  unit_in_at : (k : ℕ) → k < word m UNITS → unit_in (word m DAYS) (unit_at m (word m DAYS) k) ≡ true
-  unfolding sound decode
-  unit_in_at k h =
-      let t = all_true _ (sound-book m s) in
-      ap (unit_in (word m DAYS)) (sym (table_at (word m UNITS) (unit_at m (word m DAYS)) k no_unit h))
-      ∙ every_at (unit_in (decode m).rules.days) (decode m).units k no_unit t.1.0 (omega (arith, units_held m))
-
-  fields_in : (k : ℕ) → k < word m UNITS → unit_fields_in m k ≡ true
-  unfolding unit_fields_in unit_in
-  fields_in k h = let t = all_true _ (unit_in_at k h) in holds-all _ (t.0, (t.1.0, (t.1.1.0, tt)))
-
-  pub sound_ranged : Ranged m
-  unfolding sound
-  sound_ranged =
-      let t = all_true _ (sound-book m s) in
-      record { readable = sound_readable m s; units = all_by (word m UNITS) (unit_fields_in m) fields_in; offers = t.1.1.0; orders = t.1.1.1.0 }
-
-  pub sound_marks : (u : ℕ) → In 1 (word m UNITS) u → marks_in (decode m) u ≡ true
-  unfolding marks_in unit_in
-  sound_marks u h =
-      let t = all_true _ (unit_in_at (u - 1) (omega arith)) in
-      ap (λ (x : EnrolledUnit). every (λ (g : Figures). leb g.mark 3) x.figures) (unit_at_lem m u h) ∙ t.1.1.1.1.0
-
 -- the parts of a take, as they are shared and as they fit
 module _ (m : List ℕ) (u j q : ℕ) (s : sound_in m ≡ true) (hj : j < word m OFFERS) (hu : In 1 (word m UNITS) u) (some : 1 ≤ q) (most : q
     ≤ total (table (periods (word m DAYS)) (amount_at m j))) where
@@ -129,7 +95,7 @@ module _ (m : List ℕ) (u j q : ℕ) (s : sound_in m ≡ true) (hj : j < word m
   part-most : (i : ℕ) → get_or (parts_at m j q) i 0 ≤ most_energy
   unfolding parts_at
   part-most i =
-      let a = at_most-total (parts q (table (periods (word m DAYS)) (amount_at m j))) i in
+      let a = amount_le (parts q (table (periods (word m DAYS)) (amount_at m j))) i in
       let b = parts-sum q (table (periods (word m DAYS)) (amount_at m j)) (omega arith) in
       let c = whole_small in
       omega arith
@@ -150,9 +116,6 @@ module _ (m : List ℕ) (u j q : ℕ) (s : sound_in m ≡ true) (hj : j < word m
       answer =
           f.clean (sound_marks m s u hu)
           ∙ misfit_ext (decode m) u (declared y (replicate 744 0)) (raising_amounts (parts_at m j q)) parts-only (λ i. zeros_at 744 i)
-          ∙ misfit_declared (decode m) u (raising_amounts (parts_at m j q)) (unit_fits_lem m s u hu);
+          ∙ misfit_declared (decode m) u (raising_amounts (parts_at m j q)) (sound_fits m s u hu);
       memory = e;
     }
-
-  pub lowering_small : small (replicate 744 0)
-  lowering_small i = let a = zeros_at 744 i in omega arith

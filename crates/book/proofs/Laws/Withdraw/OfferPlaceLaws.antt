@@ -1,9 +1,9 @@
 -- Open offers of a sound book in memory: the offer at a place, the offer of a number, and the checks of a withdraw.
-use Rattle.std.proofs.Common.{◌≡◌, ℕ, ◌+◌, ◌<◌, ◌≤◌, Bool, true, false, cond, not, ◌&&◌, eqb, ltb, List, [], ◌∷◌, ◌++◌, length, get_or, take, drop, refl}
+use Rattle.std.proofs.Common.{◌≡◌, ℕ, ◌+◌, ◌<◌, ◌≤◌, Bool, true, false, cond, not, ◌&&◌, eqb, ltb, List, [], ◌∷◌, ◌++◌, length, take, drop, refl}
 use Rattle.std.proofs.Common.{sym, ap, ◌∙◌, arith, eq-eqb, ne_eqb}
 use native.Mathlib.Decide.{dec_lt}
 use Rattle.measures.specs.Lists.{keep}
-use Rattle.measures.proofs.ListLaws.{table_at, not_both}
+use Rattle.measures.proofs.ListLaws.{not_both}
 use Rattle.measures.proofs.RangeLaws.{In, inside, outside}
 use Rattle.book.specs.Book.{OpenOffer, Book, no_offer, offer_open, offer_of, offers_of, known}
 use Rattle.book.specs.Layout.{DAYS, UNITS, OFFERS, offer_place, UNIT, TAKEN, word, offer_at, decode}
@@ -11,24 +11,16 @@ use Rattle.book.specs.Refusals.{first_refusal}
 use Rattle.book.specs.Contract.{sound_in}
 use Rattle.book.specs.Withdraw.{withdraw_checks}
 use Rattle.book.specs.Inner.RowsIn.{Found}
-use Rattle.book.proofs.Laws.Memory.RangeFacts.{units_held, offers_held}
+use Rattle.book.proofs.Laws.Memory.RangeFacts.{units_held, offers_held, offer_at_lem, offer_number}
 use Rattle.book.proofs.Laws.Memory.KeptLaws.{number_kept, number_gone, number_none}
 use Rattle.book.proofs.Laws.Cancel.CancelLaws.{sound_rises}
 
--- the offer at a place
-pub offer_here : (m : List ℕ) (j : ℕ) → j < word m OFFERS → get_or (decode m).offers j no_offer ≡ offer_at m (word m DAYS) j
-unfolding decode
-offer_here m j h = table_at (word m OFFERS) (offer_at m (word m DAYS)) j no_offer h
-
 module _ (m : List ℕ) (s : sound_in m ≡ true) (n : ℕ) where
-  number_here : (j : ℕ) → j < word m OFFERS → (get_or (decode m).offers j no_offer).number ≡ word m (offer_place j)
-  number_here j h = ap (λ (o : OpenOffer). o.number) (offer_here m j h)
-
   -- no offer has the number
   pub offer_absent : ((j : ℕ) → j < word m OFFERS → word m (offer_place j) ≡ n → ⊥) → offers_of (decode m) n ≡ []
   offer_absent h =
       number_none (λ (o : OpenOffer). o.number) (decode m).offers no_offer refl (sound_rises m s).0 n
-      (λ i l e. let u : i < word m OFFERS = omega (arith, offers_held m) in h i u (sym (number_here i u) ∙ e))
+      (λ i l e. let u : i < word m OFFERS = omega (arith, offers_held m) in h i u (sym (offer_number m i u) ∙ e))
 
   -- the offer at place j has it
   module _ (j : ℕ) (hj : j < word m OFFERS) (e : word m (offer_place j) ≡ n) where
@@ -37,11 +29,11 @@ module _ (m : List ℕ) (s : sound_in m ≡ true) (n : ℕ) where
 
     pub offer_found : offers_of (decode m) n ≡ offer_at m (word m DAYS) j ∷ []
     offer_found =
-        number_kept (λ (o : OpenOffer). o.number) (decode m).offers no_offer refl (sound_rises m s).0 n j inside_list (number_here j hj ∙ e)
-        ∙ ap (λ (o : OpenOffer). o ∷ []) (offer_here m j hj)
+        number_kept (λ (o : OpenOffer). o.number) (decode m).offers no_offer refl (sound_rises m s).0 n j inside_list (offer_number m j hj ∙ e)
+        ∙ ap (λ (o : OpenOffer). o ∷ []) (offer_at_lem m j hj)
 
     pub offer_gone : keep (λ (o : OpenOffer). not (eqb o.number n)) (decode m).offers ≡ take j (decode m).offers ++ drop (j + 1) (decode m).offers
-    offer_gone = number_gone (λ (o : OpenOffer). o.number) (decode m).offers no_offer refl (sound_rises m s).0 n j inside_list (number_here j hj ∙ e)
+    offer_gone = number_gone (λ (o : OpenOffer). o.number) (decode m).offers no_offer refl (sound_rises m s).0 n j inside_list (offer_number m j hj ∙ e)
 
   -- the checks
   module _ (u : ℕ) where

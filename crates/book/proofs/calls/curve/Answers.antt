@@ -1,9 +1,7 @@
 -- `curve`: not a sound book, a check that applies, or the points.
-use Rattle.std.proofs.Common.{◌≡◌, ℕ, ◌+◌, ◌-◌, ◌<◌, ◌≤◌, true, ◌++◌, length, drop, sym, ap, ◌∙◌, arith}
-use Rattle.measures.proofs.RangeLaws.{In}
+use Rattle.std.proofs.Common.{◌≡◌, ℕ, ◌+◌, ◌-◌, ◌++◌, drop, sym, ap, ◌∙◌, arith}
 use Rattle.book.specs.Curve.{points}
-use Rattle.book.specs.Layout.{DAYS, UNITS, word, decode}
-use Rattle.book.specs.Contract.{sound_in}
+use Rattle.book.specs.Layout.{decode}
 use Rattle.book.proofs.Laws.Answer.MadeLaws.{sound_readable}
 use Rattle.book.proofs.Laws.Curve.CurveLaws.{curved_unsound, curved_checked, curved_drawn, curve_passed, sound_netted}
 use Rattle.book.proofs.calls.curve.Goals as goal

@@ -1,6 +1,5 @@
 -- `cancel_checks`: each test is a check of the chain, and the place found is the number's.
 use Rattle.std.proofs.Common.{arith}
-use Rattle.book.specs.Inner.Readable.{Readable}
 use Rattle.book.proofs.Laws.Answer.MadeLaws.{sound_readable}
 use Rattle.book.proofs.Laws.Cancel.CancelLaws.{cancel_unknown, cancel_absent, cancel_other, cancel_passes}
 use Rattle.book.proofs.cancelling.cancel_checks.Goals as goal

@@ -1,9 +1,8 @@
 -- `cancel_effect`: the place found is the number's, so what is removed there is what is not kept.
-use Rattle.std.proofs.Common.{◌≡◌, ◌<◌, length, ◌∙◌, arith, length-drop, length-take}
+use Rattle.std.proofs.Common.{◌∙◌, arith, length-drop, length-take}
 use borrow.Rule.Slice.PartMut.{mid_len}
 use Rattle.matching.proofs.Laws.Orders.PlacedLaws.{place_there}
-use Rattle.book.specs.Layout.{ORDERS, orders_start, orders_words, amounts_start, word}
-use Rattle.book.specs.Inner.Readable.{Readable}
+use Rattle.book.specs.Layout.{orders_start, amounts_start}
 use Rattle.book.proofs.Laws.Answer.MadeLaws.{sound_readable}
 use Rattle.book.proofs.Laws.Cancel.CancelLaws.{order_placed, cancelled, cancelled_aside}
 use Rattle.book.proofs.cancelling.cancel_effect.Goals as goal

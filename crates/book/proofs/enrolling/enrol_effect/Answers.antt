@@ -1,6 +1,5 @@
 -- `enrol_effect`: the cleared figures, the three words and the count are one unit more.
 use Rattle.std.proofs.Common.{arith, length-set}
-use Rattle.book.specs.Inner.Readable.{Readable}
 use Rattle.book.proofs.Laws.Answer.MadeLaws.{sound_readable}
 use Rattle.book.proofs.Laws.Enrol.EnrolLaws.{enrolled_in, enrolled_aside}
 use Rattle.book.proofs.enrolling.enrol_effect.Goals as goal

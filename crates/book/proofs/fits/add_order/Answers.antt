@@ -1,7 +1,6 @@
 -- `add_order`: an order of another unit or direction adds nothing, and the one store adds the order's share.
 use Rattle.std.proofs.Common.{◌+◌, arith}
 use Rattle.book.specs.Layout.{order_place, PERIOD, word}
-use Rattle.book.proofs.Laws.Memory.RangeFacts.{OrderWords}
 use Rattle.book.proofs.Laws.Check.ShareLaws.{order_words_lem, added_none, share_other, share_against, order_added}
 use Rattle.book.proofs.fits.add_order.Goals as goal
 use Rattle.book.proofs.fits.add_order.Goals.{Start}

@@ -1,6 +1,5 @@
 -- `offer_effect`: the amounts, the five words of the head and the two counts are one offer more.
 use Rattle.std.proofs.Common.{arith, length-set}
-use Rattle.book.specs.Inner.Readable.{Readable}
 use Rattle.book.proofs.Laws.Answer.MadeLaws.{sound_head, sound_readable}
 use Rattle.book.proofs.Laws.Offer.OfferedLaws.{offered_in, offered_aside}
 use Rattle.book.proofs.offering.offer_effect.Goals as goal

@@ -1,10 +1,11 @@
 -- `offer_fit`: amounts copied over zeros declare what is offered, and a sound book's unit fits without them.
-use Rattle.std.proofs.Common.{◌≡◌, ℕ, ◌≤◌, length, get_or, replicate, refl, arith}
+use Rattle.std.proofs.Common.{◌≡◌, ℕ, get_or, replicate, refl, arith}
 use Rattle.book.proofs.Laws.Answer.MadeLaws.{sound_readable}
-use Rattle.book.proofs.Laws.Check.MisfitLaws.{zeros_at}
-use Rattle.book.proofs.Laws.Offer.OfferFitLaws.{sound_ranged, offer_fits, copied_at, copied_small, zeros_small}
+use Rattle.book.proofs.Laws.Check.MisfitLaws.{zeros_at, zeros_below}
+use Rattle.book.proofs.Laws.Offer.OfferFitLaws.{offer_fits, copied_at, copied_small}
 use Rattle.book.proofs.offering.offer_fit.Goals as goal
 use Rattle.book.proofs.offering.offer_fit.Goals.{After-copy_amounts}
+use Rattle.book.proofs.Laws.Sound.RangedLaws.{sound_ranged}
 
 copied : (c : After-copy_amounts) → (k : ℕ) → get_or c.copy_amounts.new.copy k 0 ≡ get_or c.args.amounts.now k 0
 copied c =
@@ -21,7 +22,7 @@ misfit-requires c = record {
     c.copy_amounts.auto.copy,
     refl,
     copied_small c.args.amounts.now c.copy_amounts.new.copy c.requires.4 (copied (goal.at.misfit-requires c).After-copy_amounts),
-    zeros_small (replicate {A = ℕ} 744 0) (zeros_at 744),
+    zeros_below 744 _,
   );
 }
 

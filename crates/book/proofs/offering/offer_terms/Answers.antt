@@ -3,7 +3,7 @@ use Rattle.std.proofs.Common.{◌≡◌, ◌<◌, ◌≤◌, arith}
 use Rattle.book.proofs.Laws.Offer.OfferCheckLaws.{terms_unit, terms_partner, terms_price, terms_long, terms_energy, terms_pass}
 use Rattle.measures.specs.Ranges.{most_energy}
 use Rattle.measures.proofs.RangeLaws.{In}
-use Rattle.book.specs.Layout.{FLOOR, CEILING, UNITS, word}
+use Rattle.book.specs.Layout.{FLOOR, CEILING, word}
 use Rattle.book.proofs.Laws.Memory.TestLaws.{not_below_lem, within_most, over_most, is_none, is_some, deny_below}
 use Rattle.book.proofs.offering.offer_terms.Goals as goal
 use Rattle.book.proofs.offering.offer_terms.Goals.{Else-below-2}

@@ -4,7 +4,6 @@ use borrow.Rule.Slice.PartMut.{mid_len}
 use Rattle.matching.specs.declared.orders.Matched.{Matched}
 use Rattle.matching.specs.Memory.{as_order}
 use Rattle.matching.specs.Answers.{answer_of}
-use Rattle.book.specs.Inner.Readable.{Readable}
 use Rattle.book.specs.Layout.{orders_start, amounts_start}
 use Rattle.book.proofs.Laws.Answer.MadeLaws.{sound_readable}
 use Rattle.book.proofs.Laws.Order.RestWaitLaws.{met_unfit, met_rolled}

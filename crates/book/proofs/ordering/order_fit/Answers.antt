@@ -1,10 +1,11 @@
 -- `order_fit`: one amount among zeros is what the order declares, so the misfit is the first of the last checks.
 use Rattle.std.proofs.Common.{sym, refl, ◌∙◌, arith}
-use Rattle.book.specs.Inner.Readable.{Readable}
 use Rattle.book.proofs.Laws.Answer.MadeLaws.{sound_readable}
-use Rattle.book.proofs.Laws.Order.OrderFitLaws.{sound_ranged, alone_length, zeros_small, alone_small, fit_raising, fit_lowering}
+use Rattle.book.proofs.Laws.Order.OrderFitLaws.{alone_length, alone_small, fit_raising, fit_lowering}
 use Rattle.book.proofs.ordering.order_fit.Goals as goal
 use Rattle.book.proofs.ordering.order_fit.Goals.{Start}
+use Rattle.book.proofs.Laws.Sound.RangedLaws.{sound_ranged}
+use Rattle.book.proofs.Laws.Check.MisfitLaws.{zeros_below}
 
 pub offset_bounds-amounts-wanted : goal.offset_bounds-amounts-wanted
 offset_bounds-amounts-wanted c = let r = sound_readable _ c.requires.0 in omega arith
@@ -24,7 +25,7 @@ misfit-requires c =
         refl,
         alone_small 744 c.args.wanted.period c.args.wanted.quantity.0 (omega arith)
             c.requires.1.quantity,
-        zeros_small 744,
+        zeros_below 744 _,
       );
     }
 
@@ -41,7 +42,7 @@ misfit-requires-2 c =
       raising_len = (
         refl,
         alone_length 744 c.args.wanted.period c.args.wanted.quantity.0,
-        zeros_small 744,
+        zeros_below 744 _,
         alone_small 744 c.args.wanted.period c.args.wanted.quantity.0 (omega arith)
             c.requires.1.quantity,
       );

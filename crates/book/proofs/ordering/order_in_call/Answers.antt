@@ -1,7 +1,6 @@
 -- `order_in_call`: the order waits behind the others, and its number is given.
 use Rattle.book.specs.Layout.{DAYS, GIVEN}
 use Rattle.std.proofs.Common.{arith}
-use Rattle.book.specs.Inner.Readable.{Readable}
 use Rattle.book.proofs.Laws.Answer.MadeLaws.{sound_readable}
 use Rattle.book.proofs.Laws.Memory.WordLaws.{aside_then}
 use Rattle.book.proofs.Laws.Order.WaitLaws.{put_aside, called}

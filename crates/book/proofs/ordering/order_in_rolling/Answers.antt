@@ -1,6 +1,5 @@
 -- `order_in_rolling`: matching, the rest, the rows and the number, one after the other.
 use Rattle.std.proofs.Common.{arith}
-use Rattle.book.specs.Inner.Readable.{Readable}
 use Rattle.book.proofs.Laws.Answer.MadeLaws.{sound_readable}
 use Rattle.book.proofs.Laws.Order.RollCallLaws.{
   rows_lent,

@@ -4,7 +4,6 @@ use Rattle.std.proofs.Common.{ap, ◌∙◌, arith}
 use Rattle.matching.specs.declared.orders.Matched.{Matched}
 use Rattle.matching.specs.Answers.{answer_of}
 use Rattle.matching.proofs.Laws.Periods.PassingLaws.{all_gives, all_fit}
-use Rattle.book.specs.Inner.Readable.{Readable}
 use Rattle.book.specs.Layout.{orders_start, amounts_start}
 use Rattle.book.proofs.Laws.Answer.MadeLaws.{sound_readable}
 use Rattle.book.proofs.Laws.Clear.ClearEffectLaws.{clear_fits, swept}

@@ -1,9 +1,7 @@
 -- `sound_book`: a test that fails contradicts soundness; the orders and the fit of the units decide the rest.
-use Rattle.std.proofs.Common.{◌≡◌, ◌≤◌, true, length, sym, ◌∙◌, arith}
+use Rattle.std.proofs.Common.{sym, ◌∙◌, arith}
 use Rattle.measures.proofs.ListLaws.{not_both}
-use Rattle.book.specs.Sound.{head_in}
-use Rattle.book.specs.Layout.{DAYS, book_words, word, decode}
-use Rattle.book.specs.Inner.Readable.{Readable, Ranged}
+use Rattle.book.specs.Inner.Readable.{Ranged}
 use Rattle.book.proofs.Laws.Memory.RangeFacts.{head_facts, readable}
 use Rattle.book.proofs.Laws.Check.SoundInLaws.{sound_fails, sound_by_open, never_short, ranged}
 use Rattle.book.proofs.sound.sound_book.Goals as goal

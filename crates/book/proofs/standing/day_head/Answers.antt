@@ -1,6 +1,5 @@
 -- `day_head`: no order, or the last of the unit and day.
-use Rattle.std.proofs.Common.{◌<◌, refl, arith}
-use Rattle.book.specs.Layout.{ORDERS, word}
+use Rattle.std.proofs.Common.{refl, arith}
 use Rattle.book.proofs.Laws.Check.LinkedLaws.{latest_none, not_none}
 use Rattle.book.proofs.standing.day_head.Goals as goal
 use Rattle.book.proofs.standing.day_head.Goals.{Else-book-eq0}

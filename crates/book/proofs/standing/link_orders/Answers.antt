@@ -1,7 +1,6 @@
 -- `link_orders`: the orders passed are linked, by unit and day and by period.
-use Rattle.std.proofs.Common.{◌<◌, length, refl, arith}
+use Rattle.std.proofs.Common.{refl, arith}
 use Rattle.book.specs.Inner.Whole.{by_day, by_period}
-use Rattle.book.proofs.Laws.Memory.RangeFacts.{OrderWords}
 use Rattle.book.proofs.Laws.Check.ShareLaws.{order_words_lem}
 use Rattle.book.proofs.Laws.Check.LinkedLaws.{linking_none, linking_more, linking_ends, period_key, day_key}
 use Rattle.book.proofs.standing.link_orders.Goals as goal

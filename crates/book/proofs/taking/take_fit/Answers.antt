@@ -2,8 +2,10 @@
 use Rattle.std.proofs.Common.{refl, arith, rules}
 use Rattle.book.proofs.Laws.Answer.MadeLaws.{sound_readable}
 use Rattle.book.proofs.Laws.Take.PartyLaws.{offer_sound}
-use Rattle.book.proofs.Laws.Take.InPlaceLaws.{raising_small, lowering_small, sound_ranged, take_fitted}
+use Rattle.book.proofs.Laws.Take.InPlaceLaws.{raising_small, take_fitted}
 use Rattle.book.proofs.taking.take_fit.Goals as goal
+use Rattle.book.proofs.Laws.Sound.RangedLaws.{sound_ranged}
+use Rattle.book.proofs.Laws.Check.MisfitLaws.{zeros_below}
 
 pub share_offer-requires : goal.share_offer-requires
 share_offer-requires c =
@@ -22,7 +24,7 @@ misfit-requires c =
         refl,
         raising_small a.book.now a.unit a.j a.quantity.0 p.0 p.1 (p.2, p.3) p.4 p.5 _ _ p.6
             c.share_offer.ensures,
-        lowering_small a.book.now a.unit a.j a.quantity.0 p.0 p.1 (p.2, p.3) p.4 p.5,
+        zeros_below 744 _,
       );
     }
 

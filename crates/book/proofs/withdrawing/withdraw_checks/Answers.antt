@@ -1,6 +1,5 @@
 -- `withdraw_checks`: each test is a check of the chain, and the place found is the number's.
 use Rattle.std.proofs.Common.{arith}
-use Rattle.book.specs.Inner.Readable.{Readable}
 use Rattle.book.proofs.Laws.Answer.MadeLaws.{sound_readable}
 use Rattle.book.proofs.Laws.Withdraw.OfferPlaceLaws.{withdraw_unknown, withdraw_absent, withdraw_other, withdraw_taken, withdraw_passes}
 use Rattle.book.proofs.withdrawing.withdraw_checks.Goals as goal

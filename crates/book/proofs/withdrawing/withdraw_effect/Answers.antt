@@ -1,6 +1,5 @@
 -- `withdraw_effect`: the place found is the number's, so what moves up there is what is kept.
 use Rattle.std.proofs.Common.{◌<◌, ◌∙◌, arith, length-set}
-use Rattle.book.specs.Inner.Readable.{Readable}
 use Rattle.book.specs.Layout.{OFFERS, word}
 use Rattle.book.proofs.Laws.Answer.MadeLaws.{sound_readable}
 use Rattle.book.proofs.Laws.Withdraw.OfferPlaceLaws.{offer_placed}

@@ -1,5 +1,5 @@
 -- Parts of open amounts, and what the rows of enrolled units come to over all units.
-use Prim.Native.Nat.{ℕ, zero, suc, ◌+◌, ◌-◌, ◌≤◌}
+use Prim.Native.Nat.{ℕ, suc, ◌+◌, ◌-◌, ◌≤◌}
 use mathlib.Core.Path.{◌≡◌, refl, sym}
 use mathlib.Core.Bool.{Bool, true, false, cond, ◌&&◌}
 use mathlib.Core.List.{List, [], ◌∷◌}
@@ -10,18 +10,12 @@ use lib.Dec.{eqb}
 use Rattle.measures.specs.Lists.{Each, keep, sum_of, sum}
 use Rattle.measures.specs.Sharing.{total}
 use Rattle.measures.proofs.RangeLaws.{In}
-use Rattle.measures.proofs.ListLaws.{sum-zero, cond_case, sum_add, sum_change}
+use Rattle.measures.proofs.ListLaws.{sum-zero, cond_case, sum_add, sum_change, amount_le}
 use Rattle.matching.specs.Orders.{Order as OpenOrder, Row}
 use Rattle.matching.specs.Memory.{no_order}
 use Rattle.demands.specs.Tally.{Amounts, no_amounts}
 use Rattle.demands.specs.Demand3.{part_of_offers, part_of_orders}
 use Rattle.demands.proofs.Laws.Tally.AgreeLaws.{remains}
-
--- no amount is over the total
-pub at_most-total : (l : List ℕ) (p : ℕ) → get_or l p 0 ≤ total l
-at_most-total [] p = omega arith
-at_most-total (x ∷ l) zero = omega arith
-at_most-total (x ∷ l) (suc p) = let h = at_most-total l p in omega arith
 
 -- a part of each offer's amount, over all offers, against those of which something is left
 module _ (u p : ℕ) where
@@ -42,7 +36,7 @@ module _ (u p : ℕ) where
       none = eqb-true (total a.amounts) 0 (not-false (eqb (total a.amounts) 0) e)
 
       go : (c : Bool) → cond c x 0 ≡ 0
-      go true = omega (arith, at_most-total a.amounts p, none)
+      go true = omega (arith, amount_le a.amounts p, none)
       go false = refl
 
   pub offers_part : (f : ℕ → ℕ → ℕ) (os : List Amounts) → ((j q : ℕ) → f j q ≤ get_or (get_or os j no_amounts).amounts q 0) → part_of_offers f u p os

@@ -20,6 +20,7 @@ use Rattle.matching.specs.Memory.{order_at}
 use Rattle.matching.specs.Clearing.{Fill, filled, fills_of}
 use Rattle.matching.specs.Inner.Places.{orders_at, chosen, picked, open_at, Picked, AtMargin, Stand, fills_at, Filling}
 use Rattle.matching.proofs.Laws.Laying.LayingLaws.{map_join, length_mapped}
+use Rattle.matching.proofs.Laws.Lists.RemainLaws.{every_append}
 
 -- a price against the margin, by cases
 module _ (which margin : ℕ) (o : Order) where
@@ -155,10 +156,6 @@ module _ {A : Type 0} where
       go true h = and_true (p x) (every p (keep f l)) (and_left (p x) (every p l) e) h
       go false h = h
 
-  every_join : (p : A → Bool) (l k : List A) → every p l ≡ true → every p k ≡ true → every p (l ++ k) ≡ true
-  every_join p [] k e h = h
-  every_join p (x ∷ l) k e h = and_true (p x) (every p (l ++ k)) (and_left (p x) (every p l) e) (every_join p l k (and_right (p x) (every p l) e) h)
-
 -- the orders picked, and what they have open
 picked_orders : (m : List ℕ) (which margin : ℕ) (ps : List ℕ) → orders_at m (picked m which margin ps) ≡ keep (chosen which margin) (orders_at m ps)
 unfolding picked
@@ -236,7 +233,7 @@ module _ (m ps : List ℕ) (n c d margin v : ℕ) (s : Stand m ps n c (orders_at
   below : every (λ p. ltb p n) (K ++ M) ≡ true
   unfolding picked
   below =
-      every_join (λ p. ltb p n) K M (keep-every (λ p. ltb p n) (λ p. chosen d margin (order_at m p)) (take c ps) s.below)
+      every_append (λ p. ltb p n) K M (keep-every (λ p. ltb p n) (λ p. chosen d margin (order_at m p)) (take c ps) s.below)
       (keep-every (λ p. ltb p n) (λ p. chosen 2 margin (order_at m p)) (take c ps) s.below)
 
   module _ (to am to₁ am₁ : List ℕ) (better : ℕ) (p : Picked m K to am 0 better to₁ am₁) where

@@ -2,7 +2,7 @@
 use Prim.Native.Nat.{ℕ, zero, suc, ◌+◌, ◌*◌, ◌-◌, ◌<◌, ◌≤◌, min}
 use mathlib.Core.Path.{◌≡◌, refl, sym, ap, subst, ◌∙◌}
 use mathlib.Core.Bool.{Bool, true, false, cond}
-use mathlib.Core.List.{List, [], ◌∷◌, ◌++◌}
+use mathlib.Core.List.{List, [], ◌∷◌}
 use native.Mathlib.Omega.{arith}
 use native.Mathlib.Nat.{not-suc-le-zero}
 use native.Mathlib.Decide.{dec_le}
@@ -15,12 +15,11 @@ use Rattle.measures.specs.Ranges.{most_energy, most_number}
 use Rattle.measures.proofs.ListLaws.{both_ways}
 use Rattle.matching.specs.Orders.{Order, quantities}
 use Rattle.matching.specs.Memory.{order_at, orders_in, no_order}
-use Rattle.matching.specs.Clearing.{traded_at, cleared_volume, marginal}
+use Rattle.matching.specs.Clearing.{cleared_volume, marginal}
 use Rattle.matching.specs.Inner.Places.{orders_at, ahead_on, belongs, Stand, Sides, AreMargins, AtMargin}
-use Rattle.matching.proofs.Laws.Lists.EachLaws.{each_all}
 use Rattle.matching.proofs.Laws.Orders.LaidLaws.{laid-quantities}
 use Rattle.matching.proofs.Laws.Orders.AheadLaws.{Strict, Ordered, Falling, Rising, bids_fall, asks_rise}
-use Rattle.matching.proofs.Laws.Clearing.VolumeLaws.{keep_some, keep_none, largest_below, traded}
+use Rattle.matching.proofs.Laws.Clearing.VolumeLaws.{keep_some, keep_none}
 use Rattle.matching.proofs.Laws.Clearing.WalkLaws.{
   price_at,
   quantity_at,
@@ -276,18 +275,3 @@ module _ (better : ℕ → ℕ → Bool) (st : Strict better) where
       let m = margin_holds v os h pos le in
       let w = margin_within (marginal v os) os in
       record { over = m.0; within = m.1; small = omega arith }
-
--- no more is cleared than either side has
-pub cleared-bids : (bl al : List Order) → cleared_volume bl al ≤ quantities bl
-unfolding cleared_volume
-cleared-bids bl al =
-    largest_below (λ o. traded_at bl al o.price) (bl ++ al) (quantities bl)
-    (each_all (λ o. traded_at bl al o.price ≤ quantities bl) (bl
-    ++ al) (λ o. omega (arith, traded bl al o.price, keep_some (λ x. leb o.price x.price) bl)))
-
-pub cleared-asks : (bl al : List Order) → cleared_volume bl al ≤ quantities al
-unfolding cleared_volume
-cleared-asks bl al =
-    largest_below (λ o. traded_at bl al o.price) (bl ++ al) (quantities al)
-    (each_all (λ o. traded_at bl al o.price ≤ quantities al) (bl
-    ++ al) (λ o. omega (arith, traded bl al o.price, keep_some (λ x. leb x.price o.price) al)))

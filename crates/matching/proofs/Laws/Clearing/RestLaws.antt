@@ -7,7 +7,7 @@ use native.Mathlib.Omega.{arith}
 use lib.Dec.{eqb}
 use borrow.Author.Tests.{eqb-true, ne_eqb}
 use Rattle.measures.specs.Lists.{Each, Has, sum_of, keep}
-use Rattle.measures.proofs.ListLaws.{and_right, and_right_false, and_left-false}
+use Rattle.measures.proofs.ListLaws.{and_right, and_right_false, and_left-false, false_by}
 use Rattle.matching.specs.Orders.{Order, quantities, numbers, rising, buys, sells, bids, asks, leaving, less}
 use Rattle.matching.specs.Clearing.{Fill, after_fills, clear_period}
 use Rattle.matching.proofs.Laws.Lists.EachLaws.{each_map, each_append, keep-nothing, keep_ext}
@@ -30,10 +30,6 @@ use Rattle.matching.proofs.Laws.Clearing.PeriodLaws.{
   clear_due,
 }
 use Rattle.matching.proofs.Laws.Clearing.ClearingLaws.{rows_by_unit}
-
-is_no : (b : Bool) → (b ≡ true → ⊥) → b ≡ false
-is_no true h = absurd (h refl)
-is_no false h = refl
 
 -- a unit's fills among those of a kind, and among those of another
 module _ (kind : Order → Bool) (u : ℕ) (fs : List Fill) where
@@ -120,7 +116,7 @@ module _ (period : ℕ) (os : List Order) where
       let b = own_fills (is_bid period) u (bid_fills_of period os) (bid_fills_each period os (λ o. is_bid period o ≡ true) (bids_are period os)) in
       let c = no_fills (is_bid period) u (ask_fills_of period os) (ask_fills_each period os (λ o. is_bid period o
       ≡ false) (each_map (λ o. is_ask period o ≡ true) (λ o. is_bid period o
-      ≡ false) (asks period os) (λ o h. is_no (is_bid period o) (λ k. not_both period os o k h)) (asks_are period os))) in
+      ≡ false) (asks period os) (λ o h. false_by (is_bid period o) (λ k. not_both period os o k h)) (asks_are period os))) in
       omega arith
 
   pub asks-less_fills : (u : ℕ) → rising (numbers os) ≡ true
@@ -132,7 +128,7 @@ module _ (period : ℕ) (os : List Order) where
       let b = own_fills (is_ask period) u (ask_fills_of period os) (ask_fills_each period os (λ o. is_ask period o ≡ true) (asks_are period os)) in
       let c = no_fills (is_ask period) u (bid_fills_of period os) (bid_fills_each period os (λ o. is_ask period o
       ≡ false) (each_map (λ o. is_bid period o ≡ true) (λ o. is_ask period o
-      ≡ false) (bids period os) (λ o h. is_no (is_ask period o) (λ k. not_both period os o h k)) (bids_are period os))) in
+      ≡ false) (bids period os) (λ o h. false_by (is_ask period o) (λ k. not_both period os o h k)) (bids_are period os))) in
       omega arith
 
   pub orders_less_fills : (u : ℕ) → rising (numbers os) ≡ true

@@ -38,7 +38,8 @@ use Rattle.matching.proofs.Laws.Orders.AheadLaws.{dearer, cheaper, dearer_strict
 use Rattle.matching.proofs.Laws.Clearing.VolumeLaws.{keep_some}
 use Rattle.matching.proofs.Laws.Laying.LayingLaws.{stand_length}
 use Rattle.matching.proofs.Laws.Clearing.PickLaws.{keep_apart}
-use Rattle.matching.proofs.Laws.Clearing.PlaceLaws.{at_margin, cleared-bids, cleared-asks}
+use Rattle.matching.proofs.Laws.Clearing.PlaceLaws.{at_margin}
+use Rattle.matching.proofs.Laws.Clearing.MarginLaws.{volume-bids, volume-asks}
 
 -- orders that do not fit
 pub clears_unfit : (m rows : List ℕ) (n period : ℕ) → fit m n rows ≡ false → Clears m rows n period Unfit m rows
@@ -142,14 +143,14 @@ module _ (m rows bs ks : List ℕ) (n period nb na v b s : ℕ) (e : fit m n row
   pub bids_at_margin : AtMargin v (keep (chosen 1 b) (orders_at m (take nb bs))) (keep (chosen 2 b) (orders_at m (take nb bs)))
   unfolding chosen
   bids_at_margin =
-      let w = cleared-bids (bids period (orders_in m n)) (asks period (orders_in m n)) in
+      let w = volume-bids (bids period (orders_in m n)) (asks period (orders_in m n)) in
       rw (g.of_bids pos, bids_are) (at_margin dearer dearer_strict v (bids period (orders_in m n)) (bids-ordered period (orders_in m n)) pos
       (omega (arith, volume_is)) bids-small)
 
   pub asks_at_margin : AtMargin v (keep (chosen 0 s) (orders_at m (take na ks))) (keep (chosen 2 s) (orders_at m (take na ks)))
   unfolding chosen
   asks_at_margin =
-      let w = cleared-asks (bids period (orders_in m n)) (asks period (orders_in m n)) in
+      let w = volume-asks (bids period (orders_in m n)) (asks period (orders_in m n)) in
       rw (g.of_asks pos, asks_are) (at_margin cheaper cheaper_strict v (asks period (orders_in m n)) (asks-ordered period (orders_in m n)) pos
       (omega (arith, volume_is)) asks-small)
 

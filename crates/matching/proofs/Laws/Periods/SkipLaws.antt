@@ -1,7 +1,7 @@
 -- Prices noted by period, and periods in which none meet: there is nothing to clear in these.
 use Prim.Native.Nat.{ℕ, ◌+◌, ◌*◌, ◌≤◌, ◌<◌, min}
 use mathlib.Core.Path.{◌≡◌, refl, sym, ap, ◌∙◌}
-use mathlib.Core.Bool.{Bool, true, false, ◌||◌}
+use mathlib.Core.Bool.{true, false}
 use mathlib.Core.List.{List, [], ◌++◌, append-nil}
 use native.Mathlib.Omega.{arith}
 use native.Mathlib.Decide.{ℕ_discrete, dec_lt}
@@ -10,7 +10,7 @@ use lib.ListN.{length, get_or}
 use lib.Seq.{get_or-set_same, get_or-set_other}
 use lib.Dec.{eqb, leb, ltb}
 use Rattle.measures.specs.Lists.{Each, keep}
-use Rattle.measures.proofs.ListLaws.{cond-true, and_left, and_right, both_ways}
+use Rattle.measures.proofs.ListLaws.{cond-true, and_left, and_right, or_neither}
 use Rattle.matching.specs.Orders.{Order, Row, buys, sells, bids, asks, bid_ahead, ask_ahead, quantities}
 use Rattle.matching.specs.Memory.{most_word, order_at, orders_in, no_order, written}
 use Rattle.matching.specs.Clearing.{Cleared, traded_at, cleared_volume, clear_period}
@@ -34,19 +34,15 @@ use Rattle.matching.proofs.Laws.Periods.NoteLaws.{
   low-length,
 }
 
-neither : (a b : Bool) → (a || b) ≡ false → (a ≡ false) × (b ≡ false)
-neither true b e = both_ways e
-neither false b e = (refl, e)
-
 module _ (p : ℕ) (os : List Order) (high low : List ℕ) (b : Each (PricedBy high low) os) (short : p < 744)
     (e : prices_meet high low p ≡ false) where
   topped : get_or high p 0 < most_word
   unfolding prices_meet
-  topped = leb-false most_word (get_or high p 0) (neither (leb most_word (get_or high p 0)) (ltb (get_or low p 0) (get_or high p 0)) e).0
+  topped = leb-false most_word (get_or high p 0) (or_neither (leb most_word (get_or high p 0)) (ltb (get_or low p 0) (get_or high p 0)) e).0
 
   apart : get_or high p 0 ≤ get_or low p 0
   unfolding prices_meet
-  apart = ltb-false (get_or low p 0) (get_or high p 0) (neither (leb most_word (get_or high p 0)) (ltb (get_or low p 0) (get_or high p 0)) e).1
+  apart = ltb-false (get_or low p 0) (get_or high p 0) (or_neither (leb most_word (get_or high p 0)) (ltb (get_or low p 0) (get_or high p 0)) e).1
 
   bids-low : Each (λ (o : Order). o.price < get_or high p 0) (bids p os)
   bids-low =

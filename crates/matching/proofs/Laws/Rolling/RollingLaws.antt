@@ -2,14 +2,14 @@
 use Prim.Native.Nat.{ℕ, zero, suc, ◌+◌, ◌-◌, ◌<◌, ◌≤◌, min}
 use mathlib.Core.Path.{◌≡◌, refl, sym, ap, ◌∙◌}
 use mathlib.Core.Logic.{◌⊎◌, inl, inr}
-use mathlib.Core.Bool.{Bool, true, false, cond, ◌&&◌, ◌||◌}
+use mathlib.Core.Bool.{Bool, true, false, cond, ◌&&◌}
 use mathlib.Core.List.{List, [], ◌∷◌, map}
 use native.Mathlib.Omega.{arith}
 use borrow.Author.Tests.{eqb-true, eqb-false, leb-true, ltb-false, eq-eqb, ne_eqb}
 use lib.ListN.{length, get_or}
 use lib.Dec.{eqb, leb, ltb}
 use Rattle.measures.specs.Lists.{Each, Has, sum_of, keep}
-use Rattle.measures.proofs.ListLaws.{cond_case, and_left, and_right}
+use Rattle.measures.proofs.ListLaws.{cond_case, and_left, and_right, or_neither}
 use Rattle.matching.specs.Orders.{Order, Row, buys, sells, lessen, rising, numbers, quantities, bid_ahead, ask_ahead, laid}
 use Rattle.matching.specs.Memory.{no_order}
 use Rattle.matching.specs.Rolling.{Match, candidate, ahead_for, counterparts, matches, match_row, after_matches, meet}
@@ -251,17 +251,13 @@ best-first i os = laid_sorted (ahead_for i) (λ a b. ahead_for i b a ≡ false) 
         (λ e. ask_far a b c) (λ e. bid_far a b c)
 
 -- an order that does not stand ahead has no better price
-or_false : (a b : Bool) → (a || b) ≡ false → a ≡ false
-or_false true b e = e
-or_false false b e = refl
-
 ask_dearer : (a b : Order) → ask_ahead b a ≡ false → a.price ≤ b.price
 unfolding ask_ahead
-ask_dearer a b e = ltb-false b.price a.price (or_false (ltb b.price a.price) _ e)
+ask_dearer a b e = ltb-false b.price a.price (or_neither (ltb b.price a.price) _ e).0
 
 bid_cheaper : (a b : Order) → bid_ahead b a ≡ false → b.price ≤ a.price
 unfolding bid_ahead
-bid_cheaper a b e = ltb-false a.price b.price (or_false (ltb a.price b.price) _ e)
+bid_cheaper a b e = ltb-false a.price b.price (or_neither (ltb a.price b.price) _ e).0
 
 -- so the rows' prices get no better for the incoming order: a buy's never fall, a sale's never rise
 matches_pairs : (R : Order → Order → Type 0) (q : ℕ) (cs : List Order) → Pairs R cs → Pairs (λ d e. R d.order e.order) (matches q cs)

@@ -32,6 +32,7 @@ use Rattle.matching.proofs.Laws.Laying.RunLaws.{runs_popped}
 use Rattle.matching.proofs.Laws.Laying.DrawLaws.{each_order, keep_few, nothing_left, first_below, places_more, below_more}
 use Rattle.matching.proofs.Laws.Rolling.MeetingLaws.{match, matches_none, matches_spent, matches-more, after_none}
 use Rattle.matching.proofs.Laws.Rolling.MetLaws.{fills_of, matches_fill}
+use Rattle.matching.proofs.Laws.Clearing.VolumeLaws.{keep_some}
 
 -- the side that an incoming order meets holds its candidates
 turned : (a b c : Bool) → ((a && b) && c) ≡ (b && (a && c))
@@ -226,14 +227,6 @@ matches_under q (o ∷ cs) =
     ∷ matches (q - min q o.quantity) cs)
     (λ e. omega arith) (λ e. let t = matches_under (q - min q o.quantity) cs in omega arith)
 
-keep_under : (f : Order → Bool) (os : List Order) → quantities (keep f os) ≤ quantities os
-keep_under f [] = omega arith
-keep_under f (o ∷ os) = go (f o) (keep_under f os)
-  where
-    go : (b : Bool) → quantities (keep f os) ≤ quantities os → quantities (cond b (o ∷ keep f os) (keep f os)) ≤ o.quantity + quantities os
-    go true h = omega arith
-    go false h = omega arith
-
 met_under : (i : Order) (os : List Order) → sum_of (λ d. d.quantity) (matches i.quantity (counterparts i os)) ≤ quantities os
 unfolding counterparts
 met_under i os =
@@ -241,7 +234,7 @@ met_under i os =
       arith,
       matches_under i.quantity (laid (ahead_for i) (keep (candidate i) os)),
       laid-quantities (ahead_for i) (keep (candidate i) os),
-      keep_under
+      keep_some
           (candidate i) os,
     )
 

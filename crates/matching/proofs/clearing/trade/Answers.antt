@@ -1,7 +1,7 @@
 -- `trade`: each step's contract is one part of the definition, and the volume lies at the margin of both sides.
 use mathlib.Core.Path.{refl}
 use native.Mathlib.Omega.{arith}
-use Rattle.matching.proofs.Laws.Orders.FitLaws.{Fit, fit_gives}
+use Rattle.matching.proofs.Laws.Orders.FitLaws.{fit_gives}
 use Rattle.matching.proofs.Laws.Clearing.PlaceLaws.{stand_here}
 use Rattle.matching.proofs.Laws.Clearing.StepLaws.{sides_few, bids_at_margin, asks_at_margin, clears_some}
 use Rattle.matching.proofs.clearing.trade.Goals as goal

@@ -1,8 +1,9 @@
 -- `divide`: the places before i hold their packed numbers, and what is left is d less their rounded parts.
 use native.Mathlib.Omega.{arith}
 use Rattle.measures.proofs.SharingLaws.{product_fits}
-use Rattle.measures.proofs.SelectLaws.{amount_le, dividing_start, quotient_small, fraction-small, quotient_left, dividing_again, dividing_end}
+use Rattle.measures.proofs.SelectLaws.{dividing_start, quotient_small, fraction-small, quotient_left, dividing_again, dividing_end}
 use Rattle.measures.proofs.sharing.divide.Goals as goal
+use Rattle.measures.proofs.ListLaws.{amount_le}
 
 pub loop-i-init : goal.loop-i-init
 loop-i-init c = dividing_start _ _ _
@@ -11,7 +12,7 @@ pub overflow_mul-product : goal.overflow_mul-product
 overflow_mul-product c =
     record {
       fits =
-          product_fits _ _ (omega arith) (omega (arith, amount_le c.args.amounts.now c.loop-i.i (omega arith)));
+          product_fits _ _ (omega arith) (omega (arith, amount_le c.args.amounts.now c.loop-i.i));
     }
 
 pub overflow_mul-parts : goal.overflow_mul-parts
