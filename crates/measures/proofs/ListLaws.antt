@@ -23,6 +23,10 @@ pub cond_case : {A : Type 0} (P : A → Type 0) (b : Bool) (x y : A) → (b ≡ 
 cond_case P true x y h k = h refl
 cond_case P false x y h k = k refl
 
+pub cond_zero : (b : Bool) → cond {A = ℕ} b 0 0 ≡ 0
+cond_zero true = refl
+cond_zero false = refl
+
 -- no Bool is both
 pub both_ways : {X : Type 0} → true ≡ false → X
 both_ways e = let z : ◌≡◌ {A = ℕ} 0 1 = cc in absurd (omega arith)
@@ -49,6 +53,10 @@ or_left a b e = rw e
 pub or_right : (a b : Bool) → b ≡ true → (a || b) ≡ true
 or_right true b e = refl
 or_right false b e = e
+
+pub or_none : (a : Bool) → (a || false) ≡ a
+or_none true = refl
+or_none false = refl
 
 pub or_neither : (a b : Bool) → (a || b) ≡ false → (a ≡ false) × (b ≡ false)
 or_neither true b e = both_ways e
@@ -80,6 +88,12 @@ and_right_false false b e = refl
 pub and_true_right : (b : Bool) → (b && true) ≡ b
 and_true_right true = refl
 and_true_right false = refl
+
+pub with_true : (b : Bool) (x : ℕ) → cond (b && true) x 0 ≡ cond b x 0
+with_true b x = ap (λ (t : Bool). cond t x 0) (and_true_right b)
+
+pub and_holding : (a b : Bool) → b ≡ true → (a && b) ≡ a
+and_holding a b e = rw e (and_true_right a)
 
 -- a list of conditions, as facts
 abbrev pub AllTrue : List Bool → Type 0

@@ -107,8 +107,4 @@ module _ (m : List ℕ) (i : ℕ) (r : Ranged m) (h : i < word m ORDERS) where
 
 -- some, where it is not none
 pub not_none : (n : ℕ) → (n ≡ 0 → ⊥) → 0 < n
-not_none n h = go (ℕ_discrete n 0)
-  where
-    go : Dec (n ≡ 0) → 0 < n
-    go (yes e) = absurd (h e)
-    go (no e) = omega arith
+not_none n h = omega arith

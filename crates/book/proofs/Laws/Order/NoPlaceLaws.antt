@@ -3,7 +3,7 @@ use Rattle.std.proofs.Common.{◌≡◌, ℕ, ◌<◌, ◌≤◌, Bool, true, fa
 use Rattle.std.proofs.Common.{ap, ◌∙◌, inl, inr, append-nil, arith, ltb-false, eq-eqb, ne_eqb}
 use borrow.Author.Tests.{eqb-false}
 use Rattle.measures.specs.Lists.{sum_of, table_from}
-use Rattle.measures.proofs.ListLaws.{cond-false, and_right_false, or_neither}
+use Rattle.measures.proofs.ListLaws.{cond-false, and_right_false, or_neither, and_holding}
 use Rattle.matching.specs.Orders.{Order as OpenOrder, leaving, ask_ahead, insert, laid}
 use Rattle.matching.specs.Rolling.{Met, meet, candidate, counterparts, matches}
 use Rattle.matching.proofs.Laws.Rolling.RollingLaws.{traded_and_left}
@@ -50,10 +50,6 @@ earlier_first (c ∷ pre) post n t h = go c.applies (λ k. earlier_first pre pos
     go true ih k = refl
     go false ih k = ih k
 
-and_true_right : (a c : Bool) → c ≡ true → (a && c) ≡ a
-and_true_right true c e = e
-and_true_right false c e = refl
-
 module _ (b : Book) (u d p price q lent : ℕ) where
   abbrev arriving : OpenOrder
   arriving = new_order b u d p price q
@@ -89,7 +85,7 @@ let_through b u d p price q lent n e =
 pub check_17_stays : Check17Stays
 check_17_stays b u d p price q lent h =
     by_check b u d p price q lent
-    ∙ same_check b u d p price q lent _ _ (and_true_right (full b u d p price q lent) (needs_place b (new_order b u d p price q)) (needs h))
+    ∙ same_check b u d p price q lent _ _ (and_holding (full b u d p price q lent) (needs_place b (new_order b u d p price q)) (needs h))
   where
     needs : (0 < (meet (new_order b u d p price q) b.orders).left) ⊎ (b.phase ≡ call_phase) → needs_place b (new_order b u d p price q) ≡ true
     needs (inl l) = rest_needs b (new_order b u d p price q) l

@@ -1,11 +1,11 @@
 -- The checks of an order on a book in memory: names, day and tables, limits.
-use Rattle.std.proofs.Common.{◌≡◌, ℕ, zero, suc, ◌+◌, ◌-◌, ◌*◌, ◌<◌, ◌≤◌, Bool, true, false, cond, not, ◌&&◌, ◌||◌, eqb, ltb, leb, List, [], ◌∷◌, ◌++◌, length, get_or, refl}
+use Rattle.std.proofs.Common.{◌≡◌, ℕ, zero, suc, ◌+◌, ◌-◌, ◌*◌, ◌<◌, ◌≤◌, Bool, true, false, cond, not, ◌&&◌, eqb, ltb, leb, List, [], ◌∷◌, ◌++◌, length, get_or, refl}
 use Rattle.std.proofs.Common.{sym, ap, ◌∙◌, arith, le-ltb, lt-ltb, eq-eqb, ne_eqb, le-leb}
 use borrow.Author.Tests.{lt-leb}
 use Rattle.measures.specs.Ranges.{most_energy}
 use Rattle.measures.specs.Lists.{keep, sum_of, sum}
 use Rattle.measures.proofs.RangeLaws.{In, inside, outside}
-use Rattle.measures.proofs.ListLaws.{cond-true, cond-false, or_left, or_right, sum_of-table, sum_ext, sum_more}
+use Rattle.measures.proofs.ListLaws.{cond-true, cond-false, or_left, or_right, sum_of-table, sum_ext, sum_more, or_none}
 use Rattle.matching.specs.Orders.{Order as OpenOrder, sells}
 use Rattle.matching.proofs.Laws.Lists.EachLaws.{keep-keep}
 use Rattle.matching.specs.Memory.{order_at, orders_in}
@@ -249,10 +249,6 @@ pub mark_both : (d mark : ℕ) → mark ≡ 3 → true ≡ marked_against d mark
 mark_both d mark e = sym (or_right (cond (sells d) (eqb mark 2) (eqb mark 1)) (eqb mark 3) (eq-eqb mark 3 e))
 
 -- no mark of both
-or_none : (a : Bool) → (a || false) ≡ a
-or_none true = refl
-or_none false = refl
-
 pub mark_one : (d mark : ℕ) → d ≤ 1 → (mark ≡ 3 → ⊥) → eqb mark (2 - d) ≡ marked_against d mark
 mark_one zero mark h n = rw (ne_eqb mark 3 n) (sym (or_none (eqb mark 2)))
 mark_one (suc zero) mark h n = rw (ne_eqb mark 3 n) (sym (or_none (eqb mark 1)))

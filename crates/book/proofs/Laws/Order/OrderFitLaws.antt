@@ -1,10 +1,10 @@
 -- The fit of an order on a sound book in memory: its quantity stands alone in its period.
-use Rattle.std.proofs.Common.{◌≡◌, ℕ, zero, suc, ◌<◌, ◌≤◌, Bool, true, false, cond, eqb, List, length, get_or, set, replicate, refl}
+use Rattle.std.proofs.Common.{◌≡◌, ℕ, zero, suc, ◌<◌, ◌≤◌, Bool, true, false, cond, eqb, List, length, get_or, set, replicate, refl, sym}
 use Rattle.std.proofs.Common.{◌∙◌, arith, length-set, get_or-set_other, get_or-set_same, eq-eqb, ne_eqb, eqb-true}
 use native.Mathlib.Decide.{ℕ_discrete}
 use lib.ListN.{length-replicate}
 use Rattle.measures.specs.Ranges.{most_energy}
-use Rattle.measures.proofs.ListLaws.{both_ways}
+use Rattle.measures.proofs.ListLaws.{both_ways, cond_zero}
 use Rattle.limits.specs.Units.{generator}
 use Rattle.book.specs.Book.{unit_of}
 use Rattle.book.specs.Trades.{raises}
@@ -51,10 +51,6 @@ does_lower false zero l e = refl
 does_lower false (suc zero) l e = both_ways e
 does_lower false (suc (suc d)) l e = absurd (omega arith)
 
-none : (b : Bool) → ◌≡◌ {A = ℕ} 0 (cond b 0 0)
-none true = refl
-none false = refl
-
 module _ (m : List ℕ) (e : sound_in m ≡ true) (n u d p q r : ℕ) (from : 1 ≤ u) (upto : u ≤ word m UNITS) (h : p < n) where
   checked : (raising lowering : List ℕ) → ((i : ℕ) → get_or raising i 0 ≡ (order_declares (decode m) u d p q).raising i)
       → ((i : ℕ) → get_or lowering i 0 ≡ (order_declares (decode m) u d p q).lowering i)
@@ -70,11 +66,11 @@ module _ (m : List ℕ) (e : sound_in m ≡ true) (n u d p q r : ℕ) (from : 1 
   fit_raising t =
       checked (set (replicate {A = ℕ} n 0) p q) (replicate {A = ℕ} n 0)
       (λ i. alone_at n p q h i ∙ rw t refl)
-      (λ i. zeros_at n i ∙ rw (not_lower (generator (unit_of (decode m) u).kind) d t) (none (eqb i p)))
+      (λ i. zeros_at n i ∙ rw (not_lower (generator (unit_of (decode m) u).kind) d t) (sym (cond_zero (eqb i p))))
 
   pub fit_lowering : d ≤ 1 → raises (unit_of (decode m) u).kind d ≡ false
       → Fitted (decode m) u (declared (replicate {A = ℕ} n 0) (set (replicate {A = ℕ} n 0) p q)) r → r ≡ first_refusal (order_fit_checks (decode m) u d p q)
   fit_lowering l t =
       checked (replicate {A = ℕ} n 0) (set (replicate {A = ℕ} n 0) p q)
-      (λ i. zeros_at n i ∙ rw t (none (eqb i p)))
+      (λ i. zeros_at n i ∙ rw t (sym (cond_zero (eqb i p))))
       (λ i. alone_at n p q h i ∙ rw (does_lower (generator (unit_of (decode m) u).kind) d l t) refl)

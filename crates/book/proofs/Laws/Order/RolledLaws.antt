@@ -1,9 +1,9 @@
 -- Order in the rolling phase leaves a sound book: as if it first only waited, and then traded.
-use Rattle.std.proofs.Common.{◌≡◌, ℕ, ◌+◌, ◌-◌, ◌<◌, ◌≤◌, Bool, true, false, cond, eqb, ◌⊎◌, List, [], ◌∷◌, ◌++◌, length, get_or, set, refl}
+use Rattle.std.proofs.Common.{◌≡◌, ℕ, ◌+◌, ◌-◌, ◌<◌, ◌≤◌, Bool, true, false, cond, eqb, ◌⊎◌, List, [], ◌∷◌, ◌++◌, length, get_or, set, refl, sym}
 use Rattle.std.proofs.Common.{sym, ap, ◌∙◌, inl, inr, append-nil, arith, length-append, eq-eqb, ne_eqb, le-leb}
 use native.Mathlib.Decide.{ℕ_discrete, dec_lt}
 use Rattle.measures.specs.Lists.{Each}
-use Rattle.measures.proofs.ListLaws.{not_both}
+use Rattle.measures.proofs.ListLaws.{not_both, cond_zero}
 use Rattle.matching.specs.Orders.{Order as OpenOrder, Row, leaving}
 use Rattle.matching.specs.Rolling.{Met, candidate, meet}
 use Rattle.matching.proofs.Laws.Lists.EachLaws.{each_map, has_each}
@@ -106,11 +106,7 @@ module _ (o : OpenOrder) (left : ℕ) where
 
   waiting_open : (f : ℕ → Bool) (u p : ℕ) → open_of f u p (waiting (leaving o left)) ≡ cond (is_of f u p o) left 0
   waiting_open f u p =
-      waiting_case (λ l. open_of f u p l ≡ cond (is_of f u p o) left 0) (λ e. rw e (none (is_of f u p o))) (λ some. omega arith)
-    where
-      none : (c : Bool) → ◌≡◌ {A = ℕ} 0 (cond c 0 0)
-      none true = refl
-      none false = refl
+      waiting_case (λ l. open_of f u p l ≡ cond (is_of f u p o) left 0) (λ e. rw e (sym (cond_zero (is_of f u p o)))) (λ some. omega arith)
 
 module _ (b : Book) (u d p price q : ℕ) (s : Sound b) (a : OrderPassed b u d p price q) where
   abbrev incoming : OpenOrder

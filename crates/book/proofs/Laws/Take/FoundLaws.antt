@@ -1,12 +1,12 @@
 -- The open offer of a number, by its place in memory, and who can take it.
-use Rattle.std.proofs.Common.{◌≡◌, ℕ, zero, suc, ◌+◌, ◌<◌, ◌≤◌, min, Bool, true, false, not, ◌&&◌, eqb, ltb, leb, List, [], ◌∷◌, length, get_or, refl}
+use Rattle.std.proofs.Common.{◌≡◌, ℕ, zero, suc, ◌+◌, ◌<◌, ◌≤◌, min, Bool, true, false, not, eqb, ltb, leb, List, [], ◌∷◌, length, get_or, refl}
 use Rattle.std.proofs.Common.{sym, ap, ◌∙◌, arith, lt-ltb, eq-eqb, ne_eqb, le-leb}
 use native.Mathlib.Decide.{ℕ_discrete}
 use borrow.Author.Tests.{lt-leb}
 use Rattle.measures.specs.Ranges.{most_energy}
 use Rattle.measures.specs.Lists.{keep, table}
 use Rattle.measures.specs.Sharing.{total}
-use Rattle.measures.proofs.ListLaws.{cond-true, cond-false, and_true, and_left-false, and_right_false}
+use Rattle.measures.proofs.ListLaws.{cond-true, cond-false, and_true, and_left-false, and_right_false, and_holding}
 use Rattle.limits.specs.Units.{periods, generator}
 use Rattle.book.specs.Book.{OpenOffer, no_offer, unit_of, offer_of, offer_open}
 use Rattle.book.specs.Refusals.{same_side}
@@ -108,12 +108,8 @@ module _ (m : List ℕ) (j u q whole : ℕ) (hw : whole ≡ min (total (table (p
   takes_by_side : word m (offer_place j + PARTNER) ≡ 0 → q ≤ whole → not (same_side (decode m) (word m (offer_place j + UNIT)) u) ≡ takes m j u q
   unfolding takes
   takes_by_side p l = sym (cond-true (eqb (word m (offer_place j + PARTNER)) 0) _ _ (eq-eqb _ _ p)
-      (go (not (same_side (decode m) (word m (offer_place j + UNIT)) u)) (leb q (total (table (periods (word m DAYS)) (amount_at m j))))
+      (and_holding (not (same_side (decode m) (word m (offer_place j + UNIT)) u)) (leb q (total (table (periods (word m DAYS)) (amount_at m j))))
       (le-leb q (total (table (periods (word m DAYS)) (amount_at m j))) (omega arith))))
-    where
-      go : (a b : Bool) → b ≡ true → (a && b) ≡ a
-      go true b e = e
-      go false b e = refl
 
   pub takes_load : word m (offer_place j + PARTNER) ≡ 0 → q ≤ whole → (h : Bool) → generator (unit_of (decode m) (word m (offer_place j + UNIT))).kind ≡ true → h
       ≡ generator (unit_of (decode m) u).kind → not h ≡ takes m j u q

@@ -5,7 +5,7 @@ use native.Mathlib.Decide.{ℕ_discrete}
 use borrow.Author.Tests.{eqb-false}
 use Rattle.measures.specs.Lists.{Each, keep}
 use Rattle.measures.specs.Sharing.{total, less_each}
-use Rattle.measures.proofs.ListLaws.{both_ways, and_right_false}
+use Rattle.measures.proofs.ListLaws.{both_ways, and_right_false, cond_zero, with_true}
 use Rattle.measures.proofs.SharingLaws.{Within, within_at}
 use Rattle.measures.proofs.LessLaws.{less-length, less_at_lem, less-total}
 use Rattle.limits.specs.Units.{generator}
@@ -32,14 +32,6 @@ take_named k way s t price (q ∷ ps) hs ht = go (eqb q 0) (take_named (suc k) w
     go true h = h
     go false h = ((hs, ht), h)
 
-no_choice : (c : Bool) → cond {A = ℕ} c 0 0 ≡ 0
-no_choice true = refl
-no_choice false = refl
-
-with_true : (c : Bool) (q : ℕ) → cond (c && true) q 0 ≡ cond c q 0
-with_true true q = refl
-with_true false q = refl
-
 cond_add : (c : Bool) (x y z : ℕ) → x + y ≡ z → cond c x 0 + cond c y 0 ≡ cond c z 0
 cond_add true x y z e = e
 cond_add false x y z e = omega arith
@@ -52,7 +44,7 @@ module _ (way s t price : ℕ) (who : Row → ℕ) (v : ℕ) (is : (k q : ℕ) �
   one-part p k q rest = go (ℕ_discrete q 0)
     where
       go : Dec (q ≡ 0) → traded_by who u p (cond (eqb q 0) rest (take_row way s t price k q ∷ rest)) ≡ cond (eqb v u && eqb k p) q 0 + traded_by who u p rest
-      go (yes e) = rw e (omega (arith, no_choice (eqb v u && eqb k p)))
+      go (yes e) = rw e (omega (arith, cond_zero (eqb v u && eqb k p)))
       go (no n) = rw (ne_eqb q 0 n, is k q)
 
   part-before : (p k : ℕ) (ps : List ℕ) → p < k → traded_by who u p (take_rows_from k way s t price ps) ≡ 0
@@ -64,7 +56,7 @@ module _ (way s t price : ℕ) (who : Row → ℕ) (v : ℕ) (is : (k q : ℕ) �
 
   pub part_at : (p k j : ℕ) (ps : List ℕ) → k + j ≡ p → traded_by who u p (take_rows_from k way s t price ps) ≡ cond (eqb v u) (get_or ps j 0) 0
   unfolding take_rows_from traded_by
-  part_at p k j [] h = sym (no_choice (eqb v u))
+  part_at p k j [] h = sym (cond_zero (eqb v u))
   part_at p k zero (q ∷ ps) h =
       one-part p k q (take_rows_from (suc k) way s t price ps)
       ∙ rw (eq-eqb k p (omega arith)) (omega (arith, with_true (eqb v u) q, part-before p (suc k) ps (omega arith)))

@@ -8,7 +8,7 @@ use native.Mathlib.Decide.{ℕ_discrete}
 use lib.Dec.{eqb}
 use borrow.Author.Tests.{eq-eqb, ne_eqb, eqb-true}
 use Rattle.measures.specs.Lists.{Each, sum_of, keep}
-use Rattle.measures.proofs.ListLaws.{sum_of_append, and_right, and_right_false}
+use Rattle.measures.proofs.ListLaws.{sum_of_append, and_right, and_right_false, with_true}
 use Rattle.matching.specs.Orders.{Order, Row, sells, buys, quantities, numbers, rising}
 use Rattle.matching.specs.Clearing.{clear_period, clear_from}
 use Rattle.matching.proofs.Laws.Lists.EachLaws.{each_map, each_all, keep-sum}
@@ -77,12 +77,8 @@ module _ (period : ℕ) (os : List Order) (rises : rising (numbers os) ≡ true)
       sum_of_ext (λ (r : Row). cond (eqb (party r) u && eqb r.period period) r.quantity 0) (λ (r : Row). cond (eqb (party r) u) r.quantity 0) rows
       (each_map (λ r. r.period ≡ period) (λ (r : Row). cond (eqb (party r) u && eqb r.period period) r.quantity 0
       ≡ cond (eqb (party r) u) r.quantity 0) rows
-      (λ r e. rw (eq-eqb r.period period e) (go (eqb (party r) u) r.quantity)) in_period)
+      (λ r e. rw (eq-eqb r.period period e) (with_true (eqb (party r) u) r.quantity)) in_period)
       ∙ sym (keep-sum (λ r. r.quantity) (λ r. eqb (party r) u) rows)
-    where
-      go : (b : Bool) (q : ℕ) → cond (b && true) q 0 ≡ cond b q 0
-      go true q = refl
-      go false q = refl
 
   -- in another
   traded_elsewhere : (party : Row → ℕ) (u p : ℕ) → (p ≡ period → ⊥) → traded_of party u p rows ≡ 0

@@ -75,10 +75,7 @@ module _ (P : Pair → Type 0) (B S : Order → Type 0) (pair : (x : Pair) → B
       let ih = bid_each a f (e + h.amount) hs b s.1 in
       cond_case (λ (l : List Pair). Each P l) (eqb (shared a f e h) 0) (pairs_of_bid a f (e + h.amount) hs)
       (record { bid = f.order; ask = h.order; amount = shared a f e h } ∷ pairs_of_bid a f (e + h.amount) hs) (λ _. ih)
-      (λ q. let n = eqb-false (shared a f e h) 0 q in (pair _ b s.0 (positive (shared a f e h) n), ih))
-    where
-      positive : (n : ℕ) → (n ≡ 0 → ⊥) → 0 < n
-      positive n h = omega arith
+      (λ q. let n = eqb-false (shared a f e h) 0 q in (pair _ b s.0 (omega (arith, n)), ih))
 
   pub pairs_each : (a : ℕ) (fs hs : List Fill) → Each (λ f. B f.order) fs → Each (λ h. S h.order) hs → Each P (overlap_pairs a fs hs)
   unfolding overlap_pairs
