@@ -33,4 +33,5 @@ bounds-totals-p-2 c =
 
 pub returns : goal.returns
 returns c =
-    order_added _ _ _ _ c.if-book-at.false c.if-book-at-2.false _ _ (omega (arith, order_words_lem _ _ c.requires.ranged.0 c.requires.ranged.1)) (order_words_lem _ _ c.requires.ranged.0 c.requires.ranged.1).quantity.1
+    let w = order_words_lem _ _ c.requires.ranged.0 c.requires.ranged.1 in
+    order_added _ _ _ _ c.if-book-at.false c.if-book-at-2.false _ _ (omega (arith, w)) w.quantity.1
