@@ -23,7 +23,7 @@ use measures::Energy;
 // What the order at place k has open of a unit in one direction goes to its period.
 fn add_order(book: &[u64], unit: u64, direction: u64, k: usize, totals: &mut [u64])
     requires ranged { (Ranged book.now) × (k < word book.now ORDERS) }
-    requires totals_len { (length totals.old ≡ 744) × (Below 2000000000000 totals.old) }
+    requires table { (length totals.old ≡ 744) × (Below 2000000000000 totals.old) }
     ensures { Added (periods (word book.now DAYS)) totals.old totals.new
         (order_share book.now unit direction k) most_energy }
 {
@@ -41,7 +41,7 @@ fn add_order(book: &[u64], unit: u64, direction: u64, k: usize, totals: &mut [u6
 // All of a unit's orders in one direction.
 fn add_orders(book: &[u64], unit: u64, direction: u64, totals: &mut [u64])
     requires ranged { Ranged book.now }
-    requires totals_len { (length totals.old ≡ 744) × (Below 40000000000 totals.old) }
+    requires table { (length totals.old ≡ 744) × (Below 40000000000 totals.old) }
     ensures { Added (periods (word book.now DAYS)) totals.old totals.new
         (λ p. sum (word book.now ORDERS) (λ k. order_share book.now unit direction k p)) 1024000000000 }
 {
@@ -56,7 +56,7 @@ fn add_orders(book: &[u64], unit: u64, direction: u64, totals: &mut [u64])
 // The amounts of the offer at place j go to their periods, if it is the unit's.
 fn add_offer(book: &[u64], unit: u64, j: usize, totals: &mut [u64])
     requires ranged { (Ranged book.now) × (j < word book.now OFFERS) }
-    requires totals_len { (length totals.old ≡ 744) × (Below 2000000000000 totals.old) }
+    requires table { (length totals.old ≡ 744) × (Below 2000000000000 totals.old) }
     ensures { Added (periods (word book.now DAYS)) totals.old totals.new (offer_share book.now unit j)
         most_energy }
 {
@@ -74,7 +74,7 @@ fn add_offer(book: &[u64], unit: u64, j: usize, totals: &mut [u64])
 // All of a unit's offers.
 fn add_offers(book: &[u64], unit: u64, totals: &mut [u64])
     requires ranged { Ranged book.now }
-    requires totals_len { (length totals.old ≡ 744) × (small totals.old) }
+    requires table { (length totals.old ≡ 744) × (small totals.old) }
     ensures { Added (periods (word book.now DAYS)) totals.old totals.new
         (λ p. sum (word book.now OFFERS) (λ j. offer_share book.now unit j p)) 32000000000 }
 {
@@ -137,7 +137,7 @@ pub(crate) fn bounds_of(book: &[u64], k: usize) -> Bounds
 // All days of the unit at place k, with what raises and what lowers by period.
 fn open_unit(book: &[u64], k: usize, limits: &[u64; 24], raising: &[u64], lowering: &[u64]) -> Sums
     requires ranged { (Ranged book.now) × (k < word book.now UNITS) × (HourTable book.now k limits.now) }
-    requires raising_len { (length raising.now ≡ 744) × (length lowering.now ≡ 744) × (Below most_open raising.now) × (Below most_open lowering.now) }
+    requires tables { (length raising.now ≡ 744) × (length lowering.now ≡ 744) × (Below most_open raising.now) × (Below most_open lowering.now) }
     ensures { UnitPass book.now k (λ p. slice_index raising.now p) (λ p. slice_index lowering.now p) result.bad result.marks
         result.whole result.volume }
 {
@@ -166,8 +166,8 @@ fn open_unit(book: &[u64], k: usize, limits: &[u64; 24], raising: &[u64], loweri
 
 // What the unit at place k comes to with these amounts by period: 19, 20, 21 or 0. The book is sound, so a fault is an hour's.
 fn fit_of(book: &[u64], k: usize, raising: &[u64], lowering: &[u64]) -> u64
-    requires book_value { (sound_in book.now ≡ true) × (Ranged book.now) × (k < word book.now UNITS) }
-    requires raising_len { (length raising.now ≡ 744) × (length lowering.now ≡ 744) × (Below most_open raising.now) × (Below most_open lowering.now) }
+    requires is_sound { (sound_in book.now ≡ true) × (Ranged book.now) × (k < word book.now UNITS) }
+    requires tables { (length raising.now ≡ 744) × (length lowering.now ≡ 744) × (Below most_open raising.now) × (Below most_open lowering.now) }
     ensures { UnitCame book.now k (λ p. slice_index raising.now p) (λ p. slice_index lowering.now p) result }
 {
     let at = UNIT_TABLE + UNIT_WORDS * k;
@@ -201,8 +201,8 @@ pub(crate) fn raising_direction(book: &[u64], unit: u64) -> u64
 // What a unit of a sound book comes to with a declaration lent as amounts by period: 19, 20 or 21 for what does not fit, or
 // 0. The amounts are then those with what the unit has open.
 pub(crate) fn misfit(book: &[u64], unit: u64, raising: &mut [u64], lowering: &mut [u64]) -> u64
-    requires book_value { (sound_in book.now ≡ true) × (Ranged book.now) × (1 ≤ unit) × (unit ≤ word book.now UNITS) }
-    requires raising_len { (length raising.old ≡ 744) × (length lowering.old ≡ 744) × (small raising.old) × (small lowering.old) }
+    requires is_sound { (sound_in book.now ≡ true) × (Ranged book.now) × (1 ≤ unit) × (unit ≤ word book.now UNITS) }
+    requires tables { (length raising.old ≡ 744) × (length lowering.old ≡ 744) × (small raising.old) × (small lowering.old) }
     ensures { Fitted (decode book.now) unit (declared raising.old lowering.old) result }
 {
     let direction = raising_direction(book, unit);

@@ -33,8 +33,8 @@ struct Told {
 // What a line says at its end.
 fn end_line(reading: Reading, numbers: &mut [u64]) -> Heard
     requires { length numbers.old ≡ 27 }
-    ensures numbers_value { rest_of reading numbers.old [] ≡ called result.letter (take result.count numbers.new) }
-    ensures count_bound { result.count ≤ 27 }
+    ensures says { rest_of reading numbers.old [] ≡ called result.letter (take result.count numbers.new) }
+    ensures few { result.count ≤ 27 }
 {
     match reading {
         Reading::Start => Heard {
@@ -178,7 +178,7 @@ fn answer_opening(started: bool, numbers: &[u64], book: &mut [u64], out: &mut [u
     ensures answered { Answered started book.old
         (opening (get_or numbers.now 0 0) (get_or numbers.now 1 0) (get_or numbers.now 2 0))
         result.started book.new (take result.length out.new) }
-    ensures length_bound { result.length ≤ 95256 }
+    ensures fits { result.length ≤ 95256 }
 {
     let days = numbers[0];
     if 1 < days {
@@ -203,11 +203,11 @@ fn answer_call(
     rows: &mut [u64],
     out: &mut [u8],
 ) -> Printed
-    requires numbers_len { (length numbers.now ≡ 27) × (length book.old ≡ book_words 1) × (length rows.old ≡ 4464) × (length out.old ≡ 95256) }
-    requires book_value { one_day book.old ≡ true }
+    requires lent { (length numbers.now ≡ 27) × (length book.old ≡ book_words 1) × (length rows.old ≡ 4464) × (length out.old ≡ 95256) }
+    requires one_day_stands { one_day book.old ≡ true }
     ensures answered { Answered true book.old (calling (call_of letter numbers.now))
         result.started book.new (take result.length out.new) }
-    ensures length_bound { result.length ≤ 95256 }
+    ensures fits { result.length ≤ 95256 }
 {
     if is_beyond(letter, book) {
         return turn_down(true, out);
@@ -239,7 +239,7 @@ pub(crate) fn answer(
     requires { (length numbers.old ≡ 27) × (length book.old ≡ book_words 1) × (length rows.old ≡ 4464) × (length out.old ≡ 95256) }
     ensures answered { Answered started book.old (rest_of reading numbers.old [])
         result.started book.new (take result.length out.new) }
-    ensures length_bound { result.length ≤ 95256 }
+    ensures fits { result.length ≤ 95256 }
 {
     let heard = end_line(reading, numbers);
     let letter = heard.letter;

@@ -59,7 +59,7 @@ pub fn step(
 ) -> Progress
     ensures stepped { Stepped (state desk numbers.old book.old) bytes.now
         (state result.desk numbers.new book.new) result.used (take result.length out.new) }
-    ensures length_bound { result.length ≤ 95256 }
+    ensures fits { result.length ≤ 95256 }
 {
     let end = line_end(bytes);
     let started = desk.started;
@@ -93,7 +93,7 @@ pub fn end(
 ) -> Printed
     ensures ended { Ended (state desk numbers.old book.old)
         result.started book.new (take result.length out.new) }
-    ensures length_bound { result.length ≤ 95256 }
+    ensures fits { result.length ≤ 95256 }
 {
     let reading = desk.reading;
     let started = desk.started;

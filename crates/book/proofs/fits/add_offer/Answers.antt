@@ -14,7 +14,7 @@ overflow_add-totals-in-loop-p-2 c =
     omega (
       arith,
       c.loop-p.invariant.1.still c.loop-p.p (omega arith),
-      c.requires.totals_len.1 c.loop-p.p,
+      c.requires.table.1 c.loop-p.p,
       amount_small c.args.book.now c.args.j c.loop-p.p
           c.requires.ranged.0 c.requires.ranged.1 (omega arith),
     )

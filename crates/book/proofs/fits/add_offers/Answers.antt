@@ -8,7 +8,7 @@ loop-j-init c = (search rules, shares_none _ _ _)
 
 pub add_offer-requires : goal.add_offer-requires
 add_offer-requires c =
-    record { ranged = (search rules, search rules); totals_len = (omega arith, λ i. omega (arith, c.loop-j.invariant.1.grown i, c.requires.totals_len.1 i)) }
+    record { ranged = (search rules, search rules); table = (omega arith, λ i. omega (arith, c.loop-j.invariant.1.grown i, c.requires.table.1 i)) }
 
 pub loop-j-preserved : goal.loop-j-preserved
 loop-j-preserved c =

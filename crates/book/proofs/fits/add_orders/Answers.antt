@@ -8,7 +8,7 @@ loop-k-init c = (search rules, shares_none _ _ _)
 
 pub add_order-requires : goal.add_order-requires
 add_order-requires c =
-    record { ranged = (search rules, search rules); totals_len = (omega arith, λ i. omega (arith, c.loop-k.invariant.1.grown i, c.requires.totals_len.1 i)) }
+    record { ranged = (search rules, search rules); table = (omega arith, λ i. omega (arith, c.loop-k.invariant.1.grown i, c.requires.table.1 i)) }
 
 pub loop-k-preserved : goal.loop-k-preserved
 loop-k-preserved c =

@@ -12,8 +12,8 @@ open_day-t-requires c = (
   omega arith,
   omega arith,
   limits_below _ _ _ c.requires.ranged.0 c.requires.ranged.1 c.requires.ranged.2,
-  c.requires.raising_len.2,
-  c.requires.raising_len.3,
+  c.requires.tables.2,
+  c.requires.tables.3,
   omega arith,
   omega arith,
 )

@@ -17,8 +17,8 @@ copy_amounts-requires c = let r = sound_readable c.args.book.now c.requires.0 in
 
 pub misfit-requires : goal.misfit-requires
 misfit-requires c = record {
-  book_value = (c.requires.0, sound_ranged c.args.book.now c.requires.0, c.requires.1, c.requires.2);
-  raising_len = (
+  is_sound = (c.requires.0, sound_ranged c.args.book.now c.requires.0, c.requires.1, c.requires.2);
+  tables = (
     c.copy_amounts.auto.copy,
     refl,
     copied_small c.args.amounts.now c.copy_amounts.new.copy c.requires.4 (copied (goal.at.misfit-requires c).After-copy_amounts),

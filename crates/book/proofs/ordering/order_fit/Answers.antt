@@ -19,8 +19,8 @@ raises_net-requires c = (sound_readable _ c.requires.0, c.requires.1.from, c.req
 pub misfit-requires : goal.misfit-requires
 misfit-requires c =
     let r = sound_readable _ c.requires.0 in record {
-      book_value = (c.requires.0, sound_ranged _ c.requires.0, c.requires.1.from, c.requires.1.upto);
-      raising_len = (
+      is_sound = (c.requires.0, sound_ranged _ c.requires.0, c.requires.1.from, c.requires.1.upto);
+      tables = (
         alone_length 744 c.args.wanted.period c.args.wanted.quantity.0,
         refl,
         alone_small 744 c.args.wanted.period c.args.wanted.quantity.0 (omega arith)
@@ -38,8 +38,8 @@ returns-then-raises_net c =
 pub misfit-requires-2 : goal.misfit-requires-2
 misfit-requires-2 c =
     let r = sound_readable _ c.requires.0 in record {
-      book_value = (c.requires.0, sound_ranged _ c.requires.0, c.requires.1.from, c.requires.1.upto);
-      raising_len = (
+      is_sound = (c.requires.0, sound_ranged _ c.requires.0, c.requires.1.from, c.requires.1.upto);
+      tables = (
         refl,
         alone_length 744 c.args.wanted.period c.args.wanted.quantity.0,
         zeros_below 744 _,

@@ -18,8 +18,8 @@ pub misfit-requires : goal.misfit-requires
 misfit-requires c =
     let a = c.args in
     let p = c.requires in record {
-      book_value = (p.0, sound_ranged a.book.now p.0, p.2, p.3);
-      raising_len = (
+      is_sound = (p.0, sound_ranged a.book.now p.0, p.2, p.3);
+      tables = (
         search rules,
         refl,
         raising_small a.book.now a.unit a.j a.quantity.0 p.0 p.1 (p.2, p.3) p.4 p.5 _ _ p.6

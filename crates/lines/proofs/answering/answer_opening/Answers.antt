@@ -7,7 +7,7 @@ use Rattle.lines.proofs.answering.answer_opening.Goals.{After-open}
 pub returns-then-days-gt1 : goal.returns-then-days-gt1
 returns-then-days-gt1 c =
     let d = c.turn_down.ensures in
-    record { answered = turned_down _ _ _ _ _ (days_down _ _ _ _ (omega arith)) d.0 d.1; length_bound = d.2 }
+    record { answered = turned_down _ _ _ _ _ (days_down _ _ _ _ (omega arith)) d.0 d.1; fits = d.2 }
 
 pub returns-then-told-ne0 : goal.returns-then-told-ne0
 returns-then-told-ne0 c =
@@ -15,7 +15,7 @@ returns-then-told-ne0 c =
     let i = c.if-told-ne0.true in
     let o = (goal.at.returns-then-told-ne0 c).After-open.«open».ensures in
     let p = c.print_no-length.ensures in
-    record { answered = opening_no _ _ _ _ _ _ _ o (omega arith) (omega arith) _ _ t.0 i p.0; length_bound = omega arith }
+    record { answered = opening_no _ _ _ _ _ _ _ o (omega arith) (omega arith) _ _ t.0 i p.0; fits = omega arith }
 
 pub returns : goal.returns
 returns c =
@@ -23,4 +23,4 @@ returns c =
     let i = c.if-told-ne0.false in
     let o = (goal.at.returns c).After-open.«open».ensures in
     let p = c.print_ok-length.ensures in
-    record { answered = opening_ok _ _ _ _ _ _ _ o (omega arith) (omega arith) _ _ _ _ t.0 i t.1 p.0; length_bound = omega arith }
+    record { answered = opening_ok _ _ _ _ _ _ _ o (omega arith) (omega arith) _ _ _ _ t.0 i t.1 p.0; fits = omega arith }

@@ -12,7 +12,7 @@ slice_bounds-read_bytes-end c =
     sym (length-take-le _ _ (omega arith))
 
 pub returns-then-end-bytes : goal.returns-then-end-bytes
-returns-then-end-bytes c = record { stepped = stepped_on _ _ _ _ _ _ _ c.line_end-end.ensures c.read_bytes-reading.ensures c.if-end-bytes.true; length_bound = omega arith }
+returns-then-end-bytes c = record { stepped = stepped_on _ _ _ _ _ _ _ c.line_end-end.ensures c.read_bytes-reading.ensures c.if-end-bytes.true; fits = omega arith }
 
 pub overflow_add-result : goal.overflow_add-result
 overflow_add-result c = let w = until_within c.args.bytes.now in omega arith
@@ -22,4 +22,4 @@ returns c =
     let r = c.read_bytes-reading.ensures in
     let e = c.line_end-end.ensures in
     let a = c.answer-printed.ensures in
-    record { stepped = stepped_line _ _ _ _ _ _ _ e r _ _ _ _ c.if-end-bytes.false a.answered; length_bound = a.length_bound }
+    record { stepped = stepped_line _ _ _ _ _ _ _ e r _ _ _ _ c.if-end-bytes.false a.answered; fits = a.fits }
