@@ -1,8 +1,9 @@
 -- What each call promises of the lent memory: one record for all eight.
-use Rattle.std.specs.Prelude.{◌≡◌, ℕ, Bool, true, false, cond, ◌&&◌, List, [], ◌++◌, length, drop, ◌==◌, ◌≢◌}
+use Rattle.std.specs.Prelude.{◌≡◌, ℕ, Bool, true, false, cond, ◌&&◌, List, [], ◌++◌, length, drop, ◌==◌, ◌≢◌, Result, Ok, Err}
 use Rattle.matching.specs.Memory.{written}
-use Rattle.book.specs.declared.Answer.{Answer}
-use Rattle.book.specs.declared.Answer.TheVariants.{Done, Refused}
+use Rattle.measures.specs.declared.refusals.Refusal.{Refusal}
+use Rattle.measures.specs.Refused.{number_of}
+use Rattle.book.specs.declared.Done.{Done}
 use Rattle.book.specs.Book.{Rules}
 use Rattle.book.specs.Sound.{sound}
 use Rattle.book.specs.Opening.{fresh, opening_refusal}
@@ -10,6 +11,10 @@ use Rattle.book.specs.Curve.{Drawn, curve}
 use Rattle.book.specs.Layout.{LAYOUT, layout_number, book_words, word, decode, laid_out, Aside}
 use Rattle.book.specs.Refusals.{Outcome}
 use Rattle.book.specs.Calls.{Call, outcome}
+
+-- what a call answers: what it did, or why it is refused
+abbrev pub Answer : Type 0
+Answer = Result Done Refusal
 
 -- an answer in the paper's terms: whether the call was done, the refusal (0: none), the number, the count of rows
 pub record Told : Type 0 where
@@ -19,8 +24,8 @@ pub record Told : Type 0 where
   pub count : ℕ
 
 abbrev pub told_by : Answer → Told
-told_by (Done number count) = record { done = true; refusal = 0; number = number; count = count }
-told_by (Refused refusal) = record { done = false; refusal = refusal; number = 0; count = 0 }
+told_by (Ok done) = record { done = true; refusal = 0; number = done.number; count = done.count }
+told_by (Err refusal) = record { done = false; refusal = number_of refusal; number = 0; count = 0 }
 
 -- what a call with this refusal tells: it is done where none applies
 abbrev pub telling : ℕ → ℕ → ℕ → Told

@@ -2,11 +2,10 @@
 -- of the amounts at entry, and that other offers' amounts stay." (paper 02, job 2)
 use Rattle.std.specs.Prelude.{◌≡◌, ℕ, ◌<◌, List, length, ◌≢◌}
 use Rattle.measures.specs.Sharing.{total, parts, less_each}
-use Rattle.book.specs.declared.Answer.{Answer}
 use Rattle.book.specs.Book.{offer_of}
 use Rattle.book.specs.Layout.{decode}
 use Rattle.book.specs.Calls.{call_take}
-use Rattle.book.specs.Contract.{outcome_on, Made}
+use Rattle.book.specs.Contract.{Answer, outcome_on, Made}
 
 -- the remaining amounts of the offer of number n, where they stand in memory
 abbrev pub amounts_of : List ℕ → ℕ → List ℕ

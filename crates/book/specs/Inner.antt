@@ -1,6 +1,7 @@
 pub mod Readable
 pub mod Closing
 pub mod RowsIn
+pub mod Search
 pub mod Runs
 pub mod Fitting
 pub mod Pass

@@ -2,12 +2,11 @@
 use Rattle.std.specs.Prelude.{◌≡◌, ℕ, ◌*◌, ◌≤◌, true, List, length}
 use Rattle.matching.specs.Memory.{row_words, rows_in}
 use Rattle.matching.specs.Matchings.{FullyCleared}
-use Rattle.book.specs.declared.Answer.{Answer}
 use Rattle.book.specs.Book.{call_phase}
 use Rattle.book.specs.Layout.{decode}
 use Rattle.book.specs.Refusals.{most_rows}
 use Rattle.book.specs.Calls.{call_clear}
-use Rattle.book.specs.Contract.{told_by, sound_in, Made}
+use Rattle.book.specs.Contract.{Answer, told_by, sound_in, Made}
 
 -- m is the memory before a clear, m' after it, rows' the lent rows after it, and a the answer, which counts those handed out
 pub record ClearedOn (m : List ℕ) (a : Answer) (m' rows' : List ℕ) : Type 0 where

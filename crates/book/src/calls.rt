@@ -12,7 +12,6 @@ ghost use Rattle.book.specs.Calls.{
   call_order,
 };
 
-use crate::Answer;
 use crate::cancelling::{cancel_checks, cancel_effect};
 use crate::closing::close_day;
 use crate::curve::{curve_checks, write_points};
@@ -21,9 +20,10 @@ use crate::offering::{Terms, offer_checks, offer_effect};
 use crate::ordering::{Wanted, order_checks, order_in_call, order_in_rolling};
 use crate::periods::{clear_checks, clear_effect};
 use crate::places::{GIVEN, PHASE, UNITS};
-use crate::sound::sound_book;
+use crate::sound::check_sound;
 use crate::taking::{take_checks, take_effect};
 use crate::withdrawing::{withdraw_checks, withdraw_effect};
+use crate::{Answer, Done};
 use limits::Unit;
 use measures::{Energy, Price};
 
@@ -31,53 +31,38 @@ use measures::{Energy, Price};
 pub fn curve(book: &[u64], unit: u64, day: u64, points: &mut [u64]) -> Answer
     ensures { Curved book.now points.old unit day result points.new }
 {
-    if !sound_book(book) {
-        return Answer::Refused(1);
-    }
-    let no = curve_checks(book, unit, day, points.len());
-    if no != 0 {
-        return Answer::Refused(no);
-    }
+    check_sound(book)?;
+    curve_checks(book, unit, day, points.len())?;
     write_points(book, unit as usize - 1, day as usize, points);
-    Answer::Done(0, 0)
+    Ok(Done::NOTHING)
 }
 
 // Adds a unit.
 pub fn enrol(book: &mut [u64], kind: u64, capacity: u64, asset: u64) -> Answer
     ensures { Made book.old [] (call_enrol kind capacity asset) result book.new [] }
 {
-    if !sound_book(book) {
-        return Answer::Refused(1);
-    }
+    check_sound(book)?;
     let unit = Unit::fresh(kind, capacity, Energy(asset));
-    let no = enrol_checks(book, unit);
-    if no != 0 {
-        return Answer::Refused(no);
-    }
+    enrol_checks(book, unit)?;
     let number = book[UNITS] + 1;
     enrol_effect(book, unit);
-    Answer::Done(number, 0)
+    Ok(Done { number, count: 0 })
 }
 
 // Offers an amount for each period, to a partner or as a listing.
 pub fn offer(book: &mut [u64], unit: u64, partner: u64, price: u64, amounts: &[u64]) -> Answer
     ensures { Made book.old [] (call_offer unit partner price amounts.now) result book.new [] }
 {
-    if !sound_book(book) {
-        return Answer::Refused(1);
-    }
+    check_sound(book)?;
     let terms = Terms {
         unit,
         partner,
         price: Price(price),
     };
-    let no = offer_checks(book, terms, amounts);
-    if no != 0 {
-        return Answer::Refused(no);
-    }
+    offer_checks(book, terms, amounts)?;
     let number = book[GIVEN] + 1;
     offer_effect(book, terms, amounts);
-    Answer::Done(number, 0)
+    Ok(Done { number, count: 0 })
 }
 
 // Takes a quantity of an open offer: a row for each period that gives some.
@@ -85,73 +70,51 @@ pub fn take(book: &mut [u64], unit: u64, number: u64, quantity: u64, rows: &mut 
     ensures { Made book.old rows.old (call_take unit number quantity (length rows.old)) result book.new
         rows.new }
 {
-    if !sound_book(book) {
-        return Answer::Refused(1);
-    }
+    check_sound(book)?;
     let mut parts = [0u64; 744];
     let energy = Energy(quantity);
-    let no = take_checks(book, unit, number, energy, rows.len(), &mut parts);
-    if no != 0 {
-        return Answer::Refused(no);
-    }
+    take_checks(book, unit, number, energy, rows.len(), &mut parts)?;
     let count = take_effect(book, unit, number, energy, &parts, rows);
-    Answer::Done(0, count)
+    Ok(Done { number: 0, count })
 }
 
 // Removes an own offer of which nothing is taken.
 pub fn withdraw(book: &mut [u64], unit: u64, number: u64) -> Answer
     ensures { Made book.old [] (call_withdraw unit number) result book.new [] }
 {
-    if !sound_book(book) {
-        return Answer::Refused(1);
-    }
-    let no = withdraw_checks(book, unit, number);
-    if no != 0 {
-        return Answer::Refused(no);
-    }
+    check_sound(book)?;
+    withdraw_checks(book, unit, number)?;
     withdraw_effect(book, number);
-    Answer::Done(0, 0)
+    Ok(Done::NOTHING)
 }
 
 // Removes what is left of an own order.
 pub fn cancel(book: &mut [u64], unit: u64, number: u64) -> Answer
     ensures { Made book.old [] (call_cancel unit number) result book.new [] }
 {
-    if !sound_book(book) {
-        return Answer::Refused(1);
-    }
-    let no = cancel_checks(book, unit, number);
-    if no != 0 {
-        return Answer::Refused(no);
-    }
+    check_sound(book)?;
+    cancel_checks(book, unit, number)?;
     cancel_effect(book, number);
-    Answer::Done(0, 0)
+    Ok(Done::NOTHING)
 }
 
 // Closes the day.
 pub fn close(book: &mut [u64]) -> Answer
     ensures { Made book.old [] call_close result book.new [] }
 {
-    if !sound_book(book) {
-        return Answer::Refused(1);
-    }
+    check_sound(book)?;
     close_day(book);
-    Answer::Done(0, 0)
+    Ok(Done::NOTHING)
 }
 
 // Clears each period of the call phase, and begins the rolling phase.
 pub fn clear(book: &mut [u64], rows: &mut [u64]) -> Answer
     ensures { Made book.old rows.old (call_clear (length rows.old)) result book.new rows.new }
 {
-    if !sound_book(book) {
-        return Answer::Refused(1);
-    }
-    let no = clear_checks(book, rows.len());
-    if no != 0 {
-        return Answer::Refused(no);
-    }
+    check_sound(book)?;
+    clear_checks(book, rows.len())?;
     let count = clear_effect(book, rows);
-    Answer::Done(0, count)
+    Ok(Done { number: 0, count })
 }
 
 // Orders a quantity of a period: in the call phase it waits, in the rolling phase it meets opposite orders.
@@ -167,9 +130,7 @@ pub fn order(
     ensures { Made book.old rows.old (call_order unit direction period price quantity (length rows.old)) result
         book.new rows.new }
 {
-    if !sound_book(book) {
-        return Answer::Refused(1);
-    }
+    check_sound(book)?;
     let wanted = Wanted {
         unit,
         direction,
@@ -177,15 +138,12 @@ pub fn order(
         price: Price(price),
         quantity: Energy(quantity),
     };
-    let no = order_checks(book, wanted, rows.len());
-    if no != 0 {
-        return Answer::Refused(no);
-    }
+    order_checks(book, wanted, rows.len())?;
     let number = book[GIVEN] + 1;
     if book[PHASE] == 0 {
         order_in_call(book, wanted);
-        return Answer::Done(number, 0);
+        return Ok(Done { number, count: 0 });
     }
     let count = order_in_rolling(book, wanted, rows);
-    Answer::Done(number, count)
+    Ok(Done { number, count })
 }

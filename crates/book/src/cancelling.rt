@@ -3,50 +3,32 @@ ghost use Rattle.std.specs.Prelude.{◌≡◌, ℕ, ◌+◌, ◌-◌, ◌*◌, �
 ghost use Rattle.measures.specs.Lists.{keep};
 ghost use Rattle.book.specs.Book.{with_orders, order_open};
 ghost use Rattle.book.specs.Layout.{ORDERS, order_place, word, decode, Aside};
+ghost use Rattle.measures.specs.Refused.{refusal_of};
 ghost use Rattle.book.specs.Refusals.{first_refusal};
 ghost use Rattle.book.specs.Inner.Readable.{Readable};
 ghost use Rattle.book.specs.Contract.{sound_in};
 ghost use Rattle.book.specs.Cancel.{cancel_checks};
 
+use crate::numbers::find_order;
 use crate::places::{AMOUNTS, ORDER_TABLE, ORDER_WORDS, ORDERS, UNIT, UNITS};
-
-// The place of the open order of a number, or how many stand open.
-fn order_place(book: &[u64], number: u64) -> usize
-    requires { Readable book.now }
-    ensures { (result ≤ word book.now ORDERS) × ((k : ℕ) → k < result → word book.now (order_place k) ≢ number)
-        × (result < word book.now ORDERS → word book.now (order_place result) ≡ number) }
-{
-    let n = book[ORDERS] as usize;
-    let mut k: usize = 0;
-    while k < n {
-        if book[ORDER_TABLE + ORDER_WORDS * k] == number {
-            return k;
-        }
-        k += 1;
-    }
-    k
-}
+use crate::ranges::unit_known;
+use measures::Refusal;
 
 // The checks of a cancel behind that of soundness.
-pub(crate) fn cancel_checks(book: &[u64], unit: u64, number: u64) -> u64
+pub(crate) fn cancel_checks(book: &[u64], unit: u64, number: u64) -> Result<(), Refusal>
     requires { sound_in book.now ≡ true }
-    ensures { result ≡ first_refusal (cancel_checks (decode book.now) unit number) }
+    ensures { refusal_of result ≡ first_refusal (cancel_checks (decode book.now) unit number) }
 {
-    if unit < 1 {
-        return 6;
+    if !unit_known(book, unit) {
+        return Err(Refusal::UnknownName);
     }
-    if book[UNITS] < unit {
-        return 6;
-    }
-    let n = book[ORDERS] as usize;
-    let k = order_place(book, number);
-    if n <= k {
-        return 11;
-    }
+    let Some(k) = find_order(book, number) else {
+        return Err(Refusal::NoSuchNumber);
+    };
     if book[ORDER_TABLE + ORDER_WORDS * k + UNIT] != unit {
-        return 11;
+        return Err(Refusal::NoSuchNumber);
     }
-    0
+    Ok(())
 }
 
 // The open order of a number goes.
@@ -57,7 +39,9 @@ pub(crate) fn cancel_effect(book: &mut [u64], number: u64)
         × (Aside book.old book.new) }
 {
     let n = book[ORDERS];
-    let k = order_place(book, number);
+    let Some(k) = find_order(book, number) else {
+        unreachable!()
+    };
     matching::orders::remove(&mut book[ORDER_TABLE..AMOUNTS], n as usize, k);
     book[ORDERS] = n - 1;
 }

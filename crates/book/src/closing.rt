@@ -16,14 +16,12 @@ fn close_block(book: &mut [u64], at: usize)
     requires { (at + block_words ≤ length book.old) × (at < 1000000) × (BlockNetted book.old at) }
     ensures { BlockClosed book.old book.new at hours }
 {
-    let mut h: usize = 0;
-    while h < HOURS {
+    for h in 0..HOURS {
         let i = at + h;
         book[i] = book[i] + book[i + RAISED] - book[i + LOWERED];
         book[i + RAISED] = 0;
         book[i + LOWERED] = 0;
         book[i + MARK] = 0;
-        h += 1;
     }
 }
 
@@ -33,10 +31,8 @@ fn traded(book: &[u64], at: usize) -> u64
     ensures { result ≡ 0 → Untraded book.now at VOLUME }
 {
     let mut all: u64 = 0;
-    let mut i: usize = RAISED;
-    while i < VOLUME {
+    for i in RAISED..VOLUME {
         all = joined(all, book[at + i]);
-        i += 1;
     }
     all
 }
@@ -58,10 +54,8 @@ fn close_units(book: &mut [u64], d: usize)
     ensures { DayOver book.old book.new d (word book.old UNITS) }
 {
     let n = book[UNITS] as usize;
-    let mut k: usize = 0;
-    while k < n {
+    for k in 0..n {
         close_unit(book, FIGURES + DAY_WORDS * d + BLOCK * k);
-        k += 1;
     }
 }
 
@@ -71,10 +65,8 @@ fn close_figures(book: &mut [u64])
     ensures { DaysOver book.old book.new (word book.old DAYS) }
 {
     let days = book[DAYS] as usize;
-    let mut d: usize = 0;
-    while d < days {
+    for d in 0..days {
         close_units(book, d);
-        d += 1;
     }
 }
 

@@ -1,32 +1,32 @@
 // The curve of a unit on a day: paper 01, "The eight calls", Curve.
 ghost use Rattle.std.specs.Prelude.{◌≡◌, ℕ, ◌+◌, ◌-◌, ◌*◌, ◌<◌, ◌≤◌, List, ◌++◌, length, drop};
+ghost use Rattle.measures.specs.Refused.{refusal_of};
 ghost use Rattle.book.specs.Refusals.{first_refusal};
 ghost use Rattle.book.specs.Curve.{curve_checks, points as points_of};
 ghost use Rattle.book.specs.Layout.{DAYS, UNITS, word, decode, net_in};
 ghost use Rattle.book.specs.Inner.Readable.{Readable, Netted};
 
-use crate::places::{DAYS, UNITS};
+use crate::places::DAYS;
+use crate::ranges::unit_known;
 use crate::trades::figures_at;
-use measures::Energy;
+use measures::{Energy, Refusal};
 
 // The checks of a curve on a sound book.
-pub(crate) fn curve_checks(book: &[u64], unit: u64, day: u64, lent: usize) -> u64
+#[tactic(auto, using(crate::proofs::Laws::Memory::RangeFacts::held, crate::proofs::Laws::Answer::MadeLaws::sound_readable), unfolding(crate::specs::Refusals::first_refusal))]
+pub(crate) fn curve_checks(book: &[u64], unit: u64, day: u64, lent: usize) -> Result<(), Refusal>
     requires { Readable book.now }
-    ensures { result ≡ first_refusal (curve_checks (decode book.now) unit day lent) }
+    ensures { refusal_of result ≡ first_refusal (curve_checks (decode book.now) unit day lent) }
 {
-    if unit < 1 {
-        return 6;
-    }
-    if book[UNITS] < unit {
-        return 6;
+    if !unit_known(book, unit) {
+        return Err(Refusal::UnknownName);
     }
     if lent < 48 {
-        return 7;
+        return Err(Refusal::FewRows);
     }
     if book[DAYS] <= day {
-        return 10;
+        return Err(Refusal::BadPeriod);
     }
-    0
+    Ok(())
 }
 
 // The net of the unit at place k in period p.
@@ -43,12 +43,10 @@ pub(crate) fn write_points(book: &[u64], k: usize, day: usize, points: &mut [u64
     requires { (Readable book.now) × (Netted book.now k) × (k < word book.now UNITS) × (day < word book.now DAYS) × (48 ≤ length points.old) }
     ensures { points.new ≡ points_of (decode book.now) (k + 1) day ++ drop 48 points.old }
 {
-    let mut h: usize = 0;
-    while h < 24 {
+    for h in 0..24 {
         let net = net_at(book, k, 24 * day + h);
         let half = net.0 / 2;
         points[2 * h] = half;
         points[2 * h + 1] = net.0 - half;
-        h += 1;
     }
 }

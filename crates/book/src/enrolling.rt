@@ -1,6 +1,7 @@
 // Enrol (paper 01): "Enrol adds a unit."
 ghost use Rattle.std.specs.Prelude.{◌≡◌, ℕ, ◌+◌, ◌*◌, ◌<◌, ◌≤◌, true, length};
 ghost use Rattle.book.specs.Layout.{DAYS, UNITS, word, decode, Aside};
+ghost use Rattle.measures.specs.Refused.{refusal_of};
 ghost use Rattle.book.specs.Refusals.{first_refusal};
 ghost use Rattle.book.specs.Inner.Readable.{Readable};
 ghost use Rattle.book.specs.Inner.Runs.{UnitEmptied};
@@ -12,31 +13,19 @@ use crate::places::{
 };
 use crate::words::empty;
 use limits::Unit;
+use measures::Refusal;
 
 // The checks of an enrol behind that of soundness.
-pub(crate) fn enrol_checks(book: &[u64], unit: Unit) -> u64
+#[tactic(auto, using(crate::proofs::Laws::Memory::RangeFacts::held, crate::proofs::Laws::Answer::MadeLaws::sound_readable), unfolding(crate::specs::Refusals::first_refusal))]
+pub(crate) fn enrol_checks(book: &[u64], unit: Unit) -> Result<(), Refusal>
     requires { sound_in book.now ≡ true }
-    ensures { result ≡ first_refusal (enrol_checks (decode book.now) unit.kind unit.capacity unit.asset.0) }
+    ensures { refusal_of result ≡ first_refusal (enrol_checks (decode book.now) unit.kind unit.capacity unit.asset.0) }
 {
-    if unit.kind < 1 {
-        return 3;
-    }
-    if Unit::KINDS < unit.kind {
-        return 3;
-    }
-    if unit.capacity < 1 {
-        return 4;
-    }
-    if Unit::MOST_CAPACITY < unit.capacity {
-        return 4;
-    }
-    if !unit.asset.in_range() {
-        return 4;
-    }
+    unit.checked()?;
     if Unit::MOST <= book[UNITS] {
-        return 5;
+        return Err(Refusal::UnitsFull);
     }
-    0
+    Ok(())
 }
 
 // The figures of the unit at place k become 0 on each day; all other words stay.
@@ -45,11 +34,9 @@ fn empty_unit(book: &mut [u64], k: usize)
     ensures { UnitEmptied book.old book.new k (word book.old DAYS) }
 {
     let days = book[DAYS] as usize;
-    let mut d: usize = 0;
-    while d < days {
+    for d in 0..days {
         let at = FIGURES + DAY_WORDS * d + BLOCK * k;
         empty(book, at, at + BLOCK);
-        d += 1;
     }
 }
 

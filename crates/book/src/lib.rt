@@ -24,9 +24,22 @@ mod whole;
 mod withdrawing;
 mod words;
 
-// What a call answers: its number and count of rows, or the refusal.
-#[derive(Clone, Copy)]
-pub enum Answer {
-    Done(u64, usize),
-    Refused(u64),
+use measures::Refusal;
+
+// What a call that is done answers: the number given, or 0, and the count of rows.
+#[derive(Clone, Copy, Debug, PartialEq, Eq)]
+pub struct Done {
+    pub number: u64,
+    pub count: usize,
 }
+
+impl Done {
+    // No number, and no rows.
+    pub const NOTHING: Done = Done {
+        number: 0,
+        count: 0,
+    };
+}
+
+// What a call answers.
+pub type Answer = Result<Done, Refusal>;

@@ -3,29 +3,56 @@ ghost use Rattle.std.specs.Prelude.{◌≡◌, ℕ, ◌+◌, ◌-◌, ◌*◌, �
 ghost use Rattle.measures.specs.Lists.{every};
 ghost use Rattle.matching.specs.Orders.{Order as OpenOrder, rising};
 ghost use Rattle.book.specs.Sound.{numbers_differ};
-ghost use Rattle.book.specs.Layout.{decode};
+ghost use Rattle.book.specs.Layout.{word, decode};
 ghost use Rattle.book.specs.Inner.Readable.{Readable, offer_numbers, number_free, numbers_free};
-ghost use Rattle.book.specs.Inner.RowsIn.{Found};
+ghost use Rattle.book.specs.Inner.Search.{Found, OfferFound, OrderFound};
 
 use crate::places::{AMOUNTS, OFFER_TABLE, OFFER_WORDS, OFFERS, ORDER_TABLE, ORDER_WORDS, ORDERS};
-use crate::ranges::Offer;
 
-// Whether the numbers of the open offers rise: each is above the one before it.
+// Whether the numbers of the open offers rise: each is above the one before it. The orders' numbers are matching's to test,
+// which reads them as orders.
 fn offers_rise(book: &[u64]) -> bool
     requires { Readable book.now }
     ensures { result ≡ rising (offer_numbers (decode book.now)) }
 {
     let n = book[OFFERS] as usize;
-    let mut j: usize = 1;
-    while j < n {
+    for j in 1..n {
         let number = book[OFFER_TABLE + OFFER_WORDS * j];
         let before = book[OFFER_TABLE + OFFER_WORDS * (j - 1)];
         if number <= before {
             return false;
         }
-        j += 1;
     }
     true
+}
+
+// The first of n records, of so many words each, whose number is this; they begin at `table`, each with its number.
+fn find<const WORDS: usize>(book: &[u64], table: usize, n: usize, number: u64) -> Option<usize>
+    requires { (1 ≤ WORDS) × (table + WORDS * n ≤ length book.now) }
+    ensures { Found (λ k. word book.now (table + WORDS * k)) n number result }
+{
+    for k in 0..n {
+        if book[table + WORDS * k] == number {
+            return Some(k);
+        }
+    }
+    None
+}
+
+// The place of the open offer of a number.
+pub(crate) fn find_offer(book: &[u64], number: u64) -> Option<usize>
+    requires { Readable book.now }
+    ensures { OfferFound book.now number result }
+{
+    find::<OFFER_WORDS>(book, OFFER_TABLE, book[OFFERS] as usize, number)
+}
+
+// The place of the open order of a number.
+pub(crate) fn find_order(book: &[u64], number: u64) -> Option<usize>
+    requires { Readable book.now }
+    ensures { OrderFound book.now number result }
+{
+    find::<ORDER_WORDS>(book, ORDER_TABLE, book[ORDERS] as usize, number)
 }
 
 // Whether no open order has this number.
@@ -33,15 +60,7 @@ fn number_free(book: &[u64], number: u64) -> bool
     requires { Readable book.now }
     ensures { result ≡ number_free (decode book.now) number }
 {
-    let n = book[ORDERS] as usize;
-    let mut k: usize = 0;
-    while k < n {
-        if number == book[ORDER_TABLE + ORDER_WORDS * k] {
-            return false;
-        }
-        k += 1;
-    }
-    true
+    find_order(book, number).is_none()
 }
 
 // Whether no open offer has an order's number.
@@ -50,12 +69,10 @@ fn numbers_free(book: &[u64]) -> bool
     ensures { result ≡ numbers_free (decode book.now) }
 {
     let n = book[OFFERS] as usize;
-    let mut j: usize = 0;
-    while j < n {
+    for j in 0..n {
         if !number_free(book, book[OFFER_TABLE + OFFER_WORDS * j]) {
             return false;
         }
-        j += 1;
     }
     true
 }
@@ -73,20 +90,4 @@ pub(crate) fn numbers_differ(book: &[u64]) -> bool
         return false;
     }
     numbers_free(book)
-}
-
-// The place of the open offer of a number, or 8.
-pub(crate) fn find_offer(book: &[u64], number: u64) -> usize
-    requires { Readable book.now }
-    ensures { Found book.now number result }
-{
-    let n = book[OFFERS] as usize;
-    let mut j: usize = 0;
-    while j < n {
-        if book[OFFER_TABLE + OFFER_WORDS * j] == number {
-            return j;
-        }
-        j += 1;
-    }
-    Offer::MOST as usize
 }

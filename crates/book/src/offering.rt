@@ -1,8 +1,9 @@
 // Offer (paper 01): "a unit, a partner or 0, a price, an amount for each period".
-ghost use Rattle.std.specs.Prelude.{◌≡◌, ℕ, ◌+◌, ◌-◌, ◌*◌, ◌<◌, ◌≤◌, min, true, [], ◌∷◌, length, ◌≢◌};
+ghost use Rattle.std.specs.Prelude.{◌≡◌, ℕ, ◌+◌, ◌-◌, ◌*◌, ◌<◌, ◌≤◌, min, true, [], ◌∷◌, length, ◌≢◌, ◌++◌, drop};
 ghost use Rattle.measures.specs.Ranges.{most_energy};
 ghost use Rattle.measures.specs.Sharing.{total};
 ghost use Rattle.book.specs.Layout.{DAYS, UNITS, OFFERS, amount_place, word, decode, Aside};
+ghost use Rattle.measures.specs.Refused.{refusal_of};
 ghost use Rattle.book.specs.Refusals.{
   first_refusal,
   unknown_unit,
@@ -21,12 +22,13 @@ ghost use Rattle.book.specs.Contract.{sound_in};
 ghost use Rattle.book.specs.Offer.{offered, offer_checks, raising_amounts};
 
 use crate::fits::misfit;
+use crate::pass::Amounts;
 use crate::places::{
     AMOUNT_WORDS, AMOUNTS, CEILING, DAYS, FLOOR, GIVEN, HOURS, OFFER_TABLE, OFFER_WORDS, OFFERS,
     PARTNER, PRICE, TAKEN, UNIT, UNITS,
 };
-use crate::ranges::{Offer, sides_fit};
-use measures::{Energy, Price};
+use crate::ranges::{Offer, energy_in, price_in, sides_fit, unit_known};
+use measures::{Price, Refusal, capped_total};
 
 // What an offer says beside its amounts; a partner of 0 is none.
 #[derive(Clone, Copy)]
@@ -36,116 +38,80 @@ pub struct Terms {
     pub price: Price,
 }
 
-// The sum of lent amounts, or one more than Energy::MOST where it is more than that.
-fn amounts_total(amounts: &[u64]) -> Energy
-    ensures { result.0 ≡ min (total amounts.now) (most_energy + 1) }
-{
-    let mut room = Energy(Energy::MOST);
-    let mut i = 0;
-    while i < amounts.len() {
-        let a = Energy(amounts[i]);
-        if !a.at_most(room) {
-            return Energy(Energy::MOST + 1);
-        }
-        room = room.minus(a);
-        i += 1;
-    }
-    Energy(Energy::MOST).minus(room)
-}
-
 // The checks of names, price and amounts.
-fn offer_terms(book: &[u64], terms: Terms, amounts: &[u64]) -> u64
+#[tactic(auto, using(crate::proofs::Laws::Memory::RangeFacts::held, crate::proofs::Laws::Answer::MadeLaws::sound_readable), unfolding(crate::specs::Refusals::first_refusal))]
+fn offer_terms(book: &[u64], terms: Terms, amounts: &[u64]) -> Result<(), Refusal>
     requires { Readable book.now }
-    ensures { result ≡ first_refusal (unknown_unit (decode book.now) terms.unit ∷ unknown_partner (decode book.now) terms.partner
+    ensures { refusal_of result ≡ first_refusal (unknown_unit (decode book.now) terms.unit ∷ unknown_partner (decode book.now) terms.partner
         ∷ bad_price (decode book.now) terms.price.0 ∷ bad_amounts (decode book.now) amounts.now ∷ []) }
 {
-    if terms.unit < 1 {
-        return 6;
-    }
-    if book[UNITS] < terms.unit {
-        return 6;
+    if !unit_known(book, terms.unit) {
+        return Err(Refusal::UnknownName);
     }
     if book[UNITS] < terms.partner {
-        return 6;
+        return Err(Refusal::UnknownName);
     }
-    let price = terms.price;
-    if price.below(Price(book[FLOOR])) {
-        return 8;
-    }
-    if Price(book[CEILING]).below(price) {
-        return 8;
+    if !price_in(book, terms.price) {
+        return Err(Refusal::BadPrice);
     }
     if amounts.len() != HOURS * (book[DAYS] as usize) {
-        return 9;
+        return Err(Refusal::BadEnergy);
     }
-    let whole = amounts_total(amounts);
-    if whole.is_zero() {
-        return 9;
+    if !energy_in(capped_total(amounts)) {
+        return Err(Refusal::BadEnergy);
     }
-    if !whole.in_range() {
-        return 9;
-    }
-    0
+    Ok(())
 }
 
 // The checks of sides and of room, for names that are known.
-fn offer_room(book: &[u64], terms: Terms) -> u64
+fn offer_room(book: &[u64], terms: Terms) -> Result<(), Refusal>
     requires { (Readable book.now) × (1 ≤ terms.unit) × (terms.unit ≤ word book.now UNITS) × (terms.partner ≤ word book.now UNITS) }
-    ensures { result ≡ first_refusal (wrong_partner (decode book.now) terms.unit terms.partner ∷ offers_full (decode book.now)
+    ensures { refusal_of result ≡ first_refusal (wrong_partner (decode book.now) terms.unit terms.partner ∷ offers_full (decode book.now)
         ∷ numbers_used (decode book.now) ∷ []) }
 {
     if !sides_fit(book, terms.unit, terms.partner) {
-        return 12;
+        return Err(Refusal::WrongParty);
     }
     if Offer::MOST <= book[OFFERS] {
-        return 17;
+        return Err(Refusal::TablesFull);
     }
     if Offer::NUMBERS <= book[GIVEN] {
-        return 18;
+        return Err(Refusal::NumbersUsed);
     }
-    0
+    Ok(())
 }
 
 // The amounts, copied to the front of a list that has room for them.
 fn copy_amounts(amounts: &[u64], copy: &mut [u64])
     requires { length amounts.now ≤ length copy.old }
-    ensures { ((k : ℕ) → k < length amounts.now → word copy.new k ≡ word amounts.now k)
-        × ((k : ℕ) → length amounts.now ≤ k → word copy.new k ≡ word copy.old k) }
+    ensures { copy.new ≡ amounts.now ++ drop (length amounts.now) copy.old }
 {
-    let mut i = 0;
-    while i < amounts.len() {
-        copy[i] = amounts[i];
-        i += 1;
-    }
+    copy[..amounts.len()].copy_from_slice(amounts);
 }
 
 // Whether the amounts fit the unit's limits.
-fn offer_fit(book: &[u64], unit: u64, amounts: &[u64]) -> u64
+fn offer_fit(book: &[u64], unit: u64, amounts: &[u64]) -> Result<(), Refusal>
     requires { (sound_in book.now ≡ true) × (1 ≤ unit) × (unit ≤ word book.now UNITS) × (length amounts.now ≡ 24 * word book.now DAYS)
         × (total amounts.now ≤ most_energy) }
-    ensures { result ≡ first_refusal (hour_misfit (decode book.now) unit (raising_amounts amounts.now)
+    ensures { refusal_of result ≡ first_refusal (hour_misfit (decode book.now) unit (raising_amounts amounts.now)
         ∷ term_misfit (decode book.now) unit (raising_amounts amounts.now)
         ∷ volume_misfit (decode book.now) unit (raising_amounts amounts.now) ∷ []) }
 {
-    let mut raising = [0u64; 744];
-    let mut lowering = [0u64; 744];
-    copy_amounts(amounts, &mut raising);
-    misfit(book, unit, &mut raising, &mut lowering)
+    let mut declared = Amounts {
+        raising: [0; 744],
+        lowering: [0; 744],
+    };
+    copy_amounts(amounts, &mut declared.raising);
+    misfit(book, unit, &mut declared)
 }
 
 // The checks of an offer behind that of soundness.
-pub(crate) fn offer_checks(book: &[u64], terms: Terms, amounts: &[u64]) -> u64
+pub(crate) fn offer_checks(book: &[u64], terms: Terms, amounts: &[u64]) -> Result<(), Refusal>
     requires { sound_in book.now ≡ true }
-    ensures { result ≡ first_refusal (offer_checks (decode book.now) terms.unit terms.partner terms.price.0 amounts.now) }
+    ensures { refusal_of result ≡ first_refusal (offer_checks (decode book.now) terms.unit terms.partner terms.price.0 amounts.now) }
 {
-    let no = offer_terms(book, terms, amounts);
-    if no != 0 {
-        return no;
-    }
-    let room = offer_room(book, terms);
-    if room != 0 {
-        return room;
-    }
+    offer_terms(book, terms, amounts)?;
+    offer_room(book, terms)?;
     offer_fit(book, terms.unit, amounts)
 }
 
@@ -155,11 +121,8 @@ fn put_amounts(book: &mut [u64], j: usize, amounts: &[u64])
     ensures { ((p : ℕ) → p < 24 * word book.old DAYS → word book.new (amount_place j p) ≡ word amounts.now p)
         × ((i : ℕ) → ((p : ℕ) → p < 24 * word book.old DAYS → i ≢ amount_place j p) → word book.new i ≡ word book.old i) }
 {
-    let top = HOURS * (book[DAYS] as usize);
-    let mut p: usize = 0;
-    while p < top {
-        book[AMOUNTS + AMOUNT_WORDS * j + p] = amounts[p];
-        p += 1;
+    for (p, amount) in amounts.iter().enumerate() {
+        book[AMOUNTS + AMOUNT_WORDS * j + p] = *amount;
     }
 }
 

@@ -6,22 +6,19 @@ ghost use Rattle.book.specs.Opening.{fresh, words_for, WithinBytes};
 ghost use Rattle.book.specs.Layout.{LAYOUT, layout_number, figures_start, word, decode};
 ghost use Rattle.book.specs.Contract.{Opened};
 
-use crate::Answer;
 use crate::places::{
     CEILING, DAY_WORDS, DAYS, FIGURES, FLOOR, GIVEN, LAYOUT, LAYOUT_NUMBER, OFFERS, ORDERS, PHASE,
     UNITS,
 };
+use crate::{Answer, Done};
 use limits::Term;
-use measures::Price;
+use measures::{Price, Refusal};
 
 // How many words a book of these days needs; 0 where there is no such book.
 pub fn book_words(days: u64) -> u64
     ensures { (result ≡ words_for days) × (WithinBytes result days) }
 {
-    if days < 1 {
-        return 0;
-    }
-    if Term::MOST < days {
+    if !Term(days).in_range() {
         return 0;
     }
     (FIGURES + DAY_WORDS * (days as usize)) as u64
@@ -48,21 +45,18 @@ fn write_head(book: &mut [u64], days: u64, floor: u64, ceiling: u64)
 pub fn open(book: &mut [u64], days: u64, floor: u64, ceiling: u64) -> Answer
     ensures { Opened book.old (rules_of days floor ceiling) result book.new }
 {
-    if days < 1 {
-        return Answer::Refused(2);
-    }
-    if Term::MOST < days {
-        return Answer::Refused(2);
+    if !Term(days).in_range() {
+        return Err(Refusal::BadOpening);
     }
     if book.len() < FIGURES + DAY_WORDS * (days as usize) {
-        return Answer::Refused(1);
+        return Err(Refusal::UnsoundBook);
     }
     if ceiling < floor {
-        return Answer::Refused(2);
+        return Err(Refusal::BadOpening);
     }
     if Price::MOST < ceiling {
-        return Answer::Refused(2);
+        return Err(Refusal::BadOpening);
     }
     write_head(book, days, floor, ceiling);
-    Answer::Done(0, 0)
+    Ok(Done::NOTHING)
 }

@@ -1,10 +1,11 @@
 // Order (paper 01): "a unit, a direction (0 sell, 1 buy), a period, a price, a quantity."
 ghost use Rattle.std.specs.Prelude.{◌≡◌, ◌+◌, ◌-◌, ◌*◌, ◌<◌, ◌≤◌, true, [], ◌∷◌, ◌++◌, length, if◌then◌else◌, nat_eq};
 ghost use Rattle.measures.specs.Lists.{sum};
-ghost use Rattle.matching.specs.Orders.{leaving};
+ghost use Rattle.matching.specs.Orders.{order_with, leaving};
 ghost use Rattle.matching.specs.Memory.{as_order, orders_in};
 ghost use Rattle.book.specs.Book.{numbered};
 ghost use Rattle.book.specs.Layout.{DAYS, PHASE, GIVEN, UNITS, ORDERS, amounts_start, word, orders_part, decode, Aside};
+ghost use Rattle.measures.specs.Refused.{refusal_of};
 ghost use Rattle.book.specs.Refusals.{first_refusal, marked_against, orders_full};
 ghost use Rattle.book.specs.Inner.Readable.{Readable};
 ghost use Rattle.book.specs.Contract.{sound_in};
@@ -12,14 +13,15 @@ ghost use Rattle.book.specs.Order.{order_checks, new_order, ordered_in_call, wai
 ghost use Rattle.book.specs.Inner.Ordering.{day_checks, order_fit_checks, NameChecked, Named, of_unit_at, against_at, OrdersPut, Rolled, RolledOn};
 
 use crate::fits::misfit;
+use crate::pass::Amounts;
 use crate::places::{
     AMOUNTS, BLOCK, CEILING, DAY_WORDS, DAYS, DIRECTION, FIGURES, FLOOR, GIVEN, HOURS, MARK,
     ORDER_TABLE, ORDER_WORDS, ORDERS, PERIOD, PHASE, UNIT, UNITS,
 };
-use crate::ranges::Offer;
+use crate::ranges::{Offer, energy_in, price_in, unit_known};
 use crate::trades::{book_rows, raises_net};
-use matching::orders::{Matched, Order};
-use measures::{Energy, Price};
+use matching::orders::Order;
+use measures::{Energy, Price, Refusal};
 
 // What an order asks for.
 #[derive(Clone, Copy)]
@@ -31,39 +33,47 @@ pub(crate) struct Wanted {
     pub quantity: Energy,
 }
 
-// The checks of names, rows, price, energy, period and direction.
-fn order_names(book: &[u64], wanted: Wanted, lent: usize) -> u64
-    requires { Readable book.now }
-    ensures { NameChecked book.now wanted.unit wanted.direction wanted.period wanted.price.0 wanted.quantity.0 lent result }
-{
-    if wanted.unit < 1 {
-        return 6;
+impl Wanted {
+    // The order under a number.
+    fn numbered(self, number: u64) -> Order
+        ensures { as_order result ≡ order_with number self.unit self.direction self.period self.price.0 self.quantity.0 }
+    {
+        Order::fresh(
+            number,
+            self.unit,
+            self.direction,
+            self.period,
+            self.price,
+            self.quantity,
+        )
     }
-    if book[UNITS] < wanted.unit {
-        return 6;
+}
+
+// The checks of names, rows, price, energy, period and direction.
+#[tactic(auto, using(crate::proofs::Laws::Memory::RangeFacts::held), unfolding(crate::specs::Refusals::first_refusal, crate::specs::Inner::Ordering::name_checks))]
+fn order_names(book: &[u64], wanted: Wanted, lent: usize) -> Result<(), Refusal>
+    requires { Readable book.now }
+    ensures { NameChecked book.now wanted.unit wanted.direction wanted.period wanted.price.0 wanted.quantity.0 lent (refusal_of result) }
+{
+    if !unit_known(book, wanted.unit) {
+        return Err(Refusal::UnknownName);
     }
     if lent < 4464 {
-        return 7;
+        return Err(Refusal::FewRows);
     }
-    if wanted.price.below(Price(book[FLOOR])) {
-        return 8;
+    if !price_in(book, wanted.price) {
+        return Err(Refusal::BadPrice);
     }
-    if Price(book[CEILING]).below(wanted.price) {
-        return 8;
-    }
-    if wanted.quantity.is_zero() {
-        return 9;
-    }
-    if !wanted.quantity.in_range() {
-        return 9;
+    if !energy_in(wanted.quantity) {
+        return Err(Refusal::BadEnergy);
     }
     if 24 * book[DAYS] <= wanted.period {
-        return 10;
+        return Err(Refusal::BadPeriod);
     }
     if 1 < wanted.direction {
-        return 12;
+        return Err(Refusal::WrongParty);
     }
-    0
+    Ok(())
 }
 
 // 1 where the order at place k is the unit's and of the period.
@@ -108,16 +118,11 @@ fn unit_orders(book: &[u64], unit: u64, direction: u64, period: u64) -> Seen
     let n = book[ORDERS] as usize;
     let mut stand: u64 = 0;
     let mut against: u64 = 0;
-    let mut k: usize = 0;
-    while k < n {
+    for k in 0..n {
         stand += of_unit_at(book, unit, period, k);
         against += against_at(book, unit, direction, period, k);
-        k += 1;
     }
-    Seen {
-        stand: stand,
-        against: against,
-    }
+    Seen { stand, against }
 }
 
 // How many open orders count against two: none in the rolling phase.
@@ -155,78 +160,68 @@ fn lacks_place(book: &[u64], wanted: Wanted) -> bool
     if book[PHASE] == 0 {
         return true;
     }
-    let o = Order::fresh(
-        0,
-        wanted.unit,
-        wanted.direction,
-        wanted.period,
-        wanted.price,
-        wanted.quantity,
-    );
+    let o = wanted.numbered(0);
     let n = book[ORDERS] as usize;
     let left = matching::rolling::left_over(&book[ORDER_TABLE..AMOUNTS], n, o);
-    !left.is_zero()
+    left != Energy(0)
 }
 
 // The checks of the day and the tables.
-fn order_days(book: &[u64], wanted: Wanted) -> u64
+fn order_days(book: &[u64], wanted: Wanted) -> Result<(), Refusal>
     requires { (Readable book.now) × (1 ≤ wanted.unit) × (wanted.unit ≤ word book.now UNITS) × (wanted.direction ≤ 1)
         × (wanted.period < 24 * word book.now DAYS) }
-    ensures { result ≡ first_refusal (day_checks (decode book.now) wanted.unit wanted.direction wanted.period wanted.price.0
+    ensures { refusal_of result ≡ first_refusal (day_checks (decode book.now) wanted.unit wanted.direction wanted.period wanted.price.0
         wanted.quantity.0) }
 {
     let seen = unit_orders(book, wanted.unit, wanted.direction, wanted.period);
     if 0 < seen.against {
-        return 15;
+        return Err(Refusal::OtherDirection);
     }
     let p = wanted.period as usize;
     let k = wanted.unit as usize - 1;
     let at = FIGURES + DAY_WORDS * (p / HOURS) + BLOCK * k + p % HOURS;
     let mark = book[at + MARK];
     if marked_against(wanted.direction, mark) {
-        return 15;
+        return Err(Refusal::OtherDirection);
     }
     let two = counted(book, seen.stand);
     if 1 < two {
-        return 16;
+        return Err(Refusal::TwoOpen);
     }
     if lacks_place(book, wanted) {
-        return 17;
+        return Err(Refusal::TablesFull);
     }
     if Offer::NUMBERS <= book[GIVEN] {
-        return 18;
+        return Err(Refusal::NumbersUsed);
     }
-    0
+    Ok(())
 }
 
 // The checks of the limits: the quantity stands alone in its period, raising or lowering.
-fn order_fit(book: &[u64], wanted: Wanted) -> u64
+fn order_fit(book: &[u64], wanted: Wanted) -> Result<(), Refusal>
     requires { (sound_in book.now ≡ true) × (Named book.now wanted.unit wanted.direction wanted.period wanted.quantity.0) }
-    ensures { result ≡ first_refusal (order_fit_checks (decode book.now) wanted.unit wanted.direction wanted.period wanted.quantity.0) }
+    ensures { refusal_of result ≡ first_refusal (order_fit_checks (decode book.now) wanted.unit wanted.direction wanted.period wanted.quantity.0) }
 {
-    let mut amounts = [0u64; 744];
-    let mut zeros = [0u64; 744];
-    amounts[wanted.period as usize] = wanted.quantity.0;
+    let mut declared = Amounts {
+        raising: [0; 744],
+        lowering: [0; 744],
+    };
     if raises_net(book, wanted.unit, wanted.direction) {
-        return misfit(book, wanted.unit, &mut amounts, &mut zeros);
+        declared.raising[wanted.period as usize] = wanted.quantity.0;
+        return misfit(book, wanted.unit, &mut declared);
     }
-    misfit(book, wanted.unit, &mut zeros, &mut amounts)
+    declared.lowering[wanted.period as usize] = wanted.quantity.0;
+    misfit(book, wanted.unit, &mut declared)
 }
 
 // The checks of an order behind that of soundness.
-pub(crate) fn order_checks(book: &[u64], wanted: Wanted, lent: usize) -> u64
+pub(crate) fn order_checks(book: &[u64], wanted: Wanted, lent: usize) -> Result<(), Refusal>
     requires { sound_in book.now ≡ true }
-    ensures { result ≡ first_refusal (order_checks (decode book.now) wanted.unit wanted.direction wanted.period wanted.price.0
+    ensures { refusal_of result ≡ first_refusal (order_checks (decode book.now) wanted.unit wanted.direction wanted.period wanted.price.0
         wanted.quantity.0 lent) }
 {
-    let named = order_names(book, wanted, lent);
-    if 0 < named {
-        return named;
-    }
-    let day = order_days(book, wanted);
-    if 0 < day {
-        return day;
-    }
+    order_names(book, wanted, lent)?;
+    order_days(book, wanted)?;
     order_fit(book, wanted)
 }
 
@@ -264,14 +259,7 @@ pub(crate) fn order_in_call(book: &mut [u64], wanted: Wanted)
         × (Aside book.old book.new) }
 {
     let number = book[GIVEN] + 1;
-    let o = Order::fresh(
-        number,
-        wanted.unit,
-        wanted.direction,
-        wanted.period,
-        wanted.price,
-        wanted.quantity,
-    );
+    let o = wanted.numbered(number);
     append(book, o);
     next_number(book);
 }
@@ -291,15 +279,15 @@ fn meet_orders(book: &mut [u64], o: Order, rows: &mut [u64]) -> Rest
     let n = book[ORDERS];
     let met = matching::rolling::meet(&mut book[ORDER_TABLE..AMOUNTS], n as usize, o, rows);
     match met {
-        Matched::Unfit => Rest {
+        None => Rest {
             left: Energy(0),
             count: 0,
         },
-        Matched::Done(left, count, standing) => {
-            book[ORDERS] = standing as u64;
+        Some(done) => {
+            book[ORDERS] = done.standing as u64;
             Rest {
-                left: left,
-                count: count,
+                left: done.left,
+                count: done.count,
             }
         }
     }
@@ -311,7 +299,7 @@ fn rest_waits(book: &mut [u64], o: Order, left: Energy)
     ensures { OrdersPut book.old book.new (orders_in (orders_part book.old) (word book.old ORDERS)
         ++ waiting (leaving (as_order o) left.0)) }
 {
-    if left.is_zero() {
+    if left == Energy(0) {
         return;
     }
     let rest = o.leaving(left);
@@ -326,14 +314,7 @@ pub(crate) fn order_in_rolling(book: &mut [u64], wanted: Wanted, rows: &mut [u64
         wanted.quantity.0 result book.new rows.new }
 {
     let number = book[GIVEN] + 1;
-    let o = Order::fresh(
-        number,
-        wanted.unit,
-        wanted.direction,
-        wanted.period,
-        wanted.price,
-        wanted.quantity,
-    );
+    let o = wanted.numbered(number);
     let rest = meet_orders(book, o, rows);
     rest_waits(book, o, rest.left);
     book_rows(book, rows, rest.count);

@@ -11,51 +11,51 @@ ghost use Rattle.book.specs.Inner.Whole.{OrderLinks, Alike, Prices, PricesKept, 
 use crate::places::{
     DAYS, DIRECTION, ORDER_TABLE, ORDER_WORDS, ORDERS, PERIOD, PHASE, PRICE, UNIT,
 };
+use crate::standing::Links;
 use matching::periods::note_price;
 use measures::Price;
 
-// One more than the place of an order before the one at place k with its unit and period, or 0 where there is none: the
-// orders of the unit and day and those of the period are walked together, so that the shorter way ends it.
-fn find_alike(book: &[u64], k: usize, own: &[u64], peers: &[u64]) -> usize
-    requires { (Ranged book.now) × (k < word book.now ORDERS) × (OrderLinks book.now own.now peers.now) }
+// The place of an order before the one at place k with its unit and period: the orders of the unit and day and those of the
+// period are walked together, so that the shorter way ends it.
+fn find_alike(book: &[u64], k: usize, own: Links<'_>, peers: Links<'_>) -> Option<usize>
+    requires { (Ranged book.now) × (k < word book.now ORDERS) × (OrderLinks book.now own peers) }
     ensures { Alike book.now k result }
 {
     let at = ORDER_TABLE + ORDER_WORDS * k;
     let unit = book[at + UNIT];
     let period = book[at + PERIOD];
-    let mut a = own[k] as usize;
-    let mut b = peers[k] as usize;
-    while 0 < a {
-        if b == 0 {
-            return 0;
+    let mut day_next = own.before(k);
+    let mut period_next = peers.before(k);
+    while let Some(a) = day_next {
+        let Some(b) = period_next else {
+            return None;
+        };
+        if book[ORDER_TABLE + ORDER_WORDS * a + PERIOD] == period {
+            return Some(a);
         }
-        if book[ORDER_TABLE + ORDER_WORDS * (a - 1) + PERIOD] == period {
-            return a;
+        if book[ORDER_TABLE + ORDER_WORDS * b + UNIT] == unit {
+            return Some(b);
         }
-        if book[ORDER_TABLE + ORDER_WORDS * (b - 1) + UNIT] == unit {
-            return b;
-        }
-        a = own[a - 1] as usize;
-        b = peers[b - 1] as usize;
+        day_next = own.before(a);
+        period_next = peers.before(b);
     }
-    0
+    None
 }
 
 // Whether the order at place k goes the same way as the orders of its unit before it in its period, which go one way.
-fn one_direction(book: &[u64], k: usize, own: &[u64], peers: &[u64]) -> bool
-    requires { (Ranged book.now) × (k < word book.now ORDERS) × (OrderLinks book.now own.now peers.now)
+fn one_direction(book: &[u64], k: usize, own: Links<'_>, peers: Links<'_>) -> bool
+    requires { (Ranged book.now) × (k < word book.now ORDERS) × (OrderLinks book.now own peers)
         × (pairs_before book.now k ≡ true) }
     ensures { result ≡ all k (λ j. one_direction (order_at (orders_part book.now) k) (order_at (orders_part book.now) j)) }
 {
-    let t = find_alike(book, k, own, peers);
-    if t == 0 {
+    let Some(t) = find_alike(book, k, own, peers) else {
         return true;
-    }
-    book[ORDER_TABLE + ORDER_WORDS * (t - 1) + DIRECTION]
+    };
+    book[ORDER_TABLE + ORDER_WORDS * t + DIRECTION]
         == book[ORDER_TABLE + ORDER_WORDS * k + DIRECTION]
 }
 
-// Whether the order at place k crosses one before it.
+// Whether the order at place k crosses one before it; `high` and `low` stay apart, as matching's `note_price` takes them.
 fn crosses(book: &[u64], k: usize, high: &[u64], low: &[u64]) -> bool
     requires { (Ranged book.now) × (word book.now CEILING ≤ 10000000) × (k < word book.now ORDERS)
         × (periods (word book.now DAYS) ≤ length high.now) × (periods (word book.now DAYS) ≤ length low.now)
@@ -97,13 +97,13 @@ fn stands_apart(book: &[u64], k: usize, high: &mut [u64], low: &mut [u64]) -> bo
 fn order_stands(
     book: &[u64],
     k: usize,
-    own: &[u64],
-    peers: &[u64],
+    own: Links<'_>,
+    peers: Links<'_>,
     high: &mut [u64],
     low: &mut [u64],
 ) -> bool
     requires { (Ranged book.now) × (word book.now CEILING ≤ 10000000) × (k < word book.now ORDERS)
-        × (OrderLinks book.now own.now peers.now) × (pairs_before book.now k ≡ true) × (PricesKept book.now k high.old low.old) }
+        × (OrderLinks book.now own peers) × (pairs_before book.now k ≡ true) × (PricesKept book.now k high.old low.old) }
     ensures { OrderStands book.now k result high.new low.new }
 {
     if !one_direction(book, k, own, peers) {
@@ -116,38 +116,47 @@ fn order_stands(
 }
 
 // Whether the orders stand together, linked by unit and day and by period; no price is entered yet.
-fn all_stand(book: &[u64], own: &[u64], peers: &[u64], high: &mut [u64], low: &mut [u64]) -> bool
-    requires { (Ranged book.now) × (word book.now CEILING ≤ 10000000) × (OrderLinks book.now own.now peers.now)
+fn all_stand(
+    book: &[u64],
+    own: Links<'_>,
+    peers: Links<'_>,
+    high: &mut [u64],
+    low: &mut [u64],
+) -> bool
+    requires { (Ranged book.now) × (word book.now CEILING ≤ 10000000) × (OrderLinks book.now own peers)
         × (PricesKept book.now 0 high.old low.old) }
     ensures { result ≡ pairs_fit (word book.now PHASE) (decode book.now).orders }
 {
     let n = book[ORDERS] as usize;
-    let mut k: usize = 0;
-    while k < n {
+    for k in 0..n {
         if !order_stands(book, k, own, peers, high, low) {
             return false;
         }
-        k += 1;
     }
     true
 }
 
-// The same with tables of prices, which only the rolling phase asks for.
-pub(crate) fn orders_fit(book: &[u64], own: &[u64], peers: &[u64]) -> bool
-    requires { (Ranged book.now) × (word book.now CEILING ≤ 10000000) × (OrderLinks book.now own.now peers.now) }
+// The same with tables of prices of this size, which only the rolling phase asks for.
+fn stand_in<const PERIODS: usize>(book: &[u64], own: Links<'_>, peers: Links<'_>) -> bool
+    requires { (Ranged book.now) × (word book.now CEILING ≤ 10000000) × (OrderLinks book.now own peers)
+        × (PERIODS ≤ 744) × (word book.now PHASE ≡ 1 → periods (word book.now DAYS) ≤ PERIODS) }
+    ensures { result ≡ pairs_fit (word book.now PHASE) (decode book.now).orders }
+{
+    let mut high = [0u64; PERIODS];
+    let mut low = [Price::MOST + 1; PERIODS];
+    all_stand(book, own, peers, &mut high, &mut low)
+}
+
+// The same: before the rolling phase no price is entered, and a week asks for small tables.
+pub(crate) fn orders_fit(book: &[u64], own: Links<'_>, peers: Links<'_>) -> bool
+    requires { (Ranged book.now) × (word book.now CEILING ≤ 10000000) × (OrderLinks book.now own peers) }
     ensures { result ≡ pairs_fit (word book.now PHASE) (decode book.now).orders }
 {
     if book[PHASE] != 1 {
-        let mut high = [0u64; 1];
-        let mut low = [0u64; 1];
-        return all_stand(book, own, peers, &mut high, &mut low);
+        return stand_in::<1>(book, own, peers);
     }
     if book[DAYS] <= 7 {
-        let mut high = [0u64; 168];
-        let mut low = [10000001u64; 168];
-        return all_stand(book, own, peers, &mut high, &mut low);
+        return stand_in::<168>(book, own, peers);
     }
-    let mut high = [0u64; 744];
-    let mut low = [10000001u64; 744];
-    all_stand(book, own, peers, &mut high, &mut low)
+    stand_in::<744>(book, own, peers)
 }

@@ -1,8 +1,8 @@
 // The pass over the figures of a unit's day: its tests are joined in one word and made once, so that no hour branches.
-ghost use Rattle.std.specs.Prelude.{◌≡◌, ◌+◌, ◌-◌, ◌<◌, ◌≤◌, length, slice_index};
+ghost use Rattle.std.specs.Prelude.{◌≡◌, ℕ, ◌+◌, ◌-◌, ◌*◌, ◌<◌, ◌≤◌, length};
 ghost use Rattle.book.specs.Layout.{block_words};
 ghost use Rattle.book.specs.Inner.Fitting.{Below};
-ghost use Rattle.book.specs.Inner.Pass.{Same, Low, most_open, Joined, CellFits, Pass, day_cell, Together, HourLimits};
+ghost use Rattle.book.specs.Inner.Pass.{Same, Low, most_open, Joined, CellFits, Passed, day_cell, Together, DaysJoined, HourLimits};
 
 use crate::places::{HOURS, LOWERED, MARK, RAISED, VOLUME};
 use limits::Unit;
@@ -32,11 +32,10 @@ fn cell(
     requires { (limit ≤ 5000000) × (Low x) × (Low y) }
     ensures { Same (Low result) (Low bad × CellFits held raised lowered volume limit x y) }
 {
-    let declared = std::num::wrapping_add_u64(raised, x);
-    let up = std::num::wrapping_add_u64(held, declared);
-    let down = std::num::wrapping_add_u64(lowered, y);
-    let over = std::num::wrapping_sub_u64(limit, up);
-    let under = std::num::wrapping_sub_u64(held, down);
+    let up = held.wrapping_add(raised.wrapping_add(x));
+    let down = lowered.wrapping_add(y);
+    let over = limit.wrapping_sub(up);
+    let under = held.wrapping_sub(down);
     let a = joined(bad, raised);
     let b = joined(a, lowered);
     let c = joined(b, volume);
@@ -53,88 +52,41 @@ pub(crate) struct Sums {
     pub volume: u64,
 }
 
-// The unit's day whose figures begin at `at`, with nothing open.
-pub(crate) fn idle_day(book: &[u64], at: usize, limits: &[u64; 24]) -> Sums
-    requires { (at + block_words ≤ length book.now) × (at < 1000000) × (Below 5000000 limits.now) }
-    ensures { Pass 24 (day_cell book.now at limits.now (λ h. 0) (λ h. 0)) result.bad result.marks result.whole result.volume }
-{
-    let mut bad: u64 = 0;
-    let mut marks: u64 = 0;
-    let mut whole: u64 = 0;
-    let mut volume: u64 = 0;
-    let mut h: usize = 0;
-    while h < HOURS {
-        let i = at + h;
-        let held = book[i];
-        let raised = book[i + RAISED];
-        let traded = book[i + VOLUME];
-        bad = cell(
-            bad,
-            held,
-            raised,
-            book[i + LOWERED],
-            traded,
-            limits[h],
-            0,
-            0,
-        );
-        marks = joined(marks, book[i + MARK]);
-        whole = std::num::wrapping_add_u64(whole, std::num::wrapping_add_u64(held, raised));
-        volume = std::num::wrapping_add_u64(volume, traded);
-        h += 1;
-    }
-    Sums {
-        bad,
-        marks,
-        whole,
-        volume,
-    }
+// What raises and what lowers a unit, by hour of a day or by period.
+#[derive(Clone, Copy)]
+pub(crate) struct Amounts<const N: usize> {
+    pub raising: [u64; N],
+    pub lowering: [u64; N],
 }
 
-// The same with what raises and what lowers in hour h at first + h.
-pub(crate) fn open_day(
+// The unit's day whose figures begin at `at`, with what raises and what lowers by hour.
+pub(crate) fn day_sums<F: Fn(usize) -> (u64, u64)>(
     book: &[u64],
     at: usize,
     limits: &[u64; 24],
-    raising: &[u64],
-    lowering: &[u64],
-    first: usize,
+    amounts: F,
 ) -> Sums
-    requires { (at + block_words ≤ length book.now) × (at < 1000000) × (Below 5000000 limits.now) × (Below most_open raising.now)
-        × (Below most_open lowering.now) × (first + 24 ≤ length raising.now) × (first + 24 ≤ length lowering.now) }
-    ensures { Pass 24 (day_cell book.now at limits.now (λ h. slice_index raising.now (first + h))
-        (λ h. slice_index lowering.now (first + h))) result.bad result.marks result.whole result.volume }
+    requires figures { (at + block_words ≤ length book.now) × (at < 1000000) × (Below 5000000 limits.now) }
+    requires asked { (h : ℕ) → h < 24 → F.pre amounts h }
+    requires small { (h : ℕ) (z : _) → h < 24 → F.post amounts h z → (z.0 ≤ most_open) × (z.1 ≤ most_open) }
+    ensures { (x y : ℕ → ℕ) → ((h : ℕ) (z : _) → h < 24 → F.post amounts h z → (z.0 ≡ x h) × (z.1 ≡ y h))
+        → Passed 24 (day_cell book.now at limits.now x y) result }
 {
     let mut bad: u64 = 0;
     let mut marks: u64 = 0;
     let mut whole: u64 = 0;
     let mut volume: u64 = 0;
-    let mut h: usize = 0;
-    while h < HOURS {
+    for h in 0..HOURS {
         let i = at + h;
         let held = book[i];
         let raised = book[i + RAISED];
+        let lowered = book[i + LOWERED];
         let traded = book[i + VOLUME];
-        let j = first + h;
-        let x = raising[j];
-        let y = lowering[j];
-        bad = cell(
-            bad,
-            held,
-            raised,
-            book[i + LOWERED],
-            traded,
-            limits[h],
-            x,
-            y,
-        );
+        let (x, y) = amounts(h);
+        bad = cell(bad, held, raised, lowered, traded, limits[h], x, y);
         marks = joined(marks, book[i + MARK]);
-        whole = std::num::wrapping_add_u64(
-            whole,
-            std::num::wrapping_add_u64(held, std::num::wrapping_add_u64(raised, x)),
-        );
-        volume = std::num::wrapping_add_u64(volume, std::num::wrapping_add_u64(traded, x + y));
-        h += 1;
+        whole = whole.wrapping_add(held.wrapping_add(raised.wrapping_add(x)));
+        volume = volume.wrapping_add(traded.wrapping_add(x + y));
     }
     Sums {
         bad,
@@ -152,9 +104,26 @@ pub(crate) fn together(a: Sums, b: Sums) -> Sums
     Sums {
         bad: joined(a.bad, b.bad),
         marks: joined(a.marks, b.marks),
-        whole: std::num::wrapping_add_u64(a.whole, b.whole),
-        volume: std::num::wrapping_add_u64(a.volume, b.volume),
+        whole: a.whole.wrapping_add(b.whole),
+        volume: a.volume.wrapping_add(b.volume),
     }
+}
+
+// The passes over so many days, joined.
+pub(crate) fn all_days<F: Fn(usize) -> Sums>(days: usize, day: F) -> Sums
+    requires { (days ≤ 31) × ((d : ℕ) → d < days → F.pre day d) }
+    ensures { DaysJoined (λ d s. F.post day d s) days result }
+{
+    let mut s = Sums {
+        bad: 0,
+        marks: 0,
+        whole: 0,
+        volume: 0,
+    };
+    for d in 0..days {
+        s = together(s, day(d));
+    }
+    s
 }
 
 // The hour limits of a unit go to an empty table.
@@ -163,9 +132,7 @@ pub(crate) fn hour_limits(kind: u64, capacity: u64, limits: &mut [u64])
     ensures { HourLimits kind capacity 24 limits.new }
 {
     let unit = Unit::fresh(kind, capacity, Energy(0));
-    let mut h: usize = 0;
-    while h < HOURS {
+    for h in 0..HOURS {
         limits[h] = unit.hour_limit(h as u64).0;
-        h += 1;
     }
 }

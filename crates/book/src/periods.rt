@@ -1,6 +1,7 @@
 // Clear (paper 01): its checks, and the periods one after the other.
 ghost use Rattle.std.specs.Prelude.{◌≡◌, ◌≤◌, true, length};
 ghost use Rattle.book.specs.Layout.{decode};
+ghost use Rattle.measures.specs.Refused.{refusal_of};
 ghost use Rattle.book.specs.Refusals.{first_refusal};
 ghost use Rattle.book.specs.Inner.Readable.{Readable};
 ghost use Rattle.book.specs.Contract.{sound_in};
@@ -8,21 +9,22 @@ ghost use Rattle.book.specs.Clear.{clear_checks};
 ghost use Rattle.book.specs.Inner.Periods.{Swept, AllCleared};
 
 use crate::places::{AMOUNTS, DAYS, ORDER_TABLE, ORDERS, PHASE};
-use matching::orders::Matched;
 use matching::periods::clear_periods;
+use measures::Refusal;
 
 // The checks of a clear behind that of soundness.
-pub(crate) fn clear_checks(book: &[u64], lent: usize) -> u64
+#[tactic(auto, using(crate::proofs::Laws::Memory::RangeFacts::held, crate::proofs::Laws::Answer::MadeLaws::sound_readable), unfolding(crate::specs::Refusals::first_refusal))]
+pub(crate) fn clear_checks(book: &[u64], lent: usize) -> Result<(), Refusal>
     requires { Readable book.now }
-    ensures { result ≡ first_refusal (clear_checks (decode book.now) lent) }
+    ensures { refusal_of result ≡ first_refusal (clear_checks (decode book.now) lent) }
 {
     if lent < 4464 {
-        return 7;
+        return Err(Refusal::FewRows);
     }
     if book[PHASE] == 1 {
-        return 14;
+        return Err(Refusal::ClearInRolling);
     }
-    0
+    Ok(())
 }
 
 // Clears the book's orders, and counts those that stand.
@@ -34,10 +36,10 @@ fn sweep(book: &mut [u64], rows: &mut [u64]) -> usize
     let end = 24 * book[DAYS];
     let t = clear_periods(&mut book[ORDER_TABLE..AMOUNTS], n, end, rows);
     match t {
-        Matched::Unfit => 0,
-        Matched::Done(_, count, standing) => {
-            book[ORDERS] = standing as u64;
-            count
+        None => 0,
+        Some(done) => {
+            book[ORDERS] = done.standing as u64;
+            done.count
         }
     }
 }

@@ -1,13 +1,13 @@
 // Whether the figures of a book's memory lie in their ranges, and declarations name enrolled units: paper 01, "A book is sound if".
 ghost use Rattle.std.specs.Prelude.{◌≡◌, ℕ, ◌+◌, ◌-◌, ◌*◌, ◌<◌, ◌≤◌, min, List, length};
-ghost use Rattle.measures.specs.Ranges.{most_energy};
+ghost use Rattle.measures.specs.Ranges.{between, most_energy};
 ghost use Rattle.measures.specs.Lists.{table, every};
 ghost use Rattle.measures.specs.Sharing.{total};
 ghost use Rattle.limits.specs.Units.{periods, generator};
 ghost use Rattle.matching.specs.Memory.{order_at};
-ghost use Rattle.book.specs.Book.{Book, unit_of};
-ghost use Rattle.book.specs.Sound.{head_in, offer_in, order_in};
-ghost use Rattle.book.specs.Layout.{DAYS, UNITS, word, amount_at, offer_at, orders_part, decode};
+ghost use Rattle.book.specs.Book.{Book, known, unit_of};
+ghost use Rattle.book.specs.Sound.{energy_in, head_in, offer_in, order_in};
+ghost use Rattle.book.specs.Layout.{DAYS, FLOOR, CEILING, GIVEN, UNITS, word, amount_at, offer_at, orders_part, decode};
 ghost use Rattle.book.specs.Inner.Readable.{Readable, unit_fields_in, units_fields_in, sides_in};
 
 use crate::places::{
@@ -17,7 +17,7 @@ use crate::places::{
 };
 use limits::{Term, Unit};
 use matching::orders::Order;
-use measures::{Energy, Price};
+use measures::{Energy, Price, capped_total};
 
 // An open offer; its amounts stand by period.
 #[derive(Clone, Copy)]
@@ -50,20 +50,47 @@ impl Offer {
     }
 }
 
+// Whether a number is that of an enrolled unit.
+pub(crate) fn unit_known(book: &[u64], unit: u64) -> bool
+    requires { Readable book.now }
+    ensures { result ≡ known (decode book.now) unit }
+{
+    (1..=book[UNITS]).contains(&unit)
+}
+
+// Whether a price is from the floor to the ceiling.
+pub(crate) fn price_in(book: &[u64], price: Price) -> bool
+    requires { Readable book.now }
+    ensures { result ≡ between (word book.now FLOOR) (word book.now CEILING) price.0 }
+{
+    (book[FLOOR]..=book[CEILING]).contains(&price.0)
+}
+
+// Whether a number was given today.
+fn number_given(book: &[u64], number: u64) -> bool
+    requires { Readable book.now }
+    ensures { result ≡ between 1 (word book.now GIVEN) number }
+{
+    (1..=book[GIVEN]).contains(&number)
+}
+
+// Whether an amount is neither 0 nor more than an energy may be.
+pub(crate) fn energy_in(energy: Energy) -> bool
+    ensures { result ≡ energy_in energy.0 }
+{
+    (1..=Energy::MOST).contains(&energy.0)
+}
+
 // The book's own figures.
 pub(crate) fn head_in(book: &[u64]) -> bool
     requires { 8 ≤ length book.now }
     ensures { result ≡ head_in (decode book.now) }
 {
-    let days = book[DAYS];
-    if days < 1 {
-        return false;
-    }
-    if Term::MOST < days {
+    if !Term(book[DAYS]).in_range() {
         return false;
     }
     let ceiling = Price(book[CEILING]);
-    if ceiling.below(Price(book[FLOOR])) {
+    if ceiling < Price(book[FLOOR]) {
         return false;
     }
     if !ceiling.in_range() {
@@ -93,35 +120,20 @@ fn unit_in(book: &[u64], k: usize) -> bool
     ensures { result ≡ unit_fields_in book.now k }
 {
     let at = UNIT_TABLE + UNIT_WORDS * k;
-    let kind = book[at];
-    if kind < 1 {
-        return false;
-    }
-    if Unit::KINDS < kind {
-        return false;
-    }
-    let capacity = book[at + CAPACITY];
-    if capacity < 1 {
-        return false;
-    }
-    if Unit::MOST_CAPACITY < capacity {
-        return false;
-    }
-    Energy(book[at + ASSET]).in_range()
+    let unit = Unit::fresh(book[at], book[at + CAPACITY], Energy(book[at + ASSET]));
+    unit.checked().is_ok()
 }
 
-// The kinds, capacities and assets of all units.
+// The kinds, capacities and assets of all units. A loop for each table: `(0..n).all(..)` was tried, and its proof does not close.
 pub(crate) fn units_in(book: &[u64]) -> bool
     requires { Readable book.now }
     ensures { result ≡ units_fields_in book.now }
 {
     let n = book[UNITS] as usize;
-    let mut k: usize = 0;
-    while k < n {
+    for k in 0..n {
         if !unit_in(book, k) {
             return false;
         }
-        k += 1;
     }
     true
 }
@@ -131,18 +143,9 @@ pub(crate) fn offer_total(book: &[u64], j: usize) -> Energy
     requires { (Readable book.now) × (j < 8) }
     ensures { result.0 ≡ min (total (table (periods (word book.now DAYS)) (amount_at book.now j))) (most_energy + 1) }
 {
-    let top = HOURS * (book[DAYS] as usize);
-    let mut room = Energy(Energy::MOST);
-    let mut p: usize = 0;
-    while p < top {
-        let a = Energy(book[AMOUNTS + AMOUNT_WORDS * j + p]);
-        if !a.at_most(room) {
-            return Energy(Energy::MOST + 1);
-        }
-        room = room.minus(a);
-        p += 1;
-    }
-    Energy(Energy::MOST).minus(room)
+    let from = AMOUNTS + AMOUNT_WORDS * j;
+    let to = from + HOURS * (book[DAYS] as usize);
+    capped_total(&book[from..to])
 }
 
 // Whether a unit that is enrolled is a generator.
@@ -150,14 +153,7 @@ pub(crate) fn is_generator(book: &[u64], unit: u64) -> bool
     requires { (Readable book.now) × (1 ≤ unit) × (unit ≤ word book.now UNITS) }
     ensures { result ≡ generator (unit_of (decode book.now) unit).kind }
 {
-    let kind = book[UNIT_TABLE + UNIT_WORDS * (unit as usize - 1)];
-    if kind < 1 {
-        return false;
-    }
-    if 2 < kind {
-        return false;
-    }
-    true
+    (1..=2).contains(&book[UNIT_TABLE + UNIT_WORDS * (unit as usize - 1)])
 }
 
 // Whether a partner is none, or an enrolled load for a generator.
@@ -186,35 +182,20 @@ fn offer_in(book: &[u64], j: usize) -> bool
     ensures { result ≡ offer_in (decode book.now) (offer_at book.now (word book.now DAYS) j) }
 {
     let at = OFFER_TABLE + OFFER_WORDS * j;
-    let number = book[at];
-    if number < 1 {
-        return false;
-    }
-    if book[GIVEN] < number {
-        return false;
-    }
     let unit = book[at + UNIT];
-    if unit < 1 {
+    if !number_given(book, book[at]) {
         return false;
     }
-    if book[UNITS] < unit {
+    if !unit_known(book, unit) {
         return false;
     }
-    let price = Price(book[at + PRICE]);
-    if price.below(Price(book[FLOOR])) {
-        return false;
-    }
-    if Price(book[CEILING]).below(price) {
+    if !price_in(book, Price(book[at + PRICE])) {
         return false;
     }
     if 1 < book[at + TAKEN] {
         return false;
     }
-    let whole = offer_total(book, j);
-    if whole.is_zero() {
-        return false;
-    }
-    if !whole.in_range() {
+    if !energy_in(offer_total(book, j)) {
         return false;
     }
     sides_fit(book, unit, book[at + PARTNER])
@@ -226,12 +207,10 @@ pub(crate) fn offers_in(book: &[u64]) -> bool
     ensures { result ≡ every (offer_in (decode book.now)) (decode book.now).offers }
 {
     let n = book[OFFERS] as usize;
-    let mut j: usize = 0;
-    while j < n {
+    for j in 0..n {
         if !offer_in(book, j) {
             return false;
         }
-        j += 1;
     }
     true
 }
@@ -242,18 +221,10 @@ fn order_in(book: &[u64], k: usize) -> bool
     ensures { result ≡ order_in (decode book.now) (order_at (orders_part book.now) k) }
 {
     let at = ORDER_TABLE + ORDER_WORDS * k;
-    let number = book[at];
-    if number < 1 {
+    if !number_given(book, book[at]) {
         return false;
     }
-    if book[GIVEN] < number {
-        return false;
-    }
-    let unit = book[at + UNIT];
-    if unit < 1 {
-        return false;
-    }
-    if book[UNITS] < unit {
+    if !unit_known(book, book[at + UNIT]) {
         return false;
     }
     if 1 < book[at + DIRECTION] {
@@ -262,18 +233,10 @@ fn order_in(book: &[u64], k: usize) -> bool
     if 24 * book[DAYS] <= book[at + PERIOD] {
         return false;
     }
-    let price = Price(book[at + PRICE]);
-    if price.below(Price(book[FLOOR])) {
+    if !price_in(book, Price(book[at + PRICE])) {
         return false;
     }
-    if Price(book[CEILING]).below(price) {
-        return false;
-    }
-    let quantity = Energy(book[at + QUANTITY]);
-    if quantity.is_zero() {
-        return false;
-    }
-    quantity.in_range()
+    energy_in(Energy(book[at + QUANTITY]))
 }
 
 // All open orders.
@@ -282,12 +245,10 @@ pub(crate) fn orders_in(book: &[u64]) -> bool
     ensures { result ≡ every (order_in (decode book.now)) (decode book.now).orders }
 {
     let n = book[ORDERS] as usize;
-    let mut k: usize = 0;
-    while k < n {
+    for k in 0..n {
         if !order_in(book, k) {
             return false;
         }
-        k += 1;
     }
     true
 }

@@ -1,5 +1,6 @@
 // Whether memory holds a sound book: paper 01, "A book is sound if".
-ghost use Rattle.std.specs.Prelude.{◌≡◌, ◌*◌, ◌<◌, ◌≤◌, ◌&&◌, length};
+ghost use Rattle.std.specs.Prelude.{◌≡◌, ◌*◌, ◌<◌, ◌≤◌, ◌&&◌, cond, length};
+ghost use Rattle.measures.specs.Refused.{refusal_of};
 ghost use Rattle.book.specs.Layout.{DAYS, CEILING, PHASE, word, decode};
 ghost use Rattle.book.specs.Contract.{sound_in};
 ghost use Rattle.book.specs.Inner.Readable.{Ranged, units_whole, pairs_fit};
@@ -9,8 +10,9 @@ use crate::numbers::numbers_differ;
 use crate::pairs::orders_fit;
 use crate::places::{DAY_WORDS, DAYS, FIGURES, LAYOUT, LAYOUT_NUMBER, ORDERS};
 use crate::ranges::{head_in, offers_in, orders_in, units_in};
-use crate::standing::link_orders;
+use crate::standing::{Links, link_orders};
 use crate::whole::units_fit;
+use measures::Refusal;
 
 // Whether the orders may stand together and all units fit; `last` and `firsts` are empty, with room for each unit's days and
 // for each period.
@@ -22,10 +24,26 @@ fn linked_fit(book: &[u64], last: &mut [u64], firsts: &mut [u64]) -> bool
     let mut own = [0u64; 256];
     let mut peers = [0u64; 256];
     link_orders(book, last, &mut own, firsts, &mut peers);
-    if !orders_fit(book, &own, &peers) {
+    let days = Links { last, before: &own };
+    let periods = Links {
+        last: firsts,
+        before: &peers,
+    };
+    if !orders_fit(book, days, periods) {
         return false;
     }
-    units_fit(book, last, &own)
+    units_fit(book, days)
+}
+
+// The same with tables of these sizes.
+fn linked_fit_in<const LAST: usize, const FIRSTS: usize>(book: &[u64]) -> bool
+    requires { (Ranged book.now) × (word book.now CEILING ≤ 10000000) × (64 * word book.now DAYS ≤ LAST) × (LAST ≤ 1984)
+        × (24 * word book.now DAYS ≤ FIRSTS) × (FIRSTS ≤ 744) }
+    ensures { result ≡ (pairs_fit (word book.now PHASE) (decode book.now).orders && units_whole (decode book.now)) }
+{
+    let mut last = [0u64; LAST];
+    let mut firsts = [0u64; FIRSTS];
+    linked_fit(book, &mut last, &mut firsts)
 }
 
 // The same: without orders nothing is linked, and a week asks for small tables.
@@ -35,16 +53,18 @@ fn open_fit(book: &[u64]) -> bool
 {
     if book[ORDERS] == 0 {
         let none = [0u64; 1];
-        return units_fit(book, &none, &none);
+        return units_fit(
+            book,
+            Links {
+                last: &none,
+                before: &none,
+            },
+        );
     }
     if book[DAYS] <= 7 {
-        let mut last = [0u64; 448];
-        let mut firsts = [0u64; 168];
-        return linked_fit(book, &mut last, &mut firsts);
+        return linked_fit_in::<448, 168>(book);
     }
-    let mut last = [0u64; 1984];
-    let mut firsts = [0u64; 744];
-    linked_fit(book, &mut last, &mut firsts)
+    linked_fit_in::<1984, 744>(book)
 }
 
 // Whether the memory is long enough and holds a sound book.
@@ -77,4 +97,14 @@ pub fn sound_book(book: &[u64]) -> bool
         return false;
     }
     open_fit(book)
+}
+
+// The check that every call makes first.
+pub(crate) fn check_sound(book: &[u64]) -> Result<(), Refusal>
+    ensures { refusal_of result ≡ cond (sound_in book.now) 0 1 }
+{
+    if !sound_book(book) {
+        return Err(Refusal::UnsoundBook);
+    }
+    Ok(())
 }

@@ -6,6 +6,7 @@ ghost use Rattle.measures.specs.Sharing.{total};
 ghost use Rattle.limits.specs.Units.{periods};
 ghost use Rattle.book.specs.Book.{offer_open};
 ghost use Rattle.book.specs.Take.{take_checks, take_rows_from, take_rows};
+ghost use Rattle.measures.specs.Refused.{refusal_of};
 ghost use Rattle.book.specs.Refusals.{first_refusal};
 ghost use Rattle.book.specs.Layout.{DAYS, UNITS, OFFERS, offer_place, UNIT, word, amount_at, offer_at, decode};
 ghost use Rattle.book.specs.Inner.Readable.{Readable};
@@ -29,15 +30,16 @@ ghost use Rattle.book.specs.Inner.RowsIn.{
 
 use crate::fits::misfit;
 use crate::numbers::find_offer;
+use crate::pass::Amounts;
 use crate::places::{
     AMOUNT_WORDS, AMOUNTS, DAYS, HOURS, OFFER_TABLE, OFFER_WORDS, PARTNER, PRICE, TAKEN, UNIT,
     UNITS,
 };
-use crate::ranges::{Offer, is_generator, offer_total};
+use crate::ranges::{energy_in, is_generator, offer_total, unit_known};
 use crate::trades::book_rows;
 use crate::withdrawing::withdraw_effect;
 use matching::orders::{Row, put_row};
-use measures::{Energy, Price};
+use measures::{Energy, Price, Refusal};
 
 // What the rows of a take have in common.
 #[derive(Clone, Copy)]
@@ -55,7 +57,7 @@ fn can_take(book: &[u64], j: usize, unit: u64, quantity: Energy) -> bool
     ensures { result ≡ takes book.now j unit quantity.0 }
 {
     let whole = offer_total(book, j);
-    if !quantity.at_most(whole) {
+    if whole < quantity {
         return false;
     }
     let partner = book[OFFER_TABLE + OFFER_WORDS * j + PARTNER];
@@ -63,7 +65,7 @@ fn can_take(book: &[u64], j: usize, unit: u64, quantity: Energy) -> bool
         if partner != unit {
             return false;
         }
-        return whole.at_most(quantity);
+        return whole <= quantity;
     }
     let own = is_generator(book, book[OFFER_TABLE + OFFER_WORDS * j + UNIT]);
     let other = is_generator(book, unit);
@@ -74,33 +76,32 @@ fn can_take(book: &[u64], j: usize, unit: u64, quantity: Energy) -> bool
 }
 
 // The checks of a take before its fit.
-fn take_party(book: &[u64], unit: u64, number: u64, quantity: Energy, lent: usize) -> u64
+fn take_party(
+    book: &[u64],
+    unit: u64,
+    number: u64,
+    quantity: Energy,
+    lent: usize,
+) -> Result<(), Refusal>
     requires { sound_in book.now ≡ true }
-    ensures { result ≡ first_refusal (party_checks (decode book.now) unit number quantity.0 lent) }
+    ensures { refusal_of result ≡ first_refusal (party_checks (decode book.now) unit number quantity.0 lent) }
 {
-    if unit < 1 {
-        return 6;
-    }
-    if book[UNITS] < unit {
-        return 6;
+    if !unit_known(book, unit) {
+        return Err(Refusal::UnknownName);
     }
     if lent < 4464 {
-        return 7;
+        return Err(Refusal::FewRows);
     }
-    if quantity.is_zero() {
-        return 9;
+    if !energy_in(quantity) {
+        return Err(Refusal::BadEnergy);
     }
-    if !quantity.in_range() {
-        return 9;
-    }
-    let j = find_offer(book, number);
-    if Offer::MOST as usize <= j {
-        return 11;
-    }
+    let Some(j) = find_offer(book, number) else {
+        return Err(Refusal::NoSuchNumber);
+    };
     if !can_take(book, j, unit, quantity) {
-        return 12;
+        return Err(Refusal::WrongParty);
     }
-    0
+    Ok(())
 }
 
 // The parts of a quantity over the amounts of the offer at place j, where they stand.
@@ -111,19 +112,27 @@ fn share_offer(book: &[u64], j: usize, quantity: Energy, parts: &mut [u64])
 {
     let from = AMOUNTS + AMOUNT_WORDS * j;
     let to = from + HOURS * (book[DAYS] as usize);
-    measures::share(quantity, &book[from..to], parts);
+    let _ = measures::share(quantity, &book[from..to], parts);
 }
 
 // The fit of a take from the offer at place j; its parts go to the lent memory, which holds nothing.
-fn take_fit(book: &[u64], unit: u64, j: usize, quantity: Energy, parts: &mut [u64; 744]) -> u64
+fn take_fit(
+    book: &[u64],
+    unit: u64,
+    j: usize,
+    quantity: Energy,
+    parts: &mut [u64; 744],
+) -> Result<(), Refusal>
     requires { (sound_in book.now ≡ true) × (j < word book.now OFFERS) × (1 ≤ unit) × (unit ≤ word book.now UNITS) × (1 ≤ quantity.0)
         × (quantity.0 ≤ total (table (periods (word book.now DAYS)) (amount_at book.now j))) × (Nothing parts.old) }
-    ensures { TakeFit book.now unit j quantity.0 result parts.old parts.new }
+    ensures { TakeFit book.now unit j quantity.0 (refusal_of result) parts.old parts.new }
 {
     share_offer(book, j, quantity, parts);
-    let mut raising = *parts;
-    let mut lowering = [0u64; 744];
-    misfit(book, unit, &mut raising, &mut lowering)
+    let mut declared = Amounts {
+        raising: *parts,
+        lowering: [0; 744],
+    };
+    misfit(book, unit, &mut declared)
 }
 
 // The checks of a take behind that of soundness; where none applies, its parts go to the lent memory.
@@ -134,44 +143,37 @@ pub(crate) fn take_checks(
     quantity: Energy,
     lent: usize,
     parts: &mut [u64; 744],
-) -> u64
+) -> Result<(), Refusal>
     requires { (sound_in book.now ≡ true) × (Nothing parts.old) }
-    ensures { TakeChecked book.now unit number quantity.0 lent result parts.old parts.new }
+    ensures { TakeChecked book.now unit number quantity.0 lent (refusal_of result) parts.old parts.new }
 {
-    let refusal = take_party(book, unit, number, quantity, lent);
-    if 0 < refusal {
-        return refusal;
-    }
-    let j = find_offer(book, number);
+    take_party(book, unit, number, quantity, lent)?;
+    let Some(j) = find_offer(book, number) else {
+        unreachable!()
+    };
     take_fit(book, unit, j, quantity, parts)
 }
 
-// A row for each of the first parts that is not 0, periods rising.
-fn write_rows(parts: &[u64], top: usize, rows: &mut [u64], deal: Deal) -> usize
-    requires { (top ≤ 744) × (top ≤ length parts.now) × (4464 ≤ length rows.old) }
-    ensures { RowsPut rows.old rows.new result
-        (take_rows_from 0 deal.way deal.seller deal.buyer deal.price.0 (take top parts.now)) }
+// A row for each part that is not 0, periods rising.
+fn write_rows(parts: &[u64], rows: &mut [u64], deal: Deal) -> usize
+    requires { (length parts.now ≤ 744) × (4464 ≤ length rows.old) }
+    ensures { RowsPut rows.old rows.new result (take_rows_from 0 deal.way deal.seller deal.buyer deal.price.0 parts.now) }
 {
     let mut k: usize = 0;
-    let mut p: usize = 0;
-    while p < top {
-        let quantity = Energy(parts[p]);
-        if quantity.is_zero() {
-            p += 1;
-        } else {
-            let price = deal.price;
-            let row = Row {
-                way: deal.way,
-                period: p as u64,
-                seller: deal.seller,
-                buyer: deal.buyer,
-                quantity,
-                price,
-            };
-            put_row(rows, k, row);
-            k += 1;
-            p += 1;
+    for (p, part) in parts.iter().enumerate() {
+        if *part == 0 {
+            continue;
         }
+        let row = Row {
+            way: deal.way,
+            period: p as u64,
+            seller: deal.seller,
+            buyer: deal.buyer,
+            quantity: Energy(*part),
+            price: deal.price,
+        };
+        put_row(rows, k, row);
+        k += 1;
     }
     k
 }
@@ -219,22 +221,18 @@ fn take_rows(book: &[u64], unit: u64, j: usize, parts: &[u64], rows: &mut [u64])
     let owner = book[at + UNIT];
     let price = Price(book[at + PRICE]);
     let way = way_of(book[at + PARTNER]);
-    if is_generator(book, owner) {
-        let sold = Deal {
-            way,
-            seller: owner,
-            buyer: unit,
-            price,
-        };
-        return write_rows(parts, top, rows, sold);
-    }
-    let bought = Deal {
+    let (seller, buyer) = if is_generator(book, owner) {
+        (owner, unit)
+    } else {
+        (unit, owner)
+    };
+    let deal = Deal {
         way,
-        seller: unit,
-        buyer: owner,
+        seller,
+        buyer,
         price,
     };
-    write_rows(parts, top, rows, bought)
+    write_rows(&parts[..top], rows, deal)
 }
 
 // A take of parts from the offer at place j, of which some is left.
@@ -281,9 +279,11 @@ pub(crate) fn take_effect(
         × (PartsLent book.old number quantity.0 parts.now) }
     ensures { TakeMade book.old book.new unit number quantity.0 rows.old rows.new result }
 {
-    let j = find_offer(book, number);
+    let Some(j) = find_offer(book, number) else {
+        unreachable!()
+    };
     let whole = offer_total(book, j);
-    if whole.at_most(quantity) {
+    if whole <= quantity {
         return take_whole(book, unit, number, j, parts, rows);
     }
     take_part(book, unit, j, parts, rows)

@@ -1,7 +1,7 @@
 // Rows entered in the figures of seller and buyer: paper 01, "Limits".
 ghost use Rattle.std.specs.Prelude.{◌≡◌, ℕ, ◌+◌, ◌-◌, ◌*◌, ◌<◌, ◌≤◌, min, List, length, if◌then◌else◌};
 ghost use Rattle.measures.specs.Ranges.{most_energy, most_number};
-ghost use Rattle.matching.specs.Memory.{row_words, as_row, row_at};
+ghost use Rattle.matching.specs.Memory.{direction_number, row_words, as_row, row_at};
 ghost use Rattle.book.specs.Book.{Book, unit_of};
 ghost use Rattle.book.specs.Trades.{raises, mark_with, mark_after};
 ghost use Rattle.book.specs.Layout.{DAYS, UNITS, figure_place, VOLUME, word, figures_at, decode};
@@ -12,7 +12,7 @@ use crate::places::{
     BLOCK, DAY_WORDS, FIGURES, HOURS, LOWERED, MARK, PERIOD, PRICE, QUANTITY, RAISED, VOLUME,
 };
 use crate::ranges::is_generator;
-use matching::orders::Row;
+use matching::orders::{Direction, Row};
 use measures::{Energy, Price};
 
 // Whether a trade in this direction (0 sold, 1 bought) raises the unit's net.
@@ -27,23 +27,22 @@ pub(crate) fn raises_net(book: &[u64], unit: u64, direction: u64) -> bool
 }
 
 // A mark with one direction more.
-fn mark_with(direction: u64, mark: u64) -> u64
-    requires { direction ≤ 1 }
-    ensures { result ≡ mark_with direction mark }
+fn mark_with(direction: Direction, mark: u64) -> u64
+    ensures { result ≡ mark_with (direction_number direction) mark }
 {
+    let own = u64::from(direction) + 1;
     if mark == 0 {
-        return direction + 1;
+        return own;
     }
-    if mark == 2 - direction {
+    if mark == 3 - own {
         return 3;
     }
     mark
 }
 
 // Today's mark of a unit after a trade.
-fn mark_after(way: u64, direction: u64, mark: u64) -> u64
-    requires { direction ≤ 1 }
-    ensures { result ≡ mark_after way direction mark }
+fn mark_after(way: u64, direction: Direction, mark: u64) -> u64
+    ensures { result ≡ mark_after way (direction_number direction) mark }
 {
     if way < 3 {
         return mark;
@@ -76,25 +75,20 @@ impl Figures {
             × (result.lowered.0 ≡ (if raises then self.lowered.0 else min (self.lowered.0 + quantity.0) most_number))
             × (result.volume.0 ≡ min (self.volume.0 + quantity.0) most_number) × (result.mark ≡ mark) }
     {
-        let held = self.held;
-        let raised = self.raised;
-        let lowered = self.lowered;
         let volume = self.volume.plus(quantity);
         if raises {
             return Figures {
-                held,
-                raised: raised.plus(quantity),
-                lowered,
+                raised: self.raised.plus(quantity),
                 mark,
                 volume,
+                ..self
             };
         }
         Figures {
-            held,
-            raised,
-            lowered: lowered.plus(quantity),
+            lowered: self.lowered.plus(quantity),
             mark,
             volume,
+            ..self
         }
     }
 }
@@ -127,16 +121,16 @@ fn put_figures(book: &mut [u64], k: usize, p: usize, figures: Figures)
     book[at + VOLUME] = figures.volume.0;
 }
 
-// One party of a row: the unit sold (0) or bought (1).
-fn book_trade(book: &mut [u64], row: Row, direction: u64, unit: u64)
-    requires { (Readable book.old) × (row.period < 24 * word book.old DAYS) × (1 ≤ unit) × (unit ≤ word book.old UNITS) × (direction ≤ 1)
+// One party of a row: the unit sold or bought.
+fn book_trade(book: &mut [u64], row: Row, direction: Direction, unit: u64)
+    requires { (Readable book.old) × (row.period < 24 * word book.old DAYS) × (1 ≤ unit) × (unit ≤ word book.old UNITS)
         × (row.quantity.0 ≤ most_energy) × (SmallAt book.old (unit - 1) row.period 2000000000000000000) }
-    ensures { Traded book.old book.new row.way direction row.period row.quantity.0 unit }
+    ensures { Traded book.old book.new row.way (direction_number direction) row.period row.quantity.0 unit }
 {
     let k = unit as usize - 1;
     let p = row.period as usize;
     let figures = figures_at(book, k, p);
-    let raises = raises_net(book, unit, direction);
+    let raises = raises_net(book, unit, u64::from(direction));
     let mark = mark_after(row.way, direction, figures.mark);
     put_figures(book, k, p, figures.traded(raises, row.quantity, mark));
 }
@@ -164,8 +158,8 @@ fn book_row(book: &mut [u64], rows: &[u64], i: usize)
     ensures { RowTraded book.old book.new (row_at rows.now i) }
 {
     let row = row_at(rows, i);
-    book_trade(book, row, 0, row.seller);
-    book_trade(book, row, 1, row.buyer);
+    book_trade(book, row, Direction::Sell, row.seller);
+    book_trade(book, row, Direction::Buy, row.buyer);
 }
 
 // The first count rows.
@@ -174,9 +168,7 @@ pub(crate) fn book_rows(book: &mut [u64], rows: &[u64], count: usize)
         × (Small book.old small_figures) }
     ensures { RowsTraded book.old book.new rows.now count }
 {
-    let mut i: usize = 0;
-    while i < count {
+    for i in 0..count {
         book_row(book, rows, i);
-        i += 1;
     }
 }

@@ -3,6 +3,7 @@ ghost use Rattle.std.specs.Prelude.{◌≡◌, ℕ, ◌+◌, ◌-◌, ◌*◌, �
 ghost use Rattle.measures.specs.Lists.{keep};
 ghost use Rattle.book.specs.Book.{with_offers, offer_open};
 ghost use Rattle.book.specs.Layout.{decode, Aside};
+ghost use Rattle.measures.specs.Refused.{refusal_of};
 ghost use Rattle.book.specs.Refusals.{first_refusal};
 ghost use Rattle.book.specs.Inner.Readable.{Readable};
 ghost use Rattle.book.specs.Contract.{sound_in};
@@ -10,31 +11,28 @@ ghost use Rattle.book.specs.Withdraw.{withdraw_checks};
 
 use crate::numbers::find_offer;
 use crate::places::{AMOUNT_WORDS, AMOUNTS, OFFER_TABLE, OFFER_WORDS, OFFERS, TAKEN, UNIT, UNITS};
-use crate::ranges::Offer;
+use crate::ranges::unit_known;
 use crate::words::shift;
+use measures::Refusal;
 
 // The checks of a withdraw behind that of soundness.
-pub(crate) fn withdraw_checks(book: &[u64], unit: u64, number: u64) -> u64
+pub(crate) fn withdraw_checks(book: &[u64], unit: u64, number: u64) -> Result<(), Refusal>
     requires { sound_in book.now ≡ true }
-    ensures { result ≡ first_refusal (withdraw_checks (decode book.now) unit number) }
+    ensures { refusal_of result ≡ first_refusal (withdraw_checks (decode book.now) unit number) }
 {
-    if unit < 1 {
-        return 6;
+    if !unit_known(book, unit) {
+        return Err(Refusal::UnknownName);
     }
-    if book[UNITS] < unit {
-        return 6;
-    }
-    let j = find_offer(book, number);
-    if Offer::MOST as usize <= j {
-        return 11;
-    }
+    let Some(j) = find_offer(book, number) else {
+        return Err(Refusal::NoSuchNumber);
+    };
     if book[OFFER_TABLE + OFFER_WORDS * j + UNIT] != unit {
-        return 11;
+        return Err(Refusal::NoSuchNumber);
     }
     if book[OFFER_TABLE + OFFER_WORDS * j + TAKEN] == 1 {
-        return 13;
+        return Err(Refusal::AfterTake);
     }
-    0
+    Ok(())
 }
 
 // The open offer of a number goes.
@@ -45,7 +43,9 @@ pub(crate) fn withdraw_effect(book: &mut [u64], number: u64)
         × (Aside book.old book.new) }
 {
     let n = book[OFFERS] as usize;
-    let j = find_offer(book, number);
+    let Some(j) = find_offer(book, number) else {
+        unreachable!()
+    };
     shift(
         book,
         AMOUNTS + AMOUNT_WORDS * j,

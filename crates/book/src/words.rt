@@ -7,11 +7,7 @@ pub(crate) fn empty(book: &mut [u64], from: usize, to: usize)
     requires { (from ≤ to) × (to ≤ length book.old) }
     ensures { Emptied book.old from to book.new }
 {
-    let mut i = from;
-    while i < to {
-        book[i] = 0;
-        i += 1;
-    }
+    book[from..to].fill(0);
 }
 
 // The words from one place up to another become those a step behind them.
@@ -19,9 +15,5 @@ pub(crate) fn shift(book: &mut [u64], from: usize, to: usize, step: usize)
     requires { (from ≤ to) × (to + step ≤ length book.old) }
     ensures { Shifted book.old from to step book.new }
 {
-    let mut i = from;
-    while i < to {
-        book[i] = book[i + step];
-        i += 1;
-    }
+    book.copy_within(from + step..to + step, from);
 }

@@ -1,10 +1,9 @@
 -- What the exported calls promise: the book's own contracts, with the answer told in numbers. Each returns the refusal, r,
 -- and hands over its number and its count of rows, out.
 use Rattle.std.specs.Prelude.{ℕ, ◌≡◌, List, [], ◌∷◌}
-use Rattle.book.specs.declared.Answer.{Answer}
 use Rattle.book.specs.Book.{Rules}
 use Rattle.book.specs.Calls.{Call}
-use Rattle.book.specs.Contract.{Made, Opened, Curved, told_by}
+use Rattle.book.specs.Contract.{Answer, Made, Opened, Curved, told_by}
 
 -- one of the eight calls
 pub record Called (m rows : List ℕ) (c : Call) (r : ℕ) (out m' rows' : List ℕ) : Type 0 where

@@ -12,25 +12,19 @@ ghost use Rattle.book.specs.Contract.{told_by};
 ghost use Rattle.cenduxari.specs.Exports.{Called, BookOpened, CurveDrawn};
 
 use book::Answer;
+use measures::refusal_number;
 
-// The refusal of an answer, or 0.
-fn refusal_of(answer: Answer) -> u64
-    ensures { result ≡ (told_by answer).refusal }
+// Tells an answer in numbers: the refusal, or 0, is returned, and the number and the count of rows are written, zeros where it is
+// refused.
+fn tell(answer: Answer, out: &mut [u64; 2]) -> u64
+    ensures refusal { result ≡ (told_by answer).refusal }
+    ensures numbers { out.new ≡ (told_by answer).number ∷ (told_by answer).count ∷ [] }
 {
-    match answer {
-        Answer::Done(_, _) => 0,
-        Answer::Refused(refusal) => refusal,
-    }
-}
-
-// The number and the count of rows of an answer: zeros where it is a refusal.
-fn numbers_of(answer: Answer) -> [u64; 2]
-    ensures { result ≡ (told_by answer).number ∷ (told_by answer).count ∷ [] }
-{
-    match answer {
-        Answer::Done(number, count) => [number, count as u64],
-        Answer::Refused(_) => [0, 0],
-    }
+    *out = match answer {
+        Ok(done) => [done.number, done.count as u64],
+        Err(_) => [0, 0],
+    };
+    refusal_number(&answer)
 }
 
 // Shares an amount over the remaining amounts.
@@ -75,9 +69,7 @@ pub extern "C" fn cenduxari_open(
 ) -> u64
     ensures { BookOpened book.old (rules_of days floor ceiling) result out.new book.new }
 {
-    let answer = book::opening::open(book, days, floor, ceiling);
-    *out = numbers_of(answer);
-    refusal_of(answer)
+    tell(book::opening::open(book, days, floor, ceiling), out)
 }
 
 // Adds a unit.
@@ -91,9 +83,7 @@ pub extern "C" fn cenduxari_enrol(
 ) -> u64
     ensures { Called book.old [] (call_enrol kind capacity asset) result out.new book.new [] }
 {
-    let answer = book::calls::enrol(book, kind, capacity, asset);
-    *out = numbers_of(answer);
-    refusal_of(answer)
+    tell(book::calls::enrol(book, kind, capacity, asset), out)
 }
 
 // Offers an amount for each period, to a partner or, with 0, as a listing.
@@ -108,9 +98,7 @@ pub extern "C" fn cenduxari_offer(
 ) -> u64
     ensures { Called book.old [] (call_offer unit partner price amounts.now) result out.new book.new [] }
 {
-    let answer = book::calls::offer(book, unit, partner, price, amounts);
-    *out = numbers_of(answer);
-    refusal_of(answer)
+    tell(book::calls::offer(book, unit, partner, price, amounts), out)
 }
 
 // Takes a quantity of an open offer.
@@ -126,9 +114,7 @@ pub extern "C" fn cenduxari_take(
     ensures { Called book.old rows.old (call_take unit number quantity (length rows.old)) result out.new
         book.new rows.new }
 {
-    let answer = book::calls::take(book, unit, number, quantity, rows);
-    *out = numbers_of(answer);
-    refusal_of(answer)
+    tell(book::calls::take(book, unit, number, quantity, rows), out)
 }
 
 // Removes an own offer of which nothing is taken.
@@ -141,9 +127,7 @@ pub extern "C" fn cenduxari_withdraw(
 ) -> u64
     ensures { Called book.old [] (call_withdraw unit number) result out.new book.new [] }
 {
-    let answer = book::calls::withdraw(book, unit, number);
-    *out = numbers_of(answer);
-    refusal_of(answer)
+    tell(book::calls::withdraw(book, unit, number), out)
 }
 
 // Orders a quantity of a period.
@@ -161,9 +145,10 @@ pub extern "C" fn cenduxari_order(
     ensures { Called book.old rows.old (call_order unit direction period price quantity (length rows.old)) result
         out.new book.new rows.new }
 {
-    let answer = book::calls::order(book, unit, direction, period, price, quantity, rows);
-    *out = numbers_of(answer);
-    refusal_of(answer)
+    tell(
+        book::calls::order(book, unit, direction, period, price, quantity, rows),
+        out,
+    )
 }
 
 // Removes what is left of an own order.
@@ -176,9 +161,7 @@ pub extern "C" fn cenduxari_cancel(
 ) -> u64
     ensures { Called book.old [] (call_cancel unit number) result out.new book.new [] }
 {
-    let answer = book::calls::cancel(book, unit, number);
-    *out = numbers_of(answer);
-    refusal_of(answer)
+    tell(book::calls::cancel(book, unit, number), out)
 }
 
 // Clears each period of the call phase, and begins the rolling phase.
@@ -187,9 +170,7 @@ pub extern "C" fn cenduxari_clear(book: &mut [u64], rows: &mut [u64], out: &mut 
     ensures { Called book.old rows.old (call_clear (length rows.old)) result out.new book.new
         rows.new }
 {
-    let answer = book::calls::clear(book, rows);
-    *out = numbers_of(answer);
-    refusal_of(answer)
+    tell(book::calls::clear(book, rows), out)
 }
 
 // Closes the day.
@@ -197,9 +178,7 @@ pub extern "C" fn cenduxari_clear(book: &mut [u64], rows: &mut [u64], out: &mut 
 pub extern "C" fn cenduxari_close(book: &mut [u64], out: &mut [u64; 2]) -> u64
     ensures { Called book.old [] call_close result out.new book.new [] }
 {
-    let answer = book::calls::close(book);
-    *out = numbers_of(answer);
-    refusal_of(answer)
+    tell(book::calls::close(book), out)
 }
 
 // The 48 points of a unit on a day. The book is read alone.
@@ -213,7 +192,5 @@ pub extern "C" fn cenduxari_curve(
 ) -> u64
     ensures { CurveDrawn book.now points.old unit day result out.new points.new }
 {
-    let answer = book::calls::curve(book, unit, day, points);
-    *out = numbers_of(answer);
-    refusal_of(answer)
+    tell(book::calls::curve(book, unit, day, points), out)
 }

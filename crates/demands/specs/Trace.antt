@@ -1,10 +1,9 @@
 -- Demand 3 of the engine itself: lists of calls on lent memory, each meeting its own contract (paper 01, "The tally").
 use Rattle.std.specs.Prelude.{ℕ, ◌+◌, ◌*◌, ◌≤◌, ◌<◌, ◌≡◌, true, List, [], length, get_or}
-use Rattle.book.specs.declared.Answer.{Answer}
 use Rattle.book.specs.Calls.{Call, call_enrol, call_offer, call_take, call_withdraw, call_order, call_cancel, call_clear, call_close}
 use Rattle.book.specs.Calls.{Heard}
 use Rattle.book.specs.Book.{Rules}
-use Rattle.book.specs.Contract.{told_by, sound_in, Made, Opened, Curved}
+use Rattle.book.specs.Contract.{Answer, told_by, sound_in, Made, Opened, Curved}
 use Rattle.book.specs.Layout.{decode}
 use Rattle.matching.specs.Memory.{rows_in}
 use Rattle.demands.specs.Tally.{Tally, opened, tallied}

@@ -9,6 +9,15 @@ use native.Mathlib.Omega.{arith}
 use Rattle.measures.specs.Ranges.{between, most_energy}
 use Rattle.measures.proofs.RangeLaws.{In, inside, outside}
 use Rattle.limits.specs.Units.{most_days, most_capacity}
+use Rattle.std.proofs.Common.{Result, Ok, Err, refl, ◌&&◌, [], ◌∷◌}
+use Rattle.std.specs.Result.{is_ok}
+use Rattle.measures.specs.declared.refusals.Refusal.{Refusal}
+use Rattle.measures.specs.Refused.{refusal_of}
+use Rattle.measures.specs.Lists.{holds}
+use Rattle.measures.proofs.RefusedLaws.{number_some}
+use Rattle.limits.specs.declared.Kind.{Kind}
+use Rattle.limits.specs.Kinds.{unit_refusal}
+use Rattle.limits.specs.Units.{kind_in, capacity_in, asset_in}
 use Rattle.limits.specs.Limits.{Answer, refused, limits_in, limits_at, hour_limit, term_limit, volume_limit}
 
 -- a capacity times at most 24 hours times at most 31 days
@@ -122,3 +131,22 @@ module _ (days kind capacity asset period : ℕ) where
     lt-ltb period
         (24 * days) p,
   )
+
+-- a unit is checked just where its fields are in range
+pub checked_ok : (r : Result Kind Refusal) (kind capacity asset : ℕ) → refusal_of r ≡ unit_refusal kind capacity asset
+    → is_ok r ≡ holds (kind_in kind ∷ capacity_in capacity ∷ asset_in asset ∷ [])
+unfolding holds
+checked_ok r kind capacity asset e = go r (kind_in kind) (capacity_in capacity) (asset_in asset) e
+  where
+    go : (r : Result Kind Refusal) (k c a : Bool) → refusal_of r ≡ cond k (cond (c && a) 0 4) 3 → is_ok r ≡ (k && (c && (a && true)))
+    go (Ok x) true true true q = refl
+    go (Ok x) true true false q = absurd (omega arith)
+    go (Ok x) true false a q = absurd (omega arith)
+    go (Ok x) false c a q = absurd (omega arith)
+    go (Err x) true true true q = absurd (number_some x q)
+    go (Err x) true true false q = refl
+    go (Err x) true false a q = refl
+    go (Err x) false c a q = refl
+
+-- for the check to cite: no term limit passes the largest energy
+pub ruleset term_bounds = (term-most)

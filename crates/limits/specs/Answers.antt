@@ -1,11 +1,10 @@
--- The paper's number and values for each case of the answer `Limits`.
+-- The paper's number and values for an answer.
+use Rattle.std.specs.Prelude.{Result, Ok, Err}
+use Rattle.measures.specs.declared.refusals.Refusal.{Refusal}
+use Rattle.measures.specs.Refused.{number_of}
 use Rattle.limits.specs.declared.Limits.{Limits}
-use Rattle.limits.specs.declared.Limits.TheVariants.{Days, Kind, Size, Period, Given}
 use Rattle.limits.specs.Limits.{Answer, refused, given}
 
-abbrev pub answer_of : Limits → Answer
-answer_of Days = refused 2
-answer_of Kind = refused 3
-answer_of Size = refused 4
-answer_of Period = refused 10
-answer_of (Given hour term volume) = given hour.0 term.0 volume.0
+abbrev pub answer_of : Result Limits Refusal → Answer
+answer_of (Ok limits) = given limits.hour.0 limits.term.0 limits.volume.0
+answer_of (Err refusal) = refused (number_of refusal)

@@ -1,4 +1,5 @@
 pub mod Units
 pub mod Limits
+pub mod Kinds
 pub mod Answers
 pub mod Figures

@@ -1,16 +1,77 @@
 // The limits of a unit: paper 01, "Limits".
 #![tactic(auto)]
 
-ghost use Rattle.std.specs.Prelude.{◌≡◌, ◌≤◌};
+ghost use Rattle.std.specs.Prelude.{◌≡◌, ◌≤◌, IfOk};
 ghost use Rattle.measures.specs.Ranges.{most_energy};
-ghost use Rattle.limits.specs.Units.{most_capacity, most_days};
+ghost use Rattle.measures.specs.Refused.{refusal_of};
+ghost use Rattle.limits.specs.Units.{most_capacity, most_days, days_in, generator};
+ghost use Rattle.limits.specs.Kinds.{kind_number, KindOf, unit_refusal};
 ghost use Rattle.limits.specs.Answers.{answer_of};
 ghost use Rattle.limits.specs.Limits.{limits_at, hour_limit, term_limit, volume_limit};
 
-use measures::Energy;
+use measures::{Energy, Refusal, refusal_number};
 
-// A unit as it is enrolled.
-#[derive(Clone, Copy)]
+// The kinds of units: two of generators, two of loads.
+#[derive(Clone, Copy, Debug, PartialEq, Eq)]
+pub enum Kind {
+    Solar = 1,
+    Generator = 2,
+    User = 3,
+    Retailer = 4,
+}
+
+impl TryFrom<u64> for Kind {
+    type Error = Refusal;
+
+    ghost try_from_gives = { KindOf };
+
+    fn try_from(number: u64) -> Result<Kind, Refusal> {
+        match number {
+            1 => Ok(Kind::Solar),
+            2 => Ok(Kind::Generator),
+            3 => Ok(Kind::User),
+            4 => Ok(Kind::Retailer),
+            _ => Err(Refusal::BadKind),
+        }
+    }
+}
+
+impl Kind {
+    // Whether it is a generator's.
+    pub fn is_generator(self) -> bool
+        ensures { result ≡ generator (kind_number self) }
+    {
+        matches!(self, Kind::Solar | Kind::Generator)
+    }
+
+    // The term limit.
+    #[tactic(auto, unfolding(crate::specs::Limits::term_limit))]
+    fn term_limit(self, capacity: u64, asset: Energy, days: u64) -> Energy
+        requires { (capacity ≤ most_capacity) × (days ≤ most_days) }
+        ensures { result.0 ≡ term_limit (kind_number self) capacity asset.0 days }
+    {
+        match self {
+            Kind::Solar => Energy(capacity * 10 * days),
+            Kind::Retailer => Energy(capacity * 24 * days).min(asset),
+            _ => Energy(capacity * 24 * days),
+        }
+    }
+
+    // The volume limit of a unit of this term limit.
+    #[tactic(auto, unfolding(crate::specs::Limits::volume_limit))]
+    fn volume_limit(self, term: Energy) -> Energy
+        requires { term.0 ≤ most_energy }
+        ensures { result.0 ≡ volume_limit (kind_number self) term.0 }
+    {
+        if self.is_generator() {
+            return term.six_fifths();
+        }
+        term
+    }
+}
+
+// A unit as it is named for enrolment; its fields may be any numbers.
+#[derive(Clone, Copy, Debug, PartialEq, Eq)]
 pub struct Unit {
     pub kind: u64,
     pub capacity: u64,
@@ -20,9 +81,6 @@ pub struct Unit {
 impl Unit {
     // How many a book has at most.
     pub const MOST: u64 = 64;
-
-    // How many kinds there are, from 1.
-    pub const KINDS: u64 = 4;
 
     // The largest capacity, in kW.
     pub const MOST_CAPACITY: u64 = 5_000_000;
@@ -38,123 +96,88 @@ impl Unit {
         }
     }
 
+    // Its kind, where its fields are in their ranges.
+    pub fn checked(self) -> Result<Kind, Refusal>
+        ensures refusal { refusal_of result ≡ unit_refusal self.kind self.capacity self.asset.0 }
+        ensures kind { IfOk result (λ kind. kind_number kind ≡ self.kind) }
+    {
+        let kind = Kind::try_from(self.kind)?;
+        if !(1..=Unit::MOST_CAPACITY).contains(&self.capacity) || !self.asset.in_range() {
+            return Err(Refusal::BadSize);
+        }
+        Ok(kind)
+    }
+
     // The hour limit: a solar generator's is 0 outside hours 6 to 19.
+    #[tactic(auto, unfolding(crate::specs::Limits::hour_limit))]
     pub fn hour_limit(self, hour: u64) -> Energy
         ensures { result.0 ≡ hour_limit self.kind self.capacity hour }
     {
-        let kind = self.kind;
-        match kind {
-            1 => match hour {
+        match Kind::try_from(self.kind) {
+            Ok(Kind::Solar) => match hour {
                 6..=19 => Energy(self.capacity),
                 _ => Energy(0),
             },
             _ => Energy(self.capacity),
         }
     }
-
-    // The term limit.
-    fn term_limit(self, days: u64) -> Energy
-        requires { (self.capacity ≤ most_capacity) × (days ≤ most_days) }
-        ensures { result.0 ≡ term_limit self.kind self.capacity self.asset.0 days }
-    {
-        let kind = self.kind;
-        match kind {
-            1 => Energy(self.capacity * 10 * days),
-            4 => Energy(self.capacity * 24 * days).least(self.asset),
-            _ => Energy(self.capacity * 24 * days),
-        }
-    }
-
-    // The volume limit of a unit of this term limit.
-    fn volume_limit(self, term: Energy) -> Energy
-        requires { term.0 ≤ most_energy }
-        ensures { result.0 ≡ volume_limit self.kind term.0 }
-    {
-        let kind = self.kind;
-        match kind {
-            1 | 2 => term.six_fifths(),
-            _ => term,
-        }
-    }
 }
 
 // The days of a term.
-#[derive(Clone, Copy)]
+#[derive(Clone, Copy, Debug, PartialEq, Eq)]
 pub struct Term(pub u64);
 
 impl Term {
     // The longest term, in days.
     pub const MOST: u64 = 31;
+
+    // Whether there is such a term.
+    pub fn in_range(self) -> bool
+        ensures { result ≡ days_in self.0 }
+    {
+        (1..=Term::MOST).contains(&self.0)
+    }
 }
 
-// What the limits of a unit come to: a refusal by the figure that is out of range, or the three limits.
-#[derive(Clone, Copy)]
-pub enum Limits {
-    Days,
-    Kind,
-    Size,
-    Period,
-    Given(Energy, Energy, Energy),
+// The limits of a unit in a period.
+#[derive(Clone, Copy, Debug, PartialEq, Eq)]
+pub struct Limits {
+    pub hour: Energy,
+    pub term: Energy,
+    pub volume: Energy,
 }
 
 // The hour, term and volume limit of a unit in a period of a term.
-pub fn unit_limits(term: Term, unit: Unit, period: u64) -> Limits
+#[tactic(auto, using(crate::proofs::LimitLaws::term_bounds), unfolding(crate::specs::Limits::limits_at))]
+pub fn unit_limits(term: Term, unit: Unit, period: u64) -> Result<Limits, Refusal>
     ensures { answer_of result ≡ limits_at term.0 unit.kind unit.capacity unit.asset.0 period }
 {
-    let days = term.0;
-    if days < 1 {
-        return Limits::Days;
+    if !term.in_range() {
+        return Err(Refusal::BadOpening);
     }
-    if Term::MOST < days {
-        return Limits::Days;
+    let kind = unit.checked()?;
+    if 24 * term.0 <= period {
+        return Err(Refusal::BadPeriod);
     }
-    if unit.kind < 1 {
-        return Limits::Kind;
-    }
-    if Unit::KINDS < unit.kind {
-        return Limits::Kind;
-    }
-    if unit.capacity < 1 {
-        return Limits::Size;
-    }
-    if Unit::MOST_CAPACITY < unit.capacity {
-        return Limits::Size;
-    }
-    if !unit.asset.in_range() {
-        return Limits::Size;
-    }
-    if 24 * days <= period {
-        return Limits::Period;
-    }
-    let hour = unit.hour_limit(period % 24);
-    let whole = unit.term_limit(days);
-    let volume = unit.volume_limit(whole);
-    Limits::Given(hour, whole, volume)
+    let whole = kind.term_limit(unit.capacity, unit.asset, term.0);
+    Ok(Limits {
+        hour: unit.hour_limit(period % 24),
+        term: whole,
+        volume: kind.volume_limit(whole),
+    })
 }
 
-// The paper's number of an answer.
-fn number_of(l: Limits) -> u64
-    ensures { result ≡ (answer_of l).number }
+// The three limits of an answer, or zeros, as numbers for C.
+fn values_of(answer: &Result<Limits, Refusal>) -> [u64; 3]
+    ensures { result ≡ (answer_of answer.now).values }
 {
-    match l {
-        Limits::Days => 2,
-        Limits::Kind => 3,
-        Limits::Size => 4,
-        Limits::Period => 10,
-        Limits::Given(_, _, _) => 0,
-    }
-}
-
-// The three limits of an answer, or zeros.
-fn values_of(l: Limits) -> [u64; 3]
-    ensures { result ≡ (answer_of l).values }
-{
-    match l {
-        Limits::Days => [0, 0, 0],
-        Limits::Kind => [0, 0, 0],
-        Limits::Size => [0, 0, 0],
-        Limits::Period => [0, 0, 0],
-        Limits::Given(hour, term, volume) => [hour.kwh(), term.kwh(), volume.kwh()],
+    match answer {
+        Ok(limits) => [
+            u64::from(limits.hour),
+            u64::from(limits.term),
+            u64::from(limits.volume),
+        ],
+        Err(_) => [0; 3],
     }
 }
 
@@ -171,7 +194,7 @@ pub extern "C" fn cenduxari_limits(
     ensures { (result ≡ (limits_at days kind capacity asset period).number) × (out.new ≡ (limits_at days kind capacity asset period).values) }
 {
     let unit = Unit::fresh(kind, capacity, Energy(asset));
-    let l = unit_limits(Term(days), unit, period);
-    *out = values_of(l);
-    number_of(l)
+    let limits = unit_limits(Term(days), unit, period);
+    *out = values_of(&limits);
+    refusal_number(&limits)
 }

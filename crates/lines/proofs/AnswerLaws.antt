@@ -1,7 +1,7 @@
 -- Laws of answering a line.
-use Prim.Native.Nat.{ℕ, ◌-◌, ◌*◌, ◌≤◌, ◌<◌}
+use Prim.Native.Nat.{ℕ, ◌*◌, ◌/◌, ◌≤◌, ◌<◌}
 use mathlib.Core.Path.{◌≡◌, refl, sym, ap, ap₂, ◌∙◌}
-use mathlib.Core.Bool.{Bool, true, false, cond, ◌&&◌}
+use mathlib.Core.Bool.{Bool, true, false, cond, not, ◌&&◌, ◌||◌}
 use mathlib.Core.List.{List, [], ◌∷◌, ◌++◌}
 use native.Mathlib.Omega.{arith}
 use native.Mathlib.Decide.{ℕ_discrete}
@@ -9,17 +9,23 @@ use borrow.Author.Tests.{eq-eqb, ne_eqb, eqb-true, lt-ltb, le-ltb, le-leb}
 use lib.Dec.{eqb, leb}
 use lib.ListN.{length, get_or, take, drop, length-append, length-take, length-drop}
 use lib.Seq.{take_all, get_or-take}
-use Rattle.measures.proofs.ListLaws.{table-length}
+use Rattle.std.specs.Prelude.{Option, Some, None}
+use Rattle.std.specs.Option.{option_eq}
+use Rattle.std.proofs.Math.Seq.{take-append_seam}
+use Rattle.measures.proofs.ListLaws.{table-length, both_ways}
 use Rattle.matching.specs.Orders.{Row}
 use Rattle.matching.specs.Memory.{flat, written}
 use Rattle.matching.proofs.Laws.Orders.RowLaws.{flat-length, written_none}
 use Rattle.book.specs.Book.{Rules, rules_of, Book}
 use Rattle.book.specs.Refusals.{Outcome}
-use Rattle.book.specs.declared.Answer.{Answer}
+use Rattle.std.proofs.Common.{Ok, Err}
+use Rattle.measures.specs.declared.refusals.Refusal.{Refusal}
+use Rattle.measures.specs.Refused.{number_of}
+use Rattle.book.specs.declared.Done.{Done}
 use Rattle.book.specs.Layout.{DAYS, LAYOUT, layout_number, book_words, word, decode}
 use Rattle.book.specs.Opening.{fresh, opening_refusal}
 use Rattle.book.specs.Calls.{Call, call_enrol, call_offer, call_take, call_withdraw, call_order, call_cancel, call_clear, call_close, outcome}
-use Rattle.book.specs.Contract.{Told, Made, Opened, told_by, outcome_on}
+use Rattle.book.specs.Contract.{Answer, Told, Made, Opened, outcome_on}
 use Rattle.book.proofs.Laws.Opening.OpeningLaws.{no_such_days}
 use Rattle.lines.specs.Lines.{Line, unknown, opening, calling, count_of, is_call, call_of, line_of, called}
 use Rattle.lines.specs.Printed.{printed_rows, printed_ok, printed_no}
@@ -116,42 +122,56 @@ module _ (said-by : Line) (l n : ℕ) (ns : List ℕ) (p : said-by ≡ called l 
   taken_long : length (take n ns) ≡ n
   taken_long = omega (arith, length-take n ns)
 
-  pub wrong_count : (n ≡ count_of l → ⊥) → said-by ≡ unknown
+  wrong_count : (n ≡ count_of l → ⊥) → said-by ≡ unknown
   unfolding called
   wrong_count ne = let k = taken_long in p ∙ rw (ne_eqb (length (take n ns)) (count_of l) (omega arith))
 
-  pub right_count : n ≡ count_of l → said-by ≡ line_of l ns
+  right_count : n ≡ count_of l → said-by ≡ line_of l ns
   unfolding called
   right_count e = let k = taken_long in p ∙ rw (eq-eqb (length (take n ns)) (count_of l) (omega arith)) (line_kept l n ns e long)
 
-module _ (l : ℕ) (ns : List ℕ) where
-  pub line_opening : l ≡ 79 → line_of l ns ≡ opening (get_or ns 0 0) (get_or ns 1 0) (get_or ns 2 0)
+-- a letter that begins a line, with as many numbers as it asks for
+asked_alike : (b : Bool) (k n : ℕ) → option_eq eqb (cond b (Some k) None) (Some n) ≡ (b && eqb k n)
+asked_alike true k n = refl
+asked_alike false k n = refl
+
+both_hold : (b e : Bool) → not (b && e) ≡ false → (b ≡ true) × (e ≡ true)
+both_hold true true h = (refl, refl)
+both_hold true false h = both_ways h
+both_hold false e h = both_ways h
+
+not_begun : (o c t : Bool) (x y : Line) → (o || c) ≡ false → cond t (cond o x (cond c y unknown)) unknown ≡ unknown
+not_begun true c t x y h = both_ways h
+not_begun false true t x y h = both_ways h
+not_begun false false true x y h = refl
+not_begun false false false x y h = refl
+
+module _ (said-by : Line) (l n : ℕ) (ns : List ℕ) (p : said-by ≡ called l (take n ns)) (up : n ≤ 27) (long : length ns ≡ 27)
+    (asked : Option ℕ) (a : asked ≡ cond (eqb l 79 || is_call l) (Some (count_of l)) None) (differs : Bool)
+    (d : differs ≡ not (option_eq eqb asked (Some n))) where
+  tested : differs ≡ not ((eqb l 79 || is_call l) && eqb (count_of l) n)
+  tested = d ∙ rw a (ap not (asked_alike (eqb l 79 || is_call l) (count_of l) n))
+
+  pub not_said : differs ≡ true → said-by ≡ unknown
+  unfolding called line_of
+  not_said h = go (eqb l 79 || is_call l) refl
+    where
+      go : (b : Bool) → (eqb l 79 || is_call l) ≡ b → said-by ≡ unknown
+      go true q = wrong_count said-by l n ns p up long (λ e. both_ways (sym h ∙ tested ∙ rw (q, eq-eqb (count_of l) n (sym e)) refl))
+      go false q = p ∙ not_begun (eqb l 79) (is_call l) (eqb (length (take n ns)) (count_of l)) _ _ q
+
+  begins : differs ≡ false → ((eqb l 79 || is_call l) ≡ true) × (eqb (count_of l) n ≡ true)
+  begins h = both_hold (eqb l 79 || is_call l) (eqb (count_of l) n) (sym tested ∙ h)
+
+  pub said_opening : differs ≡ false → l ≡ 79 → said-by ≡ opening (get_or ns 0 0) (get_or ns 1 0) (get_or ns 2 0)
   unfolding line_of
-  line_opening e = rw (eq-eqb l 79 e)
+  said_opening h e = right_count said-by l n ns p up long (sym (eqb-true (count_of l) n (begins h).1)) ∙ rw (eq-eqb l 79 e) refl
 
-  pub line_call : (l ≡ 79 → ⊥) → is_call l ≡ true → line_of l ns ≡ calling (call_of l ns)
+  pub said_call : differs ≡ false → (l ≡ 79 → ⊥) → said-by ≡ calling (call_of l ns)
   unfolding line_of
-  line_call ne e = rw (ne_eqb l 79 ne, e)
-
-  pub line_other : (l ≡ 79 → ⊥) → is_call l ≡ false → line_of l ns ≡ unknown
-  unfolding line_of
-  line_other ne e = rw (ne_eqb l 79 ne, e)
-
--- the letters
-pub count_is : (l k : ℕ) → l ≡ k → count_of k ≡ count_of l
-count_is l k e = ap count_of (sym e)
-
-pub count_none : (l : ℕ) → (l ≡ 79 → ⊥) → (l ≡ 69 → ⊥) → (l ≡ 76 → ⊥) → (l ≡ 84 → ⊥) → (l ≡ 87 → ⊥) → (l ≡ 82 → ⊥) → (l ≡ 88 → ⊥) → 0 ≡ count_of l
-unfolding count_of
-count_none l a b c d e f g = rw (ne_eqb l 79 a, ne_eqb l 69 b, ne_eqb l 76 c, ne_eqb l 84 d, ne_eqb l 87 e, ne_eqb l 82 f, ne_eqb l 88 g)
-
-pub call_is : (l k : ℕ) → l ≡ k → is_call k ≡ is_call l
-call_is l k e = ap is_call (sym e)
-
-pub call_none : (l : ℕ) → (l ≡ 69 → ⊥) → (l ≡ 76 → ⊥) → (l ≡ 84 → ⊥) → (l ≡ 87 → ⊥) → (l ≡ 82 → ⊥) → (l ≡ 88 → ⊥) → (l ≡ 67 → ⊥) → (l ≡ 68 → ⊥)
-    → false ≡ is_call l
-unfolding is_call
-call_none l a b c d e f g h = rw (ne_eqb l 69 a, ne_eqb l 76 b, ne_eqb l 84 c, ne_eqb l 87 d, ne_eqb l 82 e, ne_eqb l 88 f, ne_eqb l 67 g, ne_eqb l 68 h)
+  said_call h ne =
+      let c : is_call l ≡ true = rw (ne_eqb l 79 ne) at (begins h).0 in
+      right_count said-by l n ns p up long (sym (eqb-true (count_of l) n (begins h).1)) ∙ rw (ne_eqb l 79 ne, c) refl
 
 -- which call a letter makes
 module _ (l : ℕ) (ns m rows : List ℕ) (a : Answer) (m' : List ℕ) where
@@ -199,9 +219,6 @@ units_counted : (m : List ℕ) → length (decode m).units ≡ get_or m 5 0
 unfolding decode
 units_counted m = table-length (get_or m 5 0) _
 
-pub beyond_other : (l : ℕ) (m : List ℕ) → (l ≡ 69 → ⊥) → false ≡ (eqb l 69 && leb 8 (length (decode m).units))
-beyond_other l m ne = rw (ne_eqb l 69 ne)
-
 pub beyond_enrol : (l : ℕ) (m : List ℕ) → l ≡ 69 → leb 8 (get_or m 5 0) ≡ (eqb l 69 && leb 8 (length (decode m).units))
 beyond_enrol l m e = rw (eq-eqb l 69 e, units_counted m)
 
@@ -225,15 +242,6 @@ enrol_letter l ns =
     (other_call (eqb l 67) _ _ refl refl))))))
 
 -- which book stands
-pub has_none : (started : Bool) (m : List ℕ) → started ≡ false → false ≡ (started && one_day m)
-has_none started m e = rw e
-
-pub has_other : (started : Bool) (m : List ℕ) → started ≡ true → (word m DAYS ≡ 1 → ⊥) → false ≡ (started && one_day m)
-has_other started m e n = rw (e, ne_eqb (word m DAYS) 1 n)
-
-pub has_one : (started : Bool) (m : List ℕ) → started ≡ true → word m DAYS ≡ 1 → eqb (word m LAYOUT) layout_number ≡ (started && one_day m)
-has_one started m e d = rw (e, eq-eqb (word m DAYS) 1 d)
-
 pub no-book : (started : Bool) (m : List ℕ) → (started && one_day m) ≡ false → stands_in started m ≡ no_book
 unfolding stands_in
 no-book started m e = rw e
@@ -244,9 +252,6 @@ both_true false b e = let z : ◌≡◌ {A = ℕ} 0 1 = cc in absurd (omega arit
 
 pub has_started : (started : Bool) (m : List ℕ) → (started && one_day m) ≡ true → started ≡ true
 has_started started m e = (both_true started (one_day m) e).0
-
-pub has_day : (started : Bool) (m : List ℕ) → (started && one_day m) ≡ true → one_day m ≡ true
-has_day started m e = (both_true started (one_day m) e).1
 
 one_days : (m : List ℕ) → one_day m ≡ true → word m DAYS ≡ 1
 one_days m e = eqb-true (word m DAYS) 1 (both_true (eqb (word m DAYS) 1) (eqb (word m LAYOUT) layout_number) e).0
@@ -338,9 +343,12 @@ unfolding given
 given-ok o e = rw (eq-eqb o.refusal 0 e)
 
 -- rows in memory print as the outcome's rows
-ok_rows : (n k : ℕ) (rows ws : List ℕ) (rs : List Row) → k ≡ length rs → ws ≡ written rows rs → ok_text n k ws ≡ printed_ok n rs
+ok_rows : (n k : ℕ) (rows ws : List ℕ) (rs : List Row) → k ≡ length rs → ws ≡ written rows rs → ok_text n (length (take (6 * k) ws) / 6) (take (6 * k) ws) ≡ printed_ok n rs
 unfolding ok_text printed_ok written
-ok_rows n k rows ws rs e w = rw (e, w, rows_printed rs (drop (6 * length rs) rows))
+ok_rows n k rows ws rs e w =
+    let t : take (6 * k) ws ≡ flat rs = rw (e, w, ← flat-length rs) (take-append_seam (flat rs) (drop (length (flat rs)) rows)) in
+    let q : length (flat rs) / 6 ≡ length rs = omega (arith, flat-length rs) in
+    rw (t, q, rows_printed rs)
 
 -- memory of one day is laid out for its book
 on_book : (m : List ℕ) (c : Call) → one_day m ≡ true → length m ≡ book_words 1 → outcome_on m c ≡ outcome (decode m) c
@@ -349,20 +357,27 @@ on_book m c d l =
     rw (le-leb (book_words (word m DAYS)) (length m) (omega (arith, one_days m d, l)), eq-eqb (word m LAYOUT) layout_number (one_layout m d)) refl
 
 module _ (m rows : List ℕ) (c : Call) (a : Answer) (m' rows' : List ℕ) (f : Made m rows c a m' rows') where
-  told_refusal : (told_by a).refusal ≡ (outcome_on m c).refusal
-  told_refusal = ap (λ (t : Told). t.refusal) f.answer
+  told_no : (r : Refusal) → a ≡ Err r → number_of r ≡ (outcome_on m c).refusal
+  told_no r e = ap (λ (t : Told). t.refusal) (rw e at f.answer)
 
-  told_number : (told_by a).number ≡ (outcome_on m c).number
-  told_number = ap (λ (t : Told). t.number) f.answer
+  told_nonzero : (r : Refusal) → a ≡ Err r → (outcome_on m c).refusal ≡ 0 → ⊥
+  told_nonzero r e z = both_ways (sym (ap (λ (t : Told). t.done) (rw e at f.answer) ∙ eq-eqb (outcome_on m c).refusal 0 z))
 
-  told_count : (told_by a).count ≡ length (outcome_on m c).rows
-  told_count = ap (λ (t : Told). t.count) f.answer
+  module _ (d : Done) (e : a ≡ Ok d) where
+    told_ok : (outcome_on m c).refusal ≡ 0
+    told_ok = sym (ap (λ (t : Told). t.refusal) (rw e at f.answer))
 
-  pub room : (r k : ℕ) → r ≡ (told_by a).refusal → r ≡ 0 → k ≡ (told_by a).count → length rows ≡ 4_464 → length rows' ≡ length rows → 6 * k ≤ 4_464
-  room r k e z g long same =
-      let t = told_count in
-      let w = rows_fit rows (outcome_on m c).rows rows' (f.handed (sym told_refusal ∙ sym e ∙ z)) same in
-      omega arith
+    told_number : d.number ≡ (outcome_on m c).number
+    told_number = ap (λ (t : Told). t.number) (rw e at f.answer)
+
+    told_count : d.count ≡ length (outcome_on m c).rows
+    told_count = ap (λ (t : Told). t.count) (rw e at f.answer)
+
+    pub room : length rows ≡ 4_464 → length rows' ≡ length rows → 6 * d.count ≤ 4_464
+    room long same =
+        let t = told_count in
+        let w = rows_fit rows (outcome_on m c).rows rows' (f.handed told_ok) same in
+        omega arith
 
   module _ (day : one_day m ≡ true) (long : length m ≡ book_words 1) (s : said_to (stands_in true m) (calling c) ≡ given (outcome (decode m) c)) where
     said_on : said_to (stands_in true m) (calling c) ≡ given (outcome_on m c)
@@ -372,20 +387,20 @@ module _ (m rows : List ℕ) (c : Call) (a : Answer) (m' rows' : List ℕ) (f : 
     after_day = ap (λ (o : Outcome). o.book.rules.days) (on_book m c day long) ∙ ap (λ (r : Rules). r.days) (rules_stay (decode m) c)
         ∙ sym (days_held m) ∙ one_days m day
 
-    pub call_no : (r : ℕ) (text : List ℕ) → r ≡ (told_by a).refusal → (r ≡ 0 → ⊥) → text ≡ printed_no r → Answered true m (calling c) true m' text
-    call_no r text e ne t =
-        let ne' : (outcome_on m c).refusal ≡ 0 → ⊥ = λ z. ne (e ∙ told_refusal ∙ z) in
-        answered-no true m (calling c) true m' text (outcome_on m c).refusal (said_on ∙ given-no (outcome_on m c) ne') refl (f.refused ne').0
-        (t ∙ ap printed_no (e ∙ told_refusal))
+    pub call_no : (r : Refusal) (text : List ℕ) → a ≡ Err r → text ≡ printed_no (number_of r) → Answered true m (calling c) true m' text
+    call_no r text e t =
+        answered-no true m (calling c) true m' text (outcome_on m c).refusal (said_on ∙ given-no (outcome_on m c) (told_nonzero r e)) refl
+        (f.refused (told_nonzero r e)).0 (t ∙ ap printed_no (told_no r e))
 
-    pub call_ok : (r n k : ℕ) (text : List ℕ) → r ≡ (told_by a).refusal → r ≡ 0 → n ≡ (told_by a).number → k ≡ (told_by a).count → text ≡ ok_text n k rows'
+    pub call_ok : (d : Done) (text : List ℕ) → a ≡ Ok d
+        → text ≡ ok_text d.number (length (take (6 * d.count) rows') / 6) (take (6 * d.count) rows')
         → Answered true m (calling c) true m' text
-    call_ok r n k text e z en ek t =
-        let y : (outcome_on m c).refusal ≡ 0 = sym told_refusal ∙ sym e ∙ z in
+    call_ok d text e t =
+        let y = told_ok d e in
         let rs = (outcome_on m c).rows in
         answered-ok true m (calling c) true m' text (outcome_on m c).number rs (outcome_on m c).book (said_on ∙ given-ok (outcome_on m c) y)
         (book_held m' (outcome_on m c).book (f.accepted y) after_day (f.aside.layout ∙ one_layout m day))
-        (t ∙ ok_rows n k rows rows' rs (ek ∙ told_count) (f.handed y) ∙ ap (λ (x : ℕ). printed_ok x rs) (en ∙ told_number))
+        (t ∙ ok_rows d.number d.count rows rows' rs (told_count d e) (f.handed y) ∙ ap (λ (x : ℕ). printed_ok x rs) (told_number d e))
 
 -- an accepted opening is of one day
 one_day_lem : (days floor ceiling : ℕ) → days ≤ 1 → opening_refusal (book_words 1) (rules_of days floor ceiling) ≡ 0 → days ≡ 1
@@ -403,33 +418,27 @@ module _ (started : Bool) (m : List ℕ) (days floor ceiling : ℕ) (a : Answer)
   same_refusal : opening_refusal (length m) (rules_of days floor ceiling) ≡ refusal
   same_refusal = ap (λ (k : ℕ). opening_refusal k (rules_of days floor ceiling)) long
 
-  opened-refusal : (told_by a).refusal ≡ refusal
-  opened-refusal = ap (λ (t : Told). t.refusal) f.answer ∙ same_refusal
-
-  opened_number : (told_by a).number ≡ 0
-  opened_number = ap (λ (t : Told). t.number) f.answer
-
-  pub opening_no : (r : ℕ) (text : List ℕ) → r ≡ (told_by a).refusal → (r ≡ 0 → ⊥) → text ≡ printed_no r
-      → Answered started m (opening days floor ceiling) started m' text
-  opening_no r text e ne t =
-      let q : r ≡ refusal = e ∙ opened-refusal in
+  pub opening_no : (r : Refusal) (text : List ℕ) → a ≡ Err r → text ≡ printed_no (number_of r) → Answered started m (opening days floor ceiling) started m' text
+  opening_no r text e t =
+      let q : number_of r ≡ refusal = ap (λ (t : Told). t.refusal) (rw e at f.answer) ∙ same_refusal in
+      let ne : refusal ≡ 0 → ⊥ = λ z. both_ways (sym (ap (λ (t : Told). t.done) (rw e at f.answer) ∙ eq-eqb (opening_refusal (length m) (rules_of days floor ceiling)) 0 (same_refusal ∙ z))) in
       answered-no started m (opening days floor ceiling) started m' text refusal
-      (opening_refuses (stands_in started m) days floor ceiling up (λ z. ne (q ∙ z))) refl (f.refused (λ z. ne (q ∙ sym same_refusal ∙ z))) (t
-      ∙ ap printed_no q)
+      (opening_refuses (stands_in started m) days floor ceiling up ne) refl (f.refused (λ z. ne (sym same_refusal ∙ z))) (t ∙ ap printed_no q)
 
-  pub opening_ok : (r n : ℕ) (ws text : List ℕ) → r ≡ (told_by a).refusal → r ≡ 0 → n ≡ (told_by a).number → text ≡ ok_text n 0 ws
-      → Answered started m (opening days floor ceiling) true m' text
+  pub opening_ok : (d : Done) (text : List ℕ) → a ≡ Ok d → text ≡ ok_text d.number 0 [] → Answered started m (opening days floor ceiling) true m' text
   unfolding ok_text rows_text printed_ok printed_rows
-  opening_ok r n ws text e z en t =
-      let y : refusal ≡ 0 = sym opened-refusal ∙ sym e ∙ z in
+  opening_ok d text e t =
+      let z : opening_refusal (length m) (rules_of days floor ceiling) ≡ 0 = sym (ap (λ (t : Told). t.refusal) (rw e at f.answer)) in
+      let y : refusal ≡ 0 = sym same_refusal ∙ z in
+      let n₀ : d.number ≡ 0 = ap (λ (t : Told). t.number) (rw e at f.answer) in
       answered-ok started m (opening days floor ceiling) true m' text 0 [] (fresh (rules_of days floor ceiling))
       (opening_accepts (stands_in started m) days floor ceiling up y)
-      (book_held m' (fresh (rules_of days floor ceiling)) (f.accepted (same_refusal ∙ y)) (one_day_lem days floor ceiling up y) (f.laid (same_refusal ∙ y)))
-      (t ∙ ap (λ (x : ℕ). printed_ok x []) (en ∙ opened_number))
+      (book_held m' (fresh (rules_of days floor ceiling)) (f.accepted z) (one_day_lem days floor ceiling up y) (f.laid z))
+      (t ∙ ap (λ (x : ℕ). printed_ok x []) n₀)
 
 -- the amounts behind the first three numbers
-pub amounts_behind : (ns : List ℕ) → length ns ≡ 27 → take (length ns - 3) (drop 3 ns) ≡ drop 3 ns
-amounts_behind ns e = take_all (length ns - 3) (drop 3 ns) (omega (arith, length-drop 3 ns))
+pub amounts_behind : (ns : List ℕ) → length ns ≡ 27 → take 24 (drop 3 ns) ≡ drop 3 ns
+amounts_behind ns e = take_all 24 (drop 3 ns) (omega (arith, length-drop 3 ns))
 
 -- the same line, said otherwise
 pub answered_as : (started known : Bool) (m : List ℕ) (line same : Line) (started' : Bool) (m' text : List ℕ)

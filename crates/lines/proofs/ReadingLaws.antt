@@ -1,5 +1,5 @@
 -- Laws of reading a line byte by byte.
-use Prim.Native.Nat.{ℕ, suc, ◌+◌, ◌-◌, ◌*◌, ◌≤◌, ◌<◌}
+use Prim.Native.Nat.{ℕ, ◌+◌, ◌-◌, ◌*◌, ◌≤◌, ◌<◌}
 use mathlib.Core.Path.{◌≡◌, refl, ap, ◌∙◌}
 use mathlib.Core.Bool.{Bool, true, false, cond, ◌&&◌, ◌||◌}
 use mathlib.Core.List.{List, [], ◌∷◌, ◌++◌, append_assoc, append-nil}
@@ -9,16 +9,15 @@ use native.Mathlib.Numerals.{add-one}
 use native.Mathlib.Decide.{ℕ_discrete}
 use borrow.Author.Tests.{eq-eqb, ne_eqb, lt-ltb, le-ltb, le-leb, lt-leb}
 use lib.Dec.{eqb, leb, ltb}
-use lib.ListN.{length, get_or, take, drop, set, length-append, length-take, drop_of_length-le}
-use lib.Seq.{take-suc, take-suc-set, take_all, drop-cons}
+use lib.ListN.{length, take, set, length-append, length-take}
+use lib.Seq.{take-suc-set}
 use Rattle.measures.specs.Lists.{every}
 use Rattle.measures.proofs.ListLaws.{and_true, and_left-false, and_right_false}
 use Rattle.lines.specs.declared.reading.Reading.{Reading}
 use Rattle.lines.specs.declared.reading.Reading.TheVariants.{Start, Letter, Space, Digits, Lost}
-use Rattle.lines.specs.Lines.{Line, unknown, first_field, other_fields, is_digit, value_from, goes_on, is_number, values, count_of, is_call, line_of, called}
+use Rattle.lines.specs.Lines.{unknown, first_field, other_fields, is_digit, value_from, goes_on, is_number, values, count_of, called}
 use Rattle.lines.specs.Lines.{numbered, lettered, parse}
 use Rattle.lines.specs.Readings.{rest_of, begun, ReadsOn}
-use Rattle.lines.specs.Stepping.{until_end}
 
 module _ (ns : List ℕ) (b : ℕ) where
   pub start_space : b ≡ 32 → ReadsOn Start ns (b ∷ []) Lost ns
@@ -189,17 +188,13 @@ module _ (ns : List ℕ) (l n v : ℕ) where
   unfolding rest_of first_field other_fields goes_on value_from values
   end_number f h = rw (lt-ltb v 4_294_967_296 f, add-one n, take-suc-set ns n v h)
 
-  end_many : 27 ≤ n → length ns ≡ 27 → rest_of (Digits l n v) ns [] ≡ unknown
+  pub end_many : 27 ≤ n → length ns ≡ 27 → rest_of (Digits l n v) ns [] ≡ unknown
   unfolding rest_of first_field other_fields values
   end_many h e = let k = length-take n ns in many (goes_on v [] && every is_number []) (value_from v [] ∷ []) (omega arith)
 
-  end_large : 4_294_967_296 ≤ v → rest_of (Digits l n v) ns [] ≡ unknown
+  pub end_large : 4_294_967_296 ≤ v → rest_of (Digits l n v) ns [] ≡ unknown
   unfolding rest_of first_field other_fields
   end_large h = rw (large h)
-
-  space_unknown : rest_of (Space l n) ns [] ≡ unknown
-  unfolding rest_of first_field other_fields numbered is_number
-  space_unknown = refl
 
 -- a count or a value that no line yields says nothing that is understood, whatever follows
 module _ (l n v : ℕ) (ns more : List ℕ) where
@@ -226,32 +221,23 @@ pub lost_stays : (ns : List ℕ) (b : ℕ) → ReadsOn Lost ns (b ∷ []) Lost n
 unfolding rest_of
 lost_stays ns b = record { rest = λ more. refl; begins = refl }
 
--- the end of a line that is not understood
-said_nothing : (line : Line) (ns : List ℕ) → line ≡ unknown → line ≡ called 0 (take 0 ns)
-unfolding called count_of line_of is_call
-said_nothing line ns e = e
-
+-- the end of a line
 module _ (ns : List ℕ) where
+  pub end_start : rest_of Start ns [] ≡ unknown
+  unfolding rest_of parse first_field other_fields lettered
+  end_start = refl
+
   pub end_letter : (l : ℕ) → rest_of (Letter l) ns [] ≡ called l (take 0 ns)
   unfolding rest_of first_field other_fields lettered numbered values
   end_letter l = refl
 
-  pub start_says : rest_of Start ns [] ≡ called 0 (take 0 ns)
-  unfolding rest_of parse first_field other_fields lettered
-  start_says = said_nothing (rest_of Start ns []) ns refl
+  pub end_space : (l n : ℕ) → rest_of (Space l n) ns [] ≡ unknown
+  unfolding rest_of first_field other_fields numbered is_number
+  end_space l n = refl
 
-  pub lost_says : rest_of Lost ns [] ≡ called 0 (take 0 ns)
+  pub end_lost : rest_of Lost ns [] ≡ unknown
   unfolding rest_of
-  lost_says = said_nothing (rest_of Lost ns []) ns refl
-
-  pub space_says : (l n : ℕ) → rest_of (Space l n) ns [] ≡ called 0 (take 0 ns)
-  space_says l n = said_nothing (rest_of (Space l n) ns []) ns (space_unknown ns l n 0)
-
-  pub many_says : (l n v : ℕ) → 27 ≤ n → length ns ≡ 27 → rest_of (Digits l n v) ns [] ≡ called 0 (take 0 ns)
-  many_says l n v h e = said_nothing (rest_of (Digits l n v) ns []) ns (end_many ns l n v h e)
-
-  pub large_says : (l n v : ℕ) → 4_294_967_296 ≤ v → rest_of (Digits l n v) ns [] ≡ called 0 (take 0 ns)
-  large_says l n v h = said_nothing (rest_of (Digits l n v) ns []) ns (end_large ns l n v h)
+  end_lost = refl
 
 -- no bytes, and more bytes
 pub reads_none : (r : Reading) (ns : List ℕ) → ReadsOn r ns [] r ns
@@ -269,65 +255,3 @@ reads_both r ns a r₁ ns₁ b r₂ ns₂ f g =
       rest = λ more. ap (rest_of r ns) (append_assoc a b more) ∙ f.rest (b ++ more) ∙ g.rest more;
       begins = g.begins ∙ ap (λ (t : Bool). ltb 0 (length b) || t) f.begins ∙ some_read a b (begun r);
     }
-
--- reading a piece: its first i bytes are read
-pub record Going (piece : List ℕ) (r₀ : Reading) (ns₀ : List ℕ) (i : ℕ) (r : Reading) (ns : List ℕ) : Type 0 where
-  pub up : i ≤ length piece
-  pub long : length ns ≡ 27
-  pub reads : ReadsOn r₀ ns₀ (take i piece) r ns
-
-pub going_none : (piece : List ℕ) (r : Reading) (ns : List ℕ) → length ns ≡ 27 → Going piece r ns 0 r ns
-going_none piece r ns e = record { up = omega arith; long = e; reads = reads_none r ns }
-
-pub going_more : (piece : List ℕ) (r₀ : Reading) (ns₀ : List ℕ) (i : ℕ) (r : Reading) (ns : List ℕ) (r' : Reading) (ns' : List ℕ)
-    → Going piece r₀ ns₀ i r ns → i < length piece → ReadsOn r ns (get_or piece i 0 ∷ []) r' ns' → length ns' ≡ length ns
-    → Going piece r₀ ns₀ (i + 1) r' ns'
-going_more piece r₀ ns₀ i r ns r' ns' g h f e =
-    record {
-      up = omega arith;
-      long = e ∙ g.long;
-      reads = rw (add-one i, take-suc piece i 0 h) (reads_both r₀ ns₀ (take i piece) r ns (get_or piece i 0 ∷ []) r' ns' g.reads f);
-    }
-
-pub going_all : (piece : List ℕ) (r₀ : Reading) (ns₀ : List ℕ) (i : ℕ) (r : Reading) (ns : List ℕ) → Going piece r₀ ns₀ i r ns → length piece ≤ i
-    → ReadsOn r₀ ns₀ piece r ns
-going_all piece r₀ ns₀ i r ns g h = rw (take_all i piece h) at g.reads
-
--- looking for the line end: none stands before i
-pub record Seeking (bytes : List ℕ) (i : ℕ) : Type 0 where
-  pub up : i ≤ length bytes
-  pub left : i + length (until_end (drop i bytes)) ≡ length (until_end bytes)
-
-pub seeking_none : (bytes : List ℕ) → Seeking bytes 0
-seeking_none bytes = record { up = omega arith; left = zero-add (length (until_end bytes)) }
-
-until_more : (b : ℕ) (bs : List ℕ) → (b ≡ 10 → ⊥) → length (until_end (b ∷ bs)) ≡ suc (length (until_end bs))
-unfolding until_end
-until_more b bs ne = rw (ne_eqb b 10 ne)
-
-until_none : (b : ℕ) (bs : List ℕ) → b ≡ 10 → length (until_end (b ∷ bs)) ≡ 0
-unfolding until_end
-until_none b bs e = rw (eq-eqb b 10 e)
-
-until_nothing : length (until_end []) ≡ 0
-unfolding until_end
-until_nothing = refl
-
-module _ (bytes : List ℕ) (i : ℕ) (s : Seeking bytes i) where
-  pub seeking_more : i < length bytes → (get_or bytes i 0 ≡ 10 → ⊥) → Seeking bytes (i + 1)
-  seeking_more h ne =
-      let e = ap (λ (l : List ℕ). length (until_end l)) (drop-cons bytes i 0 h) ∙ until_more (get_or bytes i 0) (drop (suc i) bytes) ne in
-      let l = s.left in
-      record { up = omega arith; left = rw (add-one i) (omega arith) }
-
-  pub line_found : i < length bytes → get_or bytes i 0 ≡ 10 → i ≡ length (until_end bytes)
-  line_found h e =
-      let z = ap (λ (l : List ℕ). length (until_end l)) (drop-cons bytes i 0 h) ∙ until_none (get_or bytes i 0) (drop (suc i) bytes) e in
-      let l = s.left in
-      omega arith
-
-  pub line_open : length bytes ≤ i → i ≡ length (until_end bytes)
-  line_open h =
-      let z = ap (λ (l : List ℕ). length (until_end l)) (drop_of_length-le bytes h) ∙ until_nothing in
-      let l = s.left in
-      omega arith

@@ -4,15 +4,19 @@ use mathlib.Core.Path.{◌≡◌, refl, sym, ap, ◌∙◌}
 use mathlib.Core.Bool.{Bool, true, false, cond, ◌||◌}
 use mathlib.Core.List.{List, [], ◌∷◌, append-nil}
 use native.Mathlib.Omega.{arith}
-use lib.Dec.{eqb}
+use borrow.Author.Tests.{ltb-false}
+use lib.Dec.{eqb, ltb}
 use lib.ListN.{length, take}
 use lib.Seq.{take_all}
+use Rattle.std.specs.List.{position_or_len}
+use Rattle.std.specs.Prelude.{Option, Some, None, unwrap_or}
+use Rattle.std.proofs.lemmas.List.Recursion.{is_position_or_len}
 use Rattle.measures.proofs.ListLaws.{both_ways}
 use Rattle.lines.specs.declared.reading.Reading.{Reading}
 use Rattle.lines.specs.declared.reading.Reading.TheVariants.{Start}
 use Rattle.lines.specs.declared.steps.Desk.{Desk}
-use Rattle.lines.specs.Readings.{rest_of, begun, ReadsOn}
-use Rattle.lines.specs.Stepping.{State, state, Answered, until_end, ends_in, Stepped, Ended}
+use Rattle.lines.specs.Readings.{rest_of, ReadsOn}
+use Rattle.lines.specs.Stepping.{State, state, Answered, until_end, ends_in, Stepped}
 
 -- the bytes before the first line end
 module _ (b : ℕ) (bs : List ℕ) where
@@ -52,6 +56,35 @@ until_within bs = go (ends_in bs) refl
     go true e = let h = ends_shorter bs e in omega arith
     go false e = let h = ap length (runs_on_lem bs e) in omega arith
 
+-- the place of the first line end, or the end of the bytes
+place_kept : (t : Bool) (b : ℕ) (bs : List ℕ) → length (cond t [] (b ∷ bs)) ≡ cond t 0 (1 + length bs)
+place_kept true b bs = refl
+place_kept false b bs = omega arith
+
+until_next : (b : ℕ) (bs : List ℕ) → length (until_end (b ∷ bs)) ≡ cond (eqb b 10) 0 (1 + length (until_end bs))
+unfolding until_end
+until_next b bs = place_kept (eqb b 10) b (until_end bs)
+
+until_none : length (until_end []) ≡ 0
+unfolding until_end
+until_none = refl
+
+until_place : (bs : List ℕ) → length (until_end bs) ≡ position_or_len (λ b. eqb b 10) bs
+until_place = is_position_or_len (λ bs. length (until_end bs)) (λ b. eqb b 10) until_none until_next
+
+pub end_placed : (bs : List ℕ) (place : Option ℕ) (r : ℕ)
+    → place ≡ cond (ltb (position_or_len (λ b. eqb b 10) bs) (length bs)) (Some (position_or_len (λ b. eqb b 10) bs)) None
+    → r ≡ unwrap_or place (length bs) → r ≡ length (until_end bs)
+end_placed bs place r e u = go (ltb (position_or_len (λ b. eqb b 10) bs) (length bs)) refl
+  where
+    go : (t : Bool) → ltb (position_or_len (λ b. eqb b 10) bs) (length bs) ≡ t → r ≡ length (until_end bs)
+    go true h = (rw (e, h) at u) ∙ sym (until_place bs)
+    go false h =
+        let w = until_within bs in
+        let p = until_place bs in
+        let l : length bs ≤ position_or_len (λ b. eqb b 10) bs = ltb-false _ _ h in
+        (rw (e, h) at u) ∙ omega arith
+
 module _ (d : Desk) (ns m bs : List ℕ) (r' : Reading) (ns' : List ℕ) (end : ℕ) (at : end ≡ length (until_end bs))
     (f : ReadsOn d.reading ns (take end bs) r' ns') where
   pub stepped_on : end ≡ length bs → Stepped (state d ns m) bs (state (record { reading = r'; started = d.started }) ns' m) end []
@@ -76,15 +109,6 @@ module _ (d : Desk) (ns m bs : List ℕ) (r' : Reading) (ns' : List ℕ) (end : 
         runs_on = λ h. let l = ap length (runs_on_lem bs h) in absurd (ne (at ∙ l));
         line_ends = λ h. record { up_to = omega arith; next = refl; answered = rw line_says a };
       }
-
--- the end of the input
-module _ (d : Desk) (ns m : List ℕ) where
-  pub ended_none : begun d.reading ≡ false → Ended (state d ns m) d.started m []
-  ended_none e = record { none = λ h. (refl, refl, refl); last = λ h. both_ways (sym (sym e ∙ h)) }
-
-  pub ended_last : (started' : Bool) (m' text : List ℕ) → begun d.reading ≡ true → Answered d.started m (rest_of d.reading ns []) started' m' text
-      → Ended (state d ns m) started' m' text
-  ended_last started' m' text e a = record { none = λ h. both_ways (sym e ∙ h); last = λ h. a }
 
 -- a step reads something, and no more than there is
 module _ (s : State) (bs : List ℕ) (s' : State) (used : ℕ) (t : List ℕ) (p : Stepped s bs s' used t) where

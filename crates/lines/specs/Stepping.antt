@@ -3,6 +3,7 @@ use Rattle.std.specs.Prelude.{ℕ, ◌+◌, ◌≡◌, Bool, true, false, cond, 
 use Rattle.book.specs.Layout.{DAYS, LAYOUT, layout_number, word, decode}
 use Rattle.lines.specs.declared.reading.Reading.TheVariants.{Start}
 use Rattle.lines.specs.declared.steps.Desk.{Desk}
+use Rattle.lines.specs.declared.steps.Memory.{Memory}
 use Rattle.lines.specs.Lines.{Line}
 use Rattle.lines.specs.Answers.{Stands, no_book, standing, refuses, said_to, after, printed}
 use Rattle.lines.specs.Readings.{rest_of, begun, ReadsOn}
@@ -15,6 +16,10 @@ pub record State : Type 0 where
 
 abbrev pub state : Desk → List ℕ → List ℕ → State
 state d ns m = record { desk = d; numbers = ns; memory = m }
+
+-- where the program's memory stands
+abbrev pub state_of : Memory → State
+state_of m = state m.desk m.numbers m.book
 
 abbrev pub fresh_desk : Desk
 fresh_desk = record { reading = Start; started = false }

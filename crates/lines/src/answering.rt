@@ -1,259 +1,163 @@
 // Answering a line on a book.
-ghost use Rattle.std.specs.Prelude.{◌≡◌, true, ◌&&◌, ◌<◌, ◌≤◌, [], length, get_or, take, eqb, leb};
-ghost use Rattle.book.specs.Layout.{UNITS, LAYOUT, book_words, decode};
-ghost use Rattle.book.specs.Contract.{Made, told_by};
-ghost use Rattle.lines.specs.Lines.{count_of, is_call, call_of, called, opening, calling};
-ghost use Rattle.lines.specs.Printed.{printed_no};
+ghost use Rattle.std.specs.Prelude.{◌≡◌, true, cond, ◌&&◌, ◌||◌, ◌≤◌, [], Some, None, MatchOption, length, get_or, take, eqb, leb};
+ghost use Rattle.book.specs.Layout.{decode};
+ghost use Rattle.book.specs.Contract.{Made};
+ghost use Rattle.lines.specs.Lines.{unknown, count_of, is_call, call_of, called, opening, calling};
 ghost use Rattle.lines.specs.Readings.{rest_of};
 ghost use Rattle.lines.specs.Stepping.{one_day, Answered};
 
 use crate::printing::{print_no, print_ok};
 use crate::reading::Reading;
-use crate::steps::Printed;
+use crate::steps::Memory;
 use book::Answer;
 use book::calls::{cancel, clear, close, enrol, offer, order, take, withdraw};
 use book::opening::open;
 use book::places::{DAYS, LAYOUT, LAYOUT_NUMBER, UNITS};
 
-// A line's letter and its count of numbers; no letter where the line is not understood.
+// A line's letter and its count of numbers.
 #[derive(Clone, Copy)]
 struct Heard {
     letter: u8,
     count: usize,
 }
 
-// An answer in numbers: the refusal (0: none), the number, the count of rows.
-#[derive(Clone, Copy)]
-struct Told {
-    refusal: u64,
-    number: u64,
-    count: usize,
-}
-
-// What a line says at its end.
-fn end_line(reading: Reading, numbers: &mut [u64]) -> Heard
-    requires { length numbers.old ≡ 27 }
-    ensures says { rest_of reading numbers.old [] ≡ called result.letter (take result.count numbers.new) }
-    ensures few { result.count ≤ 27 }
+// What a line says at its end: nothing, where it is not understood.
+fn end_line(reading: Reading, numbers: &mut [u64; 27]) -> Option<Heard>
+    ensures { MatchOption result (rest_of reading numbers.old [] ≡ unknown)
+        (λ h. (rest_of reading numbers.old [] ≡ called h.letter (take h.count numbers.new)) × (h.count ≤ 27)) }
 {
     match reading {
-        Reading::Start => Heard {
-            letter: 0,
-            count: 0,
-        },
-        Reading::Letter(letter) => Heard { letter, count: 0 },
-        Reading::Space(_, _) => Heard {
-            letter: 0,
-            count: 0,
-        },
-        Reading::Digits(letter, count, value) => {
+        Reading::Letter { letter } => Some(Heard { letter, count: 0 }),
+        Reading::Digits {
+            letter,
+            count,
+            value,
+        } => {
             if 27 <= count {
-                return Heard {
-                    letter: 0,
-                    count: 0,
-                };
+                return None;
             }
             if 4_294_967_295 < value {
-                return Heard {
-                    letter: 0,
-                    count: 0,
-                };
+                return None;
             }
             numbers[count] = value;
-            Heard {
+            Some(Heard {
                 letter,
                 count: count + 1,
-            }
+            })
         }
-        Reading::Lost => Heard {
-            letter: 0,
-            count: 0,
-        },
+        Reading::Start | Reading::Space { .. } | Reading::Lost => None,
     }
 }
 
-fn told_by(answer: Answer) -> Told
-    ensures { (result.refusal ≡ (told_by answer).refusal) × (result.number ≡ (told_by answer).number) × (result.count ≡ (told_by answer).count) }
-{
-    match answer {
-        Answer::Done(number, count) => Told {
-            refusal: 0,
-            number,
-            count,
-        },
-        Answer::Refused(refusal) => Told {
-            refusal,
-            number: 0,
-            count: 0,
-        },
-    }
-}
-
-// How many numbers follow a letter.
-fn count_of(letter: u8) -> usize
-    ensures { result ≡ count_of letter }
+// How many numbers follow a letter that begins a line. A letter stays a byte, since any byte may stand in its place.
+#[tactic(auto, unfolding(crate::specs::Lines::count_of, crate::specs::Lines::is_call))]
+fn count_of(letter: u8) -> Option<usize>
+    ensures { result ≡ cond (eqb letter 79 || is_call letter) (Some (count_of letter)) None }
 {
     match letter {
-        b'O' => 3,
-        b'E' => 3,
-        b'L' => 27,
-        b'T' => 3,
-        b'W' => 2,
-        b'R' => 5,
-        b'X' => 2,
-        _ => 0,
+        b'O' => Some(3),
+        b'E' => Some(3),
+        b'L' => Some(27),
+        b'T' => Some(3),
+        b'W' => Some(2),
+        b'R' => Some(5),
+        b'X' => Some(2),
+        b'C' => Some(0),
+        b'D' => Some(0),
+        _ => None,
     }
 }
 
-fn is_call(letter: u8) -> bool
-    ensures { result ≡ is_call letter }
-{
-    match letter {
-        b'E' => true,
-        b'L' => true,
-        b'T' => true,
-        b'W' => true,
-        b'R' => true,
-        b'X' => true,
-        b'C' => true,
-        b'D' => true,
-        _ => false,
+impl Memory {
+    // Whether a book stands: an O was accepted, and the memory holds a book of one day.
+    fn has_book(&self) -> bool
+        ensures { result ≡ (self.now.desk.started && one_day self.now.book) }
+    {
+        self.desk.started && self.book[DAYS] == 1 && self.book[LAYOUT] == LAYOUT_NUMBER
     }
-}
 
-// Whether a book stands: an O was accepted, and the memory holds a book of one day.
-fn has_book(started: bool, book: &[u64]) -> bool
-    requires { LAYOUT < length book.now }
-    ensures { result ≡ (started && one_day book.now) }
-{
-    if !started {
-        return false;
+    // Whether an enrol comes when 8 units stand.
+    fn is_beyond(&self, letter: u8) -> bool
+        ensures { result ≡ (eqb letter 69 && leb 8 (length (decode self.now.book).units)) }
+    {
+        letter == b'E' && 8 <= self.book[UNITS]
     }
-    if book[DAYS] != 1 {
-        return false;
-    }
-    book[LAYOUT] == LAYOUT_NUMBER
-}
 
-// Whether an enrol comes when 8 units stand.
-fn is_beyond(letter: u8, book: &[u64]) -> bool
-    requires { UNITS < length book.now }
-    ensures { result ≡ (eqb letter 69 && leb 8 (length (decode book.now).units)) }
-{
-    if letter != b'E' {
-        return false;
+    // Makes the call of a letter. Behind a `&mut self` a proof sees no length of an array, so `long` says it.
+    fn make_call(&mut self, letter: u8) -> Answer
+        ensures made { Made self.old.book self.old.rows (call_of letter self.old.numbers) result self.new.book self.new.rows }
+        ensures desk { self.new.desk ≡ self.old.desk }
+        ensures long { length self.new.rows ≡ 4464 }
+    {
+        let numbers = &self.numbers;
+        let book = &mut self.book;
+        let rows = &mut self.rows;
+        match letter {
+            b'E' => enrol(book, numbers[0], numbers[1], numbers[2]),
+            b'L' => offer(book, numbers[0], numbers[1], numbers[2], &numbers[3..]),
+            b'T' => take(book, numbers[0], numbers[1], numbers[2], rows),
+            b'W' => withdraw(book, numbers[0], numbers[1]),
+            b'R' => order(
+                book, numbers[0], numbers[1], numbers[2], numbers[3], numbers[4], rows,
+            ),
+            b'X' => cancel(book, numbers[0], numbers[1]),
+            b'C' => clear(book, rows),
+            _ => close(book),
+        }
     }
-    8 <= book[UNITS]
-}
 
-fn make_call(letter: u8, numbers: &[u64], book: &mut [u64], rows: &mut [u64]) -> Answer
-    requires { (length numbers.now ≡ 27) × (length rows.old ≡ 4464) }
-    ensures { Made book.old rows.old (call_of letter numbers.now) result book.new rows.new }
-{
-    match letter {
-        b'E' => enrol(book, numbers[0], numbers[1], numbers[2]),
-        b'L' => offer(book, numbers[0], numbers[1], numbers[2], &numbers[3..]),
-        b'T' => take(book, numbers[0], numbers[1], numbers[2], rows),
-        b'W' => withdraw(book, numbers[0], numbers[1]),
-        b'R' => order(
-            book, numbers[0], numbers[1], numbers[2], numbers[3], numbers[4], rows,
-        ),
-        b'X' => cancel(book, numbers[0], numbers[1]),
-        b'C' => clear(book, rows),
-        _ => close(book),
+    // Answers an O: days over 1 are beyond this program's memory.
+    fn answer_opening(&mut self)
+        ensures { Answered self.old.desk.started self.old.book
+            (opening (get_or self.old.numbers 0 0) (get_or self.old.numbers 1 0) (get_or self.old.numbers 2 0))
+            self.new.desk.started self.new.book self.new.out.items }
+    {
+        let days = self.numbers[0];
+        if 1 < days {
+            return print_no(&mut self.out, 0);
+        }
+        match open(&mut self.book, days, self.numbers[1], self.numbers[2]) {
+            Ok(done) => {
+                self.desk.started = true;
+                print_ok(&mut self.out, done.number, &[]);
+            }
+            Err(refusal) => print_no(&mut self.out, u64::from(refusal)),
+        }
     }
-}
 
-// `no 0`, with the book as it was.
-fn turn_down(started: bool, out: &mut [u8]) -> Printed
-    requires { 24 ≤ length out.old }
-    ensures { (result.started ≡ started) × (take result.length out.new ≡ printed_no 0) × (result.length ≤ 95256) }
-{
-    let length = print_no(out, 0);
-    Printed { started, length }
-}
+    // Answers a call on the book that stands.
+    fn answer_call(&mut self, letter: u8)
+        requires started { self.old.desk.started ≡ true }
+        requires one_day_stands { one_day self.old.book ≡ true }
+        ensures { Answered true self.old.book (calling (call_of letter self.old.numbers))
+            self.new.desk.started self.new.book self.new.out.items }
+    {
+        if self.is_beyond(letter) {
+            return print_no(&mut self.out, 0);
+        }
+        match self.make_call(letter) {
+            Ok(done) => print_ok(&mut self.out, done.number, &self.rows[..6 * done.count]),
+            Err(refusal) => print_no(&mut self.out, u64::from(refusal)),
+        }
+    }
 
-fn answer_opening(started: bool, numbers: &[u64], book: &mut [u64], out: &mut [u8]) -> Printed
-    requires { (length numbers.now ≡ 27) × (length book.old ≡ book_words 1) × (length out.old ≡ 95256) }
-    ensures answered { Answered started book.old
-        (opening (get_or numbers.now 0 0) (get_or numbers.now 1 0) (get_or numbers.now 2 0))
-        result.started book.new (take result.length out.new) }
-    ensures fits { result.length ≤ 95256 }
-{
-    let days = numbers[0];
-    if 1 < days {
-        return turn_down(started, out);
-    }
-    let told = told_by(open(book, days, numbers[1], numbers[2]));
-    if told.refusal != 0 {
-        let length = print_no(out, told.refusal);
-        return Printed { started, length };
-    }
-    let length = print_ok(out, told.number, numbers, 0);
-    Printed {
-        started: true,
-        length,
-    }
-}
-
-fn answer_call(
-    letter: u8,
-    numbers: &[u64],
-    book: &mut [u64],
-    rows: &mut [u64],
-    out: &mut [u8],
-) -> Printed
-    requires lent { (length numbers.now ≡ 27) × (length book.old ≡ book_words 1) × (length rows.old ≡ 4464) × (length out.old ≡ 95256) }
-    requires one_day_stands { one_day book.old ≡ true }
-    ensures answered { Answered true book.old (calling (call_of letter numbers.now))
-        result.started book.new (take result.length out.new) }
-    ensures fits { result.length ≤ 95256 }
-{
-    if is_beyond(letter, book) {
-        return turn_down(true, out);
-    }
-    let told = told_by(make_call(letter, numbers, book, rows));
-    if told.refusal != 0 {
-        let length = print_no(out, told.refusal);
-        return Printed {
-            started: true,
-            length,
+    // Answers the line at its end.
+    pub(crate) fn answer(&mut self)
+        ensures { Answered self.old.desk.started self.old.book (rest_of self.old.desk.reading self.old.numbers [])
+            self.new.desk.started self.new.book self.new.out.items }
+    {
+        let Some(heard) = end_line(self.desk.reading, &mut self.numbers) else {
+            return print_no(&mut self.out, 0);
         };
+        if count_of(heard.letter) != Some(heard.count) {
+            return print_no(&mut self.out, 0);
+        }
+        if heard.letter == b'O' {
+            return self.answer_opening();
+        }
+        if !self.has_book() {
+            return print_no(&mut self.out, 0);
+        }
+        self.answer_call(heard.letter)
     }
-    let length = print_ok(out, told.number, rows, told.count);
-    Printed {
-        started: true,
-        length,
-    }
-}
-
-// Answers a line at its end: prints to the start of `out`.
-pub(crate) fn answer(
-    reading: Reading,
-    numbers: &mut [u64],
-    started: bool,
-    book: &mut [u64],
-    rows: &mut [u64],
-    out: &mut [u8],
-) -> Printed
-    requires { (length numbers.old ≡ 27) × (length book.old ≡ book_words 1) × (length rows.old ≡ 4464) × (length out.old ≡ 95256) }
-    ensures answered { Answered started book.old (rest_of reading numbers.old [])
-        result.started book.new (take result.length out.new) }
-    ensures fits { result.length ≤ 95256 }
-{
-    let heard = end_line(reading, numbers);
-    let letter = heard.letter;
-    if heard.count != count_of(letter) {
-        return turn_down(started, out);
-    }
-    if letter == b'O' {
-        return answer_opening(started, numbers, book, out);
-    }
-    if !is_call(letter) {
-        return turn_down(started, out);
-    }
-    if !has_book(started, book) {
-        return turn_down(started, out);
-    }
-    answer_call(letter, numbers, book, rows, out)
 }

@@ -1,8 +1,7 @@
 -- What the functions on lent orders and rows answer, and what they leave.
-use Rattle.std.specs.Prelude.{ℕ, ◌+◌, ◌-◌, ◌*◌, ◌≡◌, Bool, true, false, cond, ◌&&◌, List, [], ◌∷◌, ◌++◌, length, drop, set, take, leb}
+use Rattle.std.specs.Prelude.{Option, Some, None, ℕ, ◌+◌, ◌-◌, ◌*◌, ◌≡◌, Bool, true, false, cond, ◌&&◌, List, [], ◌∷◌, ◌++◌, length, drop, set, take, leb}
 use Rattle.measures.specs.Ranges.{most_energy}
 use Rattle.matching.specs.declared.orders.Matched.{Matched}
-use Rattle.matching.specs.declared.orders.Matched.TheVariants.{Unfit, Done}
 use Rattle.matching.specs.Orders.{Order, Row, rising, numbers, quantities}
 use Rattle.matching.specs.Memory.{order_words, row_words, orders_in, place_in, room_for, written}
 use Rattle.matching.specs.Rolling.{meet}
@@ -41,20 +40,20 @@ fit m n rows =
     leb n 256 && leb (order_words * n) (length m) && leb (row_words * n) (length rows)
     && rising (numbers (orders_in m n)) && leb (quantities (orders_in m n)) most_energy
 
--- an answer: what is left of the incoming order, the count of rows, and how many orders stand
+-- an answer: whether the orders fit, what is left of the incoming order, the count of rows, and how many orders stand
 pub record Answer : Type 0 where
   pub fits : Bool
   pub left : ℕ
   pub count : ℕ
   pub standing : ℕ
 
-abbrev pub answer_of : Matched → Answer
-answer_of Unfit = record { fits = false; left = 0; count = 0; standing = 0 }
-answer_of (Done left count standing) = record { fits = true; left = left.0; count = count; standing = standing }
+abbrev pub answer_of : Option Matched → Answer
+answer_of None = record { fits = false; left = 0; count = 0; standing = 0 }
+answer_of (Some a) = record { fits = true; left = a.left.0; count = a.count; standing = a.standing }
 
 -- m and rows are the memory at entry, m' and rows' at exit, n the orders that stood, b whether they are fit for it, a the
 -- answer, and rs, os and q the rows, the orders and what is left by the rule
-pub record Matches (m rows : List ℕ) (n : ℕ) (b : Bool) (rs : List Row) (os : List Order) (q : ℕ) (a : Matched) (m' rows' : List ℕ) : Type 0 where
+pub record Matches (m rows : List ℕ) (n : ℕ) (b : Bool) (rs : List Row) (os : List Order) (q : ℕ) (a : Option Matched) (m' rows' : List ℕ) : Type 0 where
   pub fits : (answer_of a).fits ≡ b
   -- orders that do not fit stay, and so do the rows
   pub stay : b ≡ false → (m' ≡ m) × (rows' ≡ rows)
@@ -65,7 +64,7 @@ pub record Matches (m rows : List ℕ) (n : ℕ) (b : Bool) (rs : List Row) (os 
   pub past : drop (order_words * n) m' ≡ drop (order_words * n) m
 
 -- an incoming order met the n orders
-abbrev pub Meets : List ℕ → List ℕ → ℕ → Order → Matched → List ℕ → List ℕ → Type 0
+abbrev pub Meets : List ℕ → List ℕ → ℕ → Order → Option Matched → List ℕ → List ℕ → Type 0
 Meets m rows n i a m' rows' =
     Matches m rows n (fit m n rows) (meet i (orders_in m n)).rows (meet i (orders_in m n)).orders (meet i (orders_in m n)).left a m' rows'
 
@@ -74,7 +73,7 @@ unfoldable pub left_over : List ℕ → ℕ → Order → ℕ
 left_over m n i = cond (place_in m n 0) (meet i (orders_in m n)).left i.quantity
 
 -- a period of the n orders was cleared
-abbrev pub Clears : List ℕ → List ℕ → ℕ → ℕ → Matched → List ℕ → List ℕ → Type 0
+abbrev pub Clears : List ℕ → List ℕ → ℕ → ℕ → Option Matched → List ℕ → List ℕ → Type 0
 Clears m rows n period a m' rows' =
     Matches m rows n (fit m n rows) (clear_period period (orders_in m n)).rows (clear_period period (orders_in m n)).orders 0 a m' rows'
 
@@ -84,6 +83,6 @@ unfoldable pub fit_below : List ℕ → ℕ → ℕ → List ℕ → Bool
 fit_below m n end rows = fit m n rows && leb (2 * row_words * n) (length rows) && leb end 744
 
 -- the periods below `end` of the n orders were cleared
-abbrev pub ClearsAll : List ℕ → List ℕ → ℕ → ℕ → Matched → List ℕ → List ℕ → Type 0
+abbrev pub ClearsAll : List ℕ → List ℕ → ℕ → ℕ → Option Matched → List ℕ → List ℕ → Type 0
 ClearsAll m rows n end a m' rows' =
     Matches m rows n (fit_below m n end rows) (clear_from 0 end (orders_in m n)).rows (clear_from 0 end (orders_in m n)).orders 0 a m' rows'

@@ -2,6 +2,8 @@
 use Rattle.std.specs.Prelude.{ℕ, ◌+◌, ◌*◌, Bool, ◌&&◌, List, [], ◌∷◌, ◌++◌, length, get_or, drop, leb, ltb}
 use Rattle.measures.specs.Lists.{table}
 use Rattle.measures.specs.Ranges.{most_number}
+use Rattle.matching.specs.declared.orders.Direction.{Direction}
+use Rattle.matching.specs.declared.orders.Direction.TheVariants.{Sell, Buy}
 use Rattle.matching.specs.declared.orders.Order.{Order as OrderValue}
 use Rattle.matching.specs.declared.orders.Row.{Row as RowValue}
 use Rattle.matching.specs.Orders.{Order, Row}
@@ -9,6 +11,11 @@ use Rattle.matching.specs.Orders.{Order, Row}
 -- the largest number of 64 bits
 abbrev pub most_word : ℕ
 most_word = most_number
+
+-- the number of a direction: 0 sell, 1 buy
+abbrev pub direction_number : Direction → ℕ
+direction_number Sell = 0
+direction_number Buy = 1
 
 -- a value of the code's struct, as an order and as a row of these definitions
 abbrev pub as_order : OrderValue → Order

@@ -1,13 +1,14 @@
 // Clearing one period: paper 01, "The eight calls", Clear.
-ghost use Rattle.std.specs.Prelude.{◌≡◌, true, ◌<◌, take};
+ghost use Rattle.std.specs.Prelude.{◌≡◌, Some, true, ◌<◌, take};
 ghost use Rattle.measures.specs.Lists.{keep};
 ghost use Rattle.matching.specs.Orders.{laid};
 ghost use Rattle.matching.specs.Memory.{orders_in};
 ghost use Rattle.matching.specs.Answers.{fit, Clears};
 ghost use Rattle.matching.specs.Inner.Places.{orders_at, ahead_on, belongs, Stand, AreMargins};
 
+use crate::fills::Fills;
 use crate::margins::Margins;
-use crate::orders::Matched;
+use crate::orders::{Direction, Matched};
 use measures::Energy;
 
 // Trades the volume: fills both sides, writes the rows and leaves the rests.
@@ -17,17 +18,14 @@ fn trade(
     period: u64,
     margins: Margins,
     bids: &[u64],
-    nb: usize,
     asks: &[u64],
-    na: usize,
     rows: &mut [u64],
 ) -> Matched
     requires { (fit orders.old n rows.old ≡ true) × (0 < margins.volume.0)
-        × Stand orders.old bids.now n nb (laid (ahead_on 1) (keep (belongs 1 period) (orders_in orders.old n)))
-        × Stand orders.old asks.now n na (laid (ahead_on 0) (keep (belongs 0 period) (orders_in orders.old n)))
-        × AreMargins (orders_at orders.old (take nb bids.now)) (orders_at orders.old (take na asks.now)) margins.volume.0
-        margins.bid.0 margins.ask.0 }
-    ensures { Clears orders.old rows.old n period result orders.new rows.new }
+        × Stand orders.old bids.now n (laid (ahead_on 1) (keep (belongs 1 period) (orders_in orders.old n)))
+        × Stand orders.old asks.now n (laid (ahead_on 0) (keep (belongs 0 period) (orders_in orders.old n)))
+        × AreMargins (orders_at orders.old bids.now) (orders_at orders.old asks.now) margins.volume.0 margins.bid.0 margins.ask.0 }
+    ensures { Clears orders.old rows.old n period (Some result) orders.new rows.new }
 {
     let mut bid_places = [0u64; 256];
     let mut ask_places = [0u64; 256];
@@ -36,75 +34,68 @@ fn trade(
     let fb = crate::fills::fill(
         orders,
         n,
-        1,
+        Direction::Buy,
         margins.volume,
         margins.bid,
         bids,
-        nb,
         &mut bid_places,
         &mut bought,
     );
     let fa = crate::fills::fill(
         orders,
         n,
-        0,
+        Direction::Sell,
         margins.volume,
         margins.ask,
         asks,
-        na,
         &mut ask_places,
         &mut sold,
     );
     let price = margins.bid.middle(margins.ask);
-    let count = crate::overlaps::put_overlaps(
-        orders,
-        n,
-        period,
-        price,
-        &bid_places,
-        &bought,
-        fb,
-        &ask_places,
-        &sold,
-        fa,
-        rows,
-    );
-    let standing = crate::rests::leave_rests(
-        orders,
-        n,
-        &bid_places,
-        &bought,
-        fb,
-        &ask_places,
-        &sold,
-        fa,
-    );
-    Matched::Done(Energy(0), count, standing)
+    let bids = Fills {
+        places: &bid_places[..fb],
+        amounts: &bought[..fb],
+    };
+    let asks = Fills {
+        places: &ask_places[..fa],
+        amounts: &sold[..fa],
+    };
+    let count = crate::overlaps::put_overlaps(orders, n, period, price, bids, asks, rows);
+    let standing = crate::rests::leave_rests(orders, n, bids, asks);
+    Matched {
+        left: Energy(0),
+        count,
+        standing,
+    }
 }
 
 // Clears the orders of a period among the first n, which are fit for it: the rows, how many they are, and how many orders
 // then stand.
 pub(crate) fn clear_fit(orders: &mut [u64], n: usize, period: u64, rows: &mut [u64]) -> Matched
     requires { fit orders.old n rows.old ≡ true }
-    ensures { Clears orders.old rows.old n period result orders.new rows.new }
+    ensures { Clears orders.old rows.old n period (Some result) orders.new rows.new }
 {
     let mut bids = [0u64; 256];
     let mut asks = [0u64; 256];
-    let nb = crate::laying::lay(orders, n, 1, period, &mut bids);
-    let na = crate::laying::lay(orders, n, 0, period, &mut asks);
-    let margins = crate::margins::find_margins(orders, n, &bids, nb, &asks, na);
-    if margins.volume.is_zero() {
-        return Matched::Done(Energy(0), 0, n);
+    let nb = crate::laying::lay(orders, n, Direction::Buy, period, &mut bids);
+    let na = crate::laying::lay(orders, n, Direction::Sell, period, &mut asks);
+    let margins = crate::margins::find_margins(orders, n, &bids[..nb], &asks[..na]);
+    if margins.volume == Energy(0) {
+        return Matched {
+            left: Energy(0),
+            count: 0,
+            standing: n,
+        };
     }
-    trade(orders, n, period, margins, &bids, nb, &asks, na, rows)
+    trade(orders, n, period, margins, &bids[..nb], &asks[..na], rows)
 }
 
-// The same of any orders.
-pub fn clear_period(orders: &mut [u64], n: usize, period: u64, rows: &mut [u64]) -> Matched
+// The same of any orders; `None` where they are not fit for it.
+pub fn clear_period(orders: &mut [u64], n: usize, period: u64, rows: &mut [u64]) -> Option<Matched>
     ensures { Clears orders.old rows.old n period result orders.new rows.new }
 {
     if !crate::fitness::fits(orders, n, rows) {
-        return Matched::Unfit;
+        return None;
     }
-    clear_fit(orders, n, period, rows)
+    Some(clear_fit(orders, n, period, rows))
 }

@@ -13,19 +13,18 @@ fn rise(orders: &[u64], n: usize) -> bool
     requires { (order_words * n ≤ length orders.now) × (n ≤ 256) }
     ensures { result ≡ rising (numbers (orders_in orders.now n)) }
 {
-    let mut k: usize = 1;
-    while k < n {
+    for k in 1..n {
         let o = read(orders, k);
         let before = read(orders, k - 1);
         if o.number <= before.number {
             return false;
         }
-        k += 1;
     }
     true
 }
 
 // Whether the first n orders stand there and their numbers rise.
+#[tactic(auto, unfolding(crate::specs::Answers::numbers_rise))]
 pub fn numbers_rise(orders: &[u64], n: usize) -> bool
     ensures { result ≡ numbers_rise orders.now n }
 {
@@ -44,19 +43,15 @@ fn quantities_fit(orders: &[u64], n: usize) -> bool
     ensures { result ≡ leb (quantities (orders_in orders.now n)) most_energy }
 {
     let mut sum = Energy(0);
-    let mut k: usize = 0;
-    while k < n {
+    for k in 0..n {
         let o = read(orders, k);
         sum = sum.plus(o.quantity);
-        if !sum.in_range() {
-            return false;
-        }
-        k += 1;
     }
-    true
+    sum.in_range()
 }
 
 // Whether the first n orders can be matched and cleared, with these rows lent.
+#[tactic(auto, unfolding(crate::specs::Answers::fit))]
 pub fn fits(orders: &[u64], n: usize, rows: &[u64]) -> bool
     ensures { result ≡ fit orders.now n rows.now }
 {
@@ -76,6 +71,7 @@ pub fn fits(orders: &[u64], n: usize, rows: &[u64]) -> bool
 }
 
 // Whether the periods below `end` of the first n orders can be cleared one after the other, with these rows lent.
+#[tactic(auto, unfolding(crate::specs::Answers::fit_below, crate::specs::Answers::fit))]
 pub(crate) fn fits_below(orders: &[u64], n: usize, end: u64, rows: &[u64]) -> bool
     ensures { result ≡ fit_below orders.now n end rows.now }
 {

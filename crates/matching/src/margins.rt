@@ -13,31 +13,23 @@ pub struct Margins {
     pub ask: Price,
 }
 
-// What order i of the first count places has open, and 0 behind the last.
-fn open_at(orders: &[u64], n: usize, places: &[u64], count: usize, i: usize) -> Energy
-    requires { (order_words * n ≤ length orders.now) × (n ≤ 256)
-        × Stand orders.now places.now n count (orders_at orders.now (take count places.now)) }
-    ensures { result.0 ≡ (get_or (orders_at orders.now (take count places.now)) i no_order).quantity }
+// What order i of the places has open, and 0 behind the last.
+fn open_at(orders: &[u64], n: usize, places: &[u64], i: usize) -> Energy
+    requires { (order_words * n ≤ length orders.now) × (n ≤ 256) × Stand orders.now places.now n (orders_at orders.now places.now) }
+    ensures { result.0 ≡ (get_or (orders_at orders.now places.now) i no_order).quantity }
 {
-    if i >= count {
+    let Some(p) = places.get(i) else {
         return Energy(0);
-    }
-    let o = crate::orders::read(orders, places[i] as usize);
+    };
+    let o = crate::orders::read(orders, *p as usize);
     o.quantity
 }
 
 // The margins: the smaller remainder of the next bid and ask is met for as long as their prices meet.
-pub(crate) fn find_margins(
-    orders: &[u64],
-    n: usize,
-    bids: &[u64],
-    nb: usize,
-    asks: &[u64],
-    na: usize,
-) -> Margins
-    requires { (order_words * n ≤ length orders.now) × (n ≤ 256) × Sides orders.now bids.now asks.now n nb na }
-    ensures { AreMargins (orders_at orders.now (take nb bids.now))
-        (orders_at orders.now (take na asks.now)) result.volume.0 result.bid.0 result.ask.0 }
+pub(crate) fn find_margins(orders: &[u64], n: usize, bids: &[u64], asks: &[u64]) -> Margins
+    requires { (order_words * n ≤ length orders.now) × (n ≤ 256) × Sides orders.now bids.now asks.now n }
+    ensures { AreMargins (orders_at orders.now bids.now) (orders_at orders.now asks.now)
+        result.volume.0 result.bid.0 result.ask.0 }
 {
     let mut margins = Margins {
         volume: Energy(0),
@@ -46,10 +38,11 @@ pub(crate) fn find_margins(
     };
     let mut i: usize = 0;
     let mut j: usize = 0;
-    let mut demand = open_at(orders, n, bids, nb, 0);
-    let mut supply = open_at(orders, n, asks, na, 0);
-    while i < nb {
-        if j == na {
+    let mut demand = open_at(orders, n, bids, 0);
+    let mut supply = open_at(orders, n, asks, 0);
+    // two indexes, each moved by what it finds
+    while i < bids.len() {
+        if j == asks.len() {
             return margins;
         }
         let b = crate::orders::read(orders, bids[i] as usize);
@@ -59,14 +52,14 @@ pub(crate) fn find_margins(
         if !bid.meets(ask) {
             return margins;
         }
-        if demand.is_zero() {
+        if demand == Energy(0) {
             i += 1;
-            demand = open_at(orders, n, bids, nb, i);
-        } else if supply.is_zero() {
+            demand = open_at(orders, n, bids, i);
+        } else if supply == Energy(0) {
             j += 1;
-            supply = open_at(orders, n, asks, na, j);
+            supply = open_at(orders, n, asks, j);
         } else {
-            let x = demand.least(supply);
+            let x = demand.min(supply);
             let volume = margins.volume.plus(x);
             margins = Margins { volume, bid, ask };
             demand = demand.minus(x);

@@ -1,12 +1,67 @@
-// Orders and rows in lent memory: six words each, one behind the other.
+// Orders and rows in lent memory: six words each, one behind the other. The table of orders and their count are words of the
+// lent book, so a count goes beside the slice.
 ghost use Rattle.std.specs.Prelude.{◌≡◌, List, [], ◌∷◌, ◌++◌, ℕ, ◌+◌, ◌*◌, ◌-◌, ◌<◌, ◌≤◌, length, set, drop, take};
 ghost use Rattle.matching.specs.Orders.{Row as RowRecord, order_with, leaving};
-ghost use Rattle.matching.specs.Memory.{order_words, row_words, as_order, as_row, order_at, orders_in, place_in, written};
+ghost use Rattle.matching.specs.Memory.{direction_number, order_words, row_words, as_order, as_row, order_at, orders_in, place_in, written};
 ghost use Rattle.matching.specs.Answers.{Written, Removed, RowPut};
 
 use measures::{Energy, Price};
 
-// An open order.
+// Which way an order trades. In memory 0 sells and 1 buys; an order in memory may have any number.
+#[derive(Clone, Copy, Debug, PartialEq, Eq)]
+pub enum Direction {
+    Sell,
+    Buy,
+}
+
+impl Direction {
+    // The side that this one meets.
+    pub fn opposite(self) -> Direction
+        ensures { direction_number result ≡ 1 - direction_number self }
+    {
+        match self {
+            Direction::Sell => Direction::Buy,
+            Direction::Buy => Direction::Sell,
+        }
+    }
+}
+
+impl From<Direction> for u64 {
+    ghost use Rattle.std.specs.Prelude.{◌≡◌};
+    ghost use Rattle.matching.specs.Memory.{direction_number};
+
+    ghost from_gives = { λ d r. r ≡ direction_number d };
+
+    fn from(direction: Direction) -> u64 {
+        match direction {
+            Direction::Sell => 0,
+            Direction::Buy => 1,
+        }
+    }
+}
+
+// A number that is no direction.
+#[derive(Clone, Copy, Debug, PartialEq, Eq)]
+pub struct NoDirection;
+
+impl TryFrom<u64> for Direction {
+    ghost use Rattle.std.specs.Prelude.{◌≡◌, ◌<◌, MatchResult};
+    ghost use Rattle.matching.specs.Memory.{direction_number};
+
+    type Error = NoDirection;
+
+    ghost try_from_gives = { λ n r. MatchResult r (λ d. n ≡ direction_number d) (λ e. 1 < n) };
+
+    fn try_from(number: u64) -> Result<Direction, NoDirection> {
+        match number {
+            0 => Ok(Direction::Sell),
+            1 => Ok(Direction::Buy),
+            _ => Err(NoDirection),
+        }
+    }
+}
+
+// An open order. Its direction stays a word of memory, in which any number may stand; so does the way of a row.
 #[derive(Clone, Copy)]
 pub struct Order {
     pub number: u64,
@@ -59,14 +114,9 @@ impl Order {
     pub fn leaving(self, q: Energy) -> Order
         ensures { as_order result ≡ leaving (as_order self) q.0 }
     {
-        let price = self.price;
         Order {
-            number: self.number,
-            unit: self.unit,
-            direction: self.direction,
-            period: self.period,
-            price,
             quantity: q,
+            ..self
         }
     }
 }
@@ -97,12 +147,12 @@ impl Row {
     pub const PRICE: usize = 5;
 }
 
-// What matching or clearing came to: orders that are not fit for it, or what is left of an incoming order, the count of
-// rows, and how many orders stand.
+// What matching or clearing came to: what is left of an incoming order, the count of rows, and how many orders stand.
 #[derive(Clone, Copy)]
-pub enum Matched {
-    Unfit,
-    Done(Energy, usize, usize),
+pub struct Matched {
+    pub left: Energy,
+    pub count: usize,
+    pub standing: usize,
 }
 
 // The order at place k.
@@ -151,15 +201,12 @@ fn remove_at(orders: &mut [u64], n: usize, k: usize)
     ensures { (orders_in orders.new (n - 1) ≡ take k (orders_in orders.old n) ++ drop (k + 1) (orders_in orders.old n))
         × (drop (order_words * n) orders.new ≡ drop (order_words * n) orders.old) }
 {
-    let end = Order::WORDS * n - Order::WORDS;
-    let mut j = Order::WORDS * k;
-    while j < end {
-        orders[j] = orders[j + Order::WORDS];
-        j += 1;
-    }
+    let next = Order::WORDS * k + Order::WORDS;
+    orders.copy_within(next..Order::WORDS * n, Order::WORDS * k);
 }
 
 // Whether place k is one of the first n orders, which all stand there.
+#[tactic(auto, unfolding(crate::specs::Memory::place_in))]
 pub(crate) fn is_place(orders: &[u64], n: usize, k: usize) -> bool
     ensures { result ≡ place_in orders.now n k }
 {
@@ -173,6 +220,7 @@ pub(crate) fn is_place(orders: &[u64], n: usize, k: usize) -> bool
 }
 
 // An order takes place k of the first n; whether that place is there.
+#[tactic(auto, unfolding(crate::specs::Memory::place_in))]
 pub fn write(orders: &mut [u64], n: usize, k: usize, o: Order) -> bool
     ensures { Written orders.old n k (as_order o) result orders.new }
 {
@@ -184,6 +232,7 @@ pub fn write(orders: &mut [u64], n: usize, k: usize, o: Order) -> bool
 }
 
 // The order at place k of the first n goes, and those behind it move up by one place; whether that place is there.
+#[tactic(auto, unfolding(crate::specs::Memory::place_in))]
 pub fn remove(orders: &mut [u64], n: usize, k: usize) -> bool
     ensures { Removed orders.old n k result orders.new }
 {
@@ -210,6 +259,7 @@ pub(crate) fn put_row_at(rows: &mut [u64], n: usize, r: Row)
 }
 
 // Row number n, behind the n rows that stand there; whether there is room for it.
+#[tactic(auto, unfolding(crate::specs::Memory::room_for))]
 pub fn put_row(rows: &mut [u64], n: usize, r: Row) -> bool
     ensures { RowPut rows.old n (as_row r) result rows.new }
 {

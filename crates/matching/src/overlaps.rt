@@ -6,6 +6,7 @@ ghost use Rattle.matching.specs.Memory.{order_at, order_words, row_words, as_row
 ghost use Rattle.matching.specs.Clearing.{end_to_end, overlap_rows};
 ghost use Rattle.matching.specs.Inner.Places.{fills_at, Filling};
 
+use crate::fills::Fills;
 use crate::orders::Row;
 use measures::{Energy, Price};
 
@@ -22,8 +23,8 @@ impl Span {
     pub fn overlap(self, other: Span) -> Energy
         ensures { result.0 ≡ min self.upto.0 other.upto.0 - max self.from.0 other.from.0 }
     {
-        let from = self.from.greatest(other.from);
-        self.upto.least(other.upto).minus(from)
+        let from = self.from.max(other.from);
+        self.upto.min(other.upto).minus(from)
     }
 }
 
@@ -34,7 +35,7 @@ fn put_some(rows: &mut [u64], count: usize, r: Row) -> usize
         → (rows.new ≡ written m (rs ++ cond (eqb r.quantity.0 0) [] (as_row r ∷ [])))
         × (length (rs ++ cond (eqb r.quantity.0 0) [] (as_row r ∷ [])) ≡ result) × (result ≤ count + 1) }
 {
-    if r.quantity.is_zero() {
+    if r.quantity == Energy(0) {
         return count;
     }
     crate::orders::put_row_at(rows, count, r);
@@ -42,14 +43,14 @@ fn put_some(rows: &mut [u64], count: usize, r: Row) -> usize
 }
 
 // The span of fill i, which begins at `from`.
-fn span_at(orders: &[u64], places: &[u64], amounts: &[u64], i: usize, from: Energy) -> Span
-    requires { (i < length places.now) × (i < length amounts.now) × (order_words * get_or places.now i 0 + order_words ≤ length orders.now)
-        × (get_or places.now i 0 < 256) × (from.0 + get_or amounts.now i 0 ≤ most_energy) }
-    ensures { (result.unit ≡ (order_at orders.now (get_or places.now i 0)).unit) × (result.from.0 ≡ from.0)
-        × (result.upto.0 ≡ from.0 + get_or amounts.now i 0) }
+fn span_at(orders: &[u64], fills: Fills, i: usize, from: Energy) -> Span
+    requires { (i < length fills.places.now) × (i < length fills.amounts.now) × (order_words * get_or fills.places.now i 0 + order_words ≤ length orders.now)
+        × (get_or fills.places.now i 0 < 256) × (from.0 + get_or fills.amounts.now i 0 ≤ most_energy) }
+    ensures { (result.unit ≡ (order_at orders.now (get_or fills.entry.places.now i 0)).unit) × (result.from.0 ≡ from.0)
+        × (result.upto.0 ≡ from.0 + get_or fills.entry.amounts.now i 0) }
 {
-    let o = crate::orders::read(orders, places[i] as usize);
-    let upto = from.plus(Energy(amounts[i]));
+    let o = crate::orders::read(orders, fills.places[i] as usize);
+    let upto = from.plus(Energy(fills.amounts[i]));
     Span {
         unit: o.unit,
         from,
@@ -63,47 +64,44 @@ pub(crate) fn put_overlaps(
     n: usize,
     period: u64,
     price: Price,
-    bids: &[u64],
-    bought: &[u64],
-    nb: usize,
-    asks: &[u64],
-    sold: &[u64],
-    na: usize,
+    bids: Fills,
+    asks: Fills,
     rows: &mut [u64],
 ) -> usize
-    requires { (order_words * n ≤ length orders.now) × (n ≤ 256) × (row_words * n ≤ length rows.old) × (nb + na ≤ n) × Filling bids.now bought.now n nb
-        × Filling asks.now sold.now n na }
+    requires { (order_words * n ≤ length orders.now) × (n ≤ 256) × (row_words * n ≤ length rows.old) × (length bids.places.now + length asks.places.now ≤ n)
+        × Filling bids.places.now bids.amounts.now n × Filling asks.places.now asks.amounts.now n }
     ensures { (rows.new ≡ written rows.old
-        (overlap_rows period price.0 (end_to_end 0 (fills_at orders.now bids.now bought.now nb))
-        (end_to_end 0 (fills_at orders.now asks.now sold.now na))))
-        × (result ≡ length (overlap_rows period price.0 (end_to_end 0 (fills_at orders.now bids.now bought.now nb))
-        (end_to_end 0 (fills_at orders.now asks.now sold.now na)))) }
+        (overlap_rows period price.0 (end_to_end 0 (fills_at orders.now bids.entry.places.now bids.entry.amounts.now))
+        (end_to_end 0 (fills_at orders.now asks.entry.places.now asks.entry.amounts.now))))
+        × (result ≡ length (overlap_rows period price.0 (end_to_end 0 (fills_at orders.now bids.entry.places.now bids.entry.amounts.now))
+        (end_to_end 0 (fills_at orders.now asks.entry.places.now asks.entry.amounts.now)))) }
 {
     let mut i: usize = 0;
     let mut j: usize = 0;
     let mut a = Energy(0);
     let mut e = Energy(0);
     let mut count: usize = 0;
-    while i < nb {
-        if j == na {
+    // two indexes, each moved by what it finds
+    while i < bids.places.len() {
+        if j == asks.places.len() {
             return count;
         }
-        let bid = span_at(orders, bids, bought, i, a);
-        let ask = span_at(orders, asks, sold, j, e);
+        let bid = span_at(orders, bids, i, a);
+        let ask = span_at(orders, asks, j, e);
         let quantity = bid.overlap(ask);
         count = put_some(
             rows,
             count,
             Row {
                 way: 3,
-                period: period,
+                period,
                 seller: ask.unit,
                 buyer: bid.unit,
-                quantity: quantity,
-                price: price,
+                quantity,
+                price,
             },
         );
-        if bid.upto.at_most(ask.upto) {
+        if bid.upto <= ask.upto {
             a = bid.upto;
             i += 1;
         } else {

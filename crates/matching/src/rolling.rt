@@ -1,14 +1,15 @@
 // Rolling matching: an incoming order meets the waiting ones (paper 01, "The eight calls", Order).
 ghost use Rattle.std.specs.Prelude.{◌≡◌, true, cond, List, [], ◌∷◌, ◌++◌, ℕ, ◌+◌, ◌-◌, ◌*◌, ◌<◌, ◌≤◌, min, length};
 ghost use Rattle.matching.specs.Orders.{Row as RowRecord, rising, numbers};
-ghost use Rattle.matching.specs.Memory.{order_words, row_words, as_order, as_row, order_at, orders_in, written};
+ghost use Rattle.matching.specs.Memory.{direction_number, order_words, row_words, as_order, as_row, order_at, orders_in, written};
 ghost use Rattle.matching.specs.Rolling.{candidate, match_row, meet};
 ghost use Rattle.matching.specs.Inner.Runs.{key_of, RunsMet, MetInTurn};
 ghost use Rattle.matching.specs.Answers.{Meets, left_over};
 
+use crate::fills::Fills;
 use crate::fitness::fits;
 use crate::laying::{First, Side};
-use crate::orders::{Matched, Order, Row};
+use crate::orders::{Direction, Matched, Order, Row};
 use crate::{laying, orders};
 use measures::Energy;
 
@@ -19,44 +20,38 @@ pub struct Meeting {
     pub count: usize,
 }
 
-// The side that an incoming order meets: opposite, of its period, and at a price that it can take.
-fn side_met(incoming: Order) -> Side
-    requires { incoming.direction < 2 }
-    ensures { (result.direction ≡ 1 - incoming.direction) × (result.period ≡ incoming.period)
-        × (result.limit ≡ key_of (1 - incoming.direction) incoming.price.0) }
+// The side that an incoming order of a direction meets: opposite, of its period, and at a price that it can take.
+fn side_met(direction: Direction, incoming: Order) -> Side
+    ensures { (direction_number result.direction ≡ 1 - direction_number direction) × (result.period ≡ incoming.period)
+        × (result.limit ≡ key_of (1 - direction_number direction) incoming.price.0) }
 {
-    let direction = 1 - incoming.direction;
+    let direction = direction.opposite();
     let limit = laying::key_of(direction, incoming.price);
     Side {
-        direction: direction,
+        direction,
         period: incoming.period,
-        limit: limit,
+        limit,
     }
 }
 
 // The row of a match with a waiting order, at the waiting order's price.
+#[tactic(auto, unfolding(crate::specs::Rolling::match_row))]
 fn match_row(incoming: Order, o: Order, x: Energy) -> Row
     ensures { as_row result ≡ match_row (as_order incoming) (record { order = as_order o; quantity = x.0 }) }
 {
     let price = o.price;
-    if incoming.direction == 1 {
-        Row {
-            way: 4,
-            period: incoming.period,
-            seller: o.unit,
-            buyer: incoming.unit,
-            quantity: x,
-            price: price,
-        }
+    let (seller, buyer) = if incoming.direction == u64::from(Direction::Buy) {
+        (o.unit, incoming.unit)
     } else {
-        Row {
-            way: 4,
-            period: incoming.period,
-            seller: incoming.unit,
-            buyer: o.unit,
-            quantity: x,
-            price: price,
-        }
+        (incoming.unit, o.unit)
+    };
+    Row {
+        way: 4,
+        period: incoming.period,
+        seller,
+        buyer,
+        quantity: x,
+        price,
     }
 }
 
@@ -75,7 +70,7 @@ fn match_at(
         ≡ written m (rs ++ (match_row (as_order incoming) (record { order = order_at orders.now p; quantity = result.0 }) ∷ []))) }
 {
     let o = orders::read(orders, p);
-    let x = left.least(o.quantity);
+    let x = left.min(o.quantity);
     orders::put_row_at(rows, count, match_row(incoming, o, x));
     x
 }
@@ -104,15 +99,14 @@ fn meet_runs(
 {
     let mut left = incoming.quantity;
     let mut count: usize = 0;
+    // its count is the answer, wherever it is left
     'meeting: while count < n {
         let mut best = First {
             run: runs,
             key: u64::MAX,
         };
-        let mut j: usize = 0;
-        while j < runs {
+        for j in 0..runs {
             best = laying::nearer(keys, heads, ends, best, j);
-            j += 1;
         }
         if best.run == runs {
             break 'meeting;
@@ -123,26 +117,24 @@ fn meet_runs(
         taken[count] = x.0;
         left = left.minus(x);
         count += 1;
-        if left.is_zero() {
+        if left == Energy(0) {
             break 'meeting;
         }
     }
-    Meeting {
-        left: left,
-        count: count,
-    }
+    Meeting { left, count }
 }
 
 // The incoming order meets the first n orders in turn.
 fn meet_in_turn(
     orders: &[u64],
     n: usize,
+    direction: Direction,
     incoming: Order,
     met: &mut [u64],
     taken: &mut [u64],
     rows: &mut [u64],
 ) -> Meeting
-    requires { (order_words * n ≤ length orders.now) × (n ≤ 256) × (rising (numbers (orders_in orders.now n)) ≡ true) × (incoming.direction < 2)
+    requires { (order_words * n ≤ length orders.now) × (n ≤ 256) × (rising (numbers (orders_in orders.now n)) ≡ true) × (incoming.direction ≡ direction_number direction)
         × (0 < incoming.quantity.0) × (n ≤ length met.old) × (n ≤ length taken.old) × (row_words * n ≤ length rows.old) }
     ensures { MetInTurn orders.now n (as_order incoming) rows.old result.left.0 result.count met.new taken.new
         rows.new }
@@ -151,7 +143,7 @@ fn meet_in_turn(
     let mut places = [0u64; 256];
     let mut heads = [0u64; 16];
     let mut ends = [0u64; 16];
-    let side = side_met(incoming);
+    let side = side_met(direction, incoming);
     let runs = laying::lay_runs(
         orders,
         n,
@@ -167,48 +159,61 @@ fn meet_in_turn(
 }
 
 // The incoming order meets the first n orders, and what was taken off them goes; an emptied order goes with it. Orders
-// that do not fit stay as they are.
-pub fn meet(orders: &mut [u64], n: usize, incoming: Order, rows: &mut [u64]) -> Matched
+// that do not fit stay as they are, and `None` is returned.
+pub fn meet(orders: &mut [u64], n: usize, incoming: Order, rows: &mut [u64]) -> Option<Matched>
     ensures { Meets orders.old rows.old n (as_order incoming) result orders.new rows.new }
 {
     if !fits(orders, n, rows) {
-        return Matched::Unfit;
+        return None;
     }
-    let quantity = incoming.quantity;
-    if incoming.direction > 1 {
-        return Matched::Done(quantity, 0, n);
-    }
-    if quantity.is_zero() {
-        return Matched::Done(quantity, 0, n);
+    let none_met = Matched {
+        left: incoming.quantity,
+        count: 0,
+        standing: n,
+    };
+    let Ok(direction) = Direction::try_from(incoming.direction) else {
+        return Some(none_met);
+    };
+    if incoming.quantity == Energy(0) {
+        return Some(none_met);
     }
     let mut met = [0u64; 256];
     let mut taken = [0u64; 256];
-    let meeting = meet_in_turn(orders, n, incoming, &mut met, &mut taken, rows);
-    let standing = crate::rests::leave_rest(orders, n, &met, &taken, meeting.count);
-    let left = meeting.left;
-    Matched::Done(left, meeting.count, standing)
+    let meeting = meet_in_turn(orders, n, direction, incoming, &mut met, &mut taken, rows);
+    let fills = Fills {
+        places: &met[..meeting.count],
+        amounts: &taken[..meeting.count],
+    };
+    let none = Fills {
+        places: &[],
+        amounts: &[],
+    };
+    let standing = crate::rests::leave_rests(orders, n, fills, none);
+    Some(Matched {
+        left: meeting.left,
+        count: meeting.count,
+        standing,
+    })
 }
 
 // Whether an incoming order can meet a waiting one.
+#[tactic(auto, unfolding(crate::specs::Rolling::candidate))]
 fn can_meet(incoming: Order, o: Order) -> bool
     ensures { result ≡ candidate (as_order incoming) (as_order o) }
 {
     if o.period != incoming.period {
         return false;
     }
-    if incoming.direction == 1 {
-        if o.direction != 0 {
-            return false;
-        }
-        return incoming.price.meets(o.price);
-    }
-    if incoming.direction != 0 {
+    let Ok(direction) = Direction::try_from(incoming.direction) else {
+        return false;
+    };
+    if o.direction != u64::from(direction.opposite()) {
         return false;
     }
-    if o.direction != 1 {
-        return false;
+    match direction {
+        Direction::Buy => incoming.price.meets(o.price),
+        Direction::Sell => o.price.meets(incoming.price),
     }
-    o.price.meets(incoming.price)
 }
 
 // What is left of `left` if the incoming order meets the one at place k too.
@@ -229,15 +234,14 @@ fn left_behind(orders: &[u64], n: usize, incoming: Order) -> Energy
     ensures { result.0 ≡ (meet (as_order incoming) (orders_in orders.now n)).left }
 {
     let mut left = incoming.quantity;
-    let mut k: usize = 0;
-    while k < n {
+    for k in 0..n {
         left = left_past(orders, k, incoming, left);
-        k += 1;
     }
     left
 }
 
 // The same for any n and any memory: all of it where no order stands there.
+#[tactic(auto, unfolding(crate::specs::Answers::left_over, crate::specs::Memory::place_in))]
 pub fn left_over(orders: &[u64], n: usize, incoming: Order) -> Energy
     ensures { result.0 ≡ left_over orders.now n (as_order incoming) }
 {

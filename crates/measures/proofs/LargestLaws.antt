@@ -1,8 +1,11 @@
 -- The k first places of the order "larger number, or equal number and lower place", found by a cut: a number t with at most k
 -- numbers above it and at least k from it on. Which cut is found does not matter.
-use Prim.Native.Nat.{ℕ, zero, suc, ◌+◌, ◌-◌, ◌≤◌, ◌<◌, min}
+use Prim.Native.Nat.{ℕ, zero, suc, ◌+◌, ◌-◌, ◌%◌, ◌≤◌, ◌<◌, min}
 use mathlib.Core.Path.{◌≡◌, refl, sym, ap, ◌∙◌}
 use mathlib.Core.Bool.{Bool, true, false, ◌&&◌, ◌||◌}
+use mathlib.Core.List.{List, [], ◌∷◌}
+use lib.ListN.{length}
+use Rattle.std.specs.List.{fold}
 use native.Mathlib.Omega.{arith}
 use native.Mathlib.Nat.{not-suc-le-zero, add-zero}
 use native.Mathlib.Numerals.{add-one}
@@ -12,7 +15,7 @@ use borrow.Author.Tests.{lt-ltb, le-ltb, le-leb, lt-leb, eq-eqb, ne_eqb, ltb-tru
 use Rattle.measures.specs.Ranges.{most_energy}
 use Rattle.measures.specs.Lists.{sum, one, count}
 use Rattle.measures.specs.Sharing.{before}
-use Rattle.measures.specs.Inner.Cuts.{reach, ties, folded, higher_below, lower_from, Cut, Edged, Between}
+use Rattle.measures.specs.Inner.Cuts.{half, rest, reach, ties, folded, higher_below, lower_from, Cut, Edged, Between}
 use Rattle.measures.proofs.ListLaws.{
   sum_none,
   sum_more,
@@ -451,3 +454,13 @@ fewer_ahead w n i j p = sum_mono n (λ a. one (before w a i)) (λ a. one (before
     at : (a : ℕ) (b : Bool) → before w a i ≡ b → one (before w a i) ≤ one (before w a j)
     at a true e = simp (before_trans w a i j e p) (one_le (before w a i))
     at a false e = simp e (omega arith)
+
+-- numbers taken in one walk along a list
+pub folded_front : (g : ℕ → ℕ → ℕ) (w : ℕ → ℕ) (b n : ℕ) → folded g w b (suc n) ≡ folded g (λ i. w (suc i)) (g b (w 0)) n
+unfolding folded
+folded_front g w b zero = refl
+folded_front g w b (suc n) = ap (λ (y : ℕ). g y (w (suc n))) (folded_front g w b n)
+
+pub folded_along : (g : ℕ → ℕ → ℕ) (b : ℕ) (m : List ℕ) → fold (λ y p. g y (p % half)) b m ≡ folded g (rest m) b (length m)
+folded_along g b [] = sym (folded_none g (rest []) b)
+folded_along g b (p ∷ m) = folded_along g (g b (p % half)) m ∙ sym (folded_front g (rest (p ∷ m)) b (length m))

@@ -5,3 +5,4 @@ pub mod SharingLaws
 pub mod SelectLaws
 pub mod FiguresHold
 pub mod LessLaws
+pub mod RefusedLaws

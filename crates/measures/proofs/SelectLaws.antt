@@ -5,10 +5,13 @@ use mathlib.Core.List.{List, ◌++◌}
 use native.Mathlib.Nat.{mul-le-mul_left, mul_comm, div-le_of_le-mul, mod-lt}
 use native.Mathlib.Omega.{arith}
 use native.Mathlib.Decide.{ℕ_discrete, dec_lt}
-use lib.ListN.{length, get_or, drop, set, length-set, length-append, length-drop, get_or-append}
-use lib.Dec.{leb, ltb}
+use lib.ListN.{length, get_or, drop, take, set, length-set, length-append, length-drop, get_or-append}
+use lib.Dec.{leb, ltb, eqb}
 use lib.Seq.{ext_get_or, get_or-set_same, get_or-set_other, get_or-drop, get_or-append-add}
 use borrow.Author.Tests.{le-leb, lt-leb}
+use borrow.Rule.Slice.PartMut.{put_mid}
+use Rattle.std.proofs.Common.{rules}
+use Rattle.std.proofs.lemmas.List.{places}
 use Rattle.measures.specs.Ranges.{most_energy}
 use Rattle.measures.specs.Lists.{sum, one, count}
 use Rattle.measures.specs.Sharing.{total, rounded, fraction, before, ahead, part, parts}
@@ -111,6 +114,48 @@ pub settled-more : (i e x : ℕ) (m m' : List ℕ) (v : ℕ) → i ≤ e → e <
 settled-more i e x m m' v o l w q =
     written-more i e (settled x m) m m' v o l w (q ∙ ap (λ (a : ℕ). a / half + one (leb x (a % half))) (w.past e (omega arith)))
 
+-- a run written in its place
+pub placed : (a k e : ℕ) (f : ℕ → ℕ) (m p : List ℕ) → e ≡ a + k → e ≤ length m → length p ≡ k → ((j : ℕ) → j < k → get_or p j 0 ≡ f (a + j))
+    → Written a e f m (put_mid a k m p)
+placed a k e f m p o r l h = record {
+  before = λ j i. search (rules, places);
+  each = λ j i u.
+      let q : j ≡ a + (j - a) = omega arith in
+      let z : get_or (put_mid a k m p) (a + (j - a)) 0 ≡ get_or p (j - a) 0 = search (rules, places) in
+      ap (λ (i : ℕ). get_or (put_mid a k m p) i 0) q ∙ z ∙ h (j - a) (omega arith) ∙ ap f (sym q);
+  past = λ j i. search (rules, places);
+}
+
+-- the first n numbers of a list as a list of their own
+module _ (m : List ℕ) (n : ℕ) (h : n ≤ length m) where
+  pub front-length : length (take n m) ≡ n
+  front-length = search (rules, places)
+
+  front_rest : (i : ℕ) → i < n → rest (take n m) i ≡ rest m i
+  front_rest i l =
+      let z : get_or (take n m) i 0 ≡ get_or m i 0 = search (rules, places) in
+      ap (λ (x : ℕ). x % half) z
+
+  pub front_reach : (x : ℕ) → reach (rest (take n m)) (length (take n m)) x ≡ reach (rest m) n x
+  unfolding reach
+  front_reach x =
+      rw front-length (sum_ext n (λ i. one (leb x (rest (take n m) i))) (λ i. one (leb x (rest m i))) (λ i l. ap (λ (y : ℕ). one (leb x y)) (front_rest i l)))
+
+  pub front_ties : (e x : ℕ) → e ≤ n → ties (rest (take n m)) e x ≡ ties (rest m) e x
+  unfolding ties
+  front_ties e x l =
+      sum_ext e (λ i. one (eqb (rest (take n m) i) x)) (λ i. one (eqb (rest m i) x))
+      (λ i k. ap (λ (y : ℕ). one (eqb y x)) (front_rest i (omega arith)))
+
+  pub front_edged : (k t above : ℕ) → Edged (rest (take n m)) (length (take n m)) k t above → Edged (rest m) n k t above
+  front_edged k t above u = record {
+    cut = record {
+      above = rw (front_reach (t + 1)) at u.cut.above;
+      from = rw (front_reach t) at u.cut.from;
+    };
+    count = rw (front_reach (t + 1)) at u.count;
+  }
+
 -- `write_parts`
 module _ (d R k : ℕ) (rs m₀ m : List ℕ) (s : Shareable d R rs m₀) (v : Divided d rs m₀ m k) where
   some : 0 < total rs
@@ -170,3 +215,33 @@ module _ (d R k : ℕ) (rs m₀ m : List ℕ) (s : Shareable d R rs m₀) (v : D
         let q = parts-length d rs in
         let z : Written 0 (length (parts d rs)) (λ j. get_or (parts d rs) j 0) m₀ m₂ = rw q w in
         written_is (parts d rs) m₀ m₂ (omega (arith, s.room)) same z ∙ ap (λ (n : ℕ). parts d rs ++ drop n m₀) q
+
+  module _ (same : length m ≡ length m₀) where
+    -- the same from the two runs that the steps leave, each in its place
+    pub settled_in_place : (t above e : ℕ) (p q : List ℕ) → Edged (rest (take (length rs) m)) (length (take (length rs) m)) k t above
+        → e ≤ length (take (length rs) m) → ties (rest (take (length rs) m)) e t ≡ k - above
+        → length p ≡ length (take e m) → Written 0 (length (take e m)) (settled t (take e m)) (take e m) p
+        → length q ≡ length (take (length rs - e) (drop e (p ++ drop e m)))
+        → Written 0 (length (take (length rs - e) (drop e (p ++ drop e m)))) (settled (t + 1) (take (length rs - e) (drop e (p ++ drop e m))))
+        (take (length rs - e) (drop e (p ++ drop e m))) q
+        → put_mid e (length rs - e) (p ++ drop e m) q ≡ parts d rs ++ drop (length rs) m₀
+    settled_in_place t above e p q u o f lp x lq y =
+        let room : length rs ≤ length m = omega (arith, same, s.room) in
+        let inside : e ≤ length rs = omega (arith, front-length m (length rs) room) in
+        let lp' : length p ≡ e = lp ∙ front-length m e (omega arith) in
+        let m₁ = p ++ drop e m in
+        let l₁ : length m₁ ≡ length m = search (rules, places) in
+        let lq' : length q ≡ length rs - e = lq ∙ front-length (drop e m₁) (length rs - e) (omega (arith, length-drop e m₁)) in
+        let chosen = sym (front_ties m (length rs) room e t inside) ∙ f in
+        let x' : Written 0 e (settled t m) m m₁ =
+        placed 0 e e (settled t m) m p (omega arith) (omega arith) lp'
+        (λ j h.
+        let z : get_or (take e m) j 0 ≡ get_or m (0 + j) 0 = search (rules, places) in
+        x.each j zero-le (omega arith) ∙ ap (λ (a : ℕ). a / half + one (leb t (a % half))) z) in
+        let y' : Written e (length rs) (settled (t + 1) m₁) m₁ (put_mid e (length rs - e) m₁ q) =
+        placed e (length rs - e) (length rs) (settled (t + 1) m₁) m₁ q (omega arith) (omega arith) lq'
+        (λ j h.
+        let z : get_or (take (length rs - e) (drop e m₁)) j 0 ≡ get_or m₁ (e + j) 0 = search (rules, places) in
+        y.each j zero-le (omega arith) ∙ ap (λ (a : ℕ). a / half + one (leb (t + 1) (a % half))) z) in
+        settled-parts t above e m₁ (put_mid e (length rs - e) m₁ q) (front_edged m (length rs) room k t above u) inside chosen x' y'
+        (search (rules, places))

@@ -1,5 +1,6 @@
 pub mod Ranges
 pub mod Lists
 pub mod Sharing
+pub mod Refused
 pub mod Figures
 pub mod Inner

@@ -1,18 +1,22 @@
 // Energy and price, and sharing an amount: paper 01, "Units of measure and the book" and "Sharing an amount".
 #![tactic(auto)]
 
+mod refusals;
 mod sharing;
 
 ghost use Rattle.std.specs.Prelude.{◌≡◌, ◌+◌, ◌*◌, ◌-◌, ◌/◌, min, max, leb, ltb, eqb};
 ghost use Rattle.measures.specs.Ranges.{most_energy, most_price, most_number};
 ghost use Rattle.measures.specs.Sharing.{total, less_each, sharing, Is};
+ghost use Rattle.measures.specs.Refused.{refusal_of};
+
+pub use refusals::{Refusal, refusal_number};
 
 // Energy in whole kWh.
-#[derive(Clone, Copy)]
+#[derive(Clone, Copy, Debug, PartialEq, Eq, PartialOrd, Ord)]
 pub struct Energy(pub u64);
 
 // Price in thousandths of a yuan per MWh.
-#[derive(Clone, Copy)]
+#[derive(Clone, Copy, Debug, PartialEq, Eq, PartialOrd, Ord)]
 pub struct Price(pub u64);
 
 impl Energy {
@@ -26,72 +30,34 @@ impl Energy {
         self.0 <= Energy::MOST
     }
 
-    // The number of kWh, for those who call from another language.
-    pub fn kwh(self) -> u64
-        ensures { result ≡ self.0 }
-    {
-        self.0
-    }
-
     // Six fifths of this, rounded down; of anything above Energy::MOST, six fifths of Energy::MOST.
     pub fn six_fifths(self) -> Energy
         ensures { result.0 ≡ min self.0 most_energy * 6 / 5 }
     {
-        if self.0 < Energy::MOST {
-            Energy(self.0 * 6 / 5)
-        } else {
-            Energy(Energy::MOST * 6 / 5)
-        }
-    }
-
-    // The smaller of two amounts.
-    pub fn least(self, other: Energy) -> Energy
-        ensures { result.0 ≡ min self.0 other.0 }
-    {
-        if self.0 < other.0 { self } else { other }
-    }
-
-    // The larger of two amounts.
-    pub fn greatest(self, other: Energy) -> Energy
-        ensures { result.0 ≡ max self.0 other.0 }
-    {
-        if other.0 < self.0 { self } else { other }
+        Energy(self.0.min(Energy::MOST) * 6 / 5)
     }
 
     // Both amounts together; at most the largest number.
     pub fn plus(self, other: Energy) -> Energy
         ensures { result.0 ≡ min (self.0 + other.0) most_number }
     {
-        if u64::MAX - self.0 < other.0 {
-            Energy(u64::MAX)
-        } else {
-            Energy(self.0 + other.0)
-        }
+        Energy(self.0.saturating_add(other.0))
     }
 
     // What is left of this when `other` is taken off: nothing, where that is more.
     pub fn minus(self, other: Energy) -> Energy
         ensures { result.0 ≡ self.0 - other.0 }
     {
-        if self.0 < other.0 {
-            Energy(0)
-        } else {
-            Energy(self.0 - other.0)
-        }
+        Energy(self.0.saturating_sub(other.0))
     }
+}
 
-    // Whether this is no more than `other`.
-    pub fn at_most(self, other: Energy) -> bool
-        ensures { result ≡ leb self.0 other.0 }
-    {
-        self.0 <= other.0
-    }
+// The number of kWh.
+impl From<Energy> for u64 {
+    ghost from_gives = { λ energy kwh. kwh ≡ energy.0 };
 
-    // Whether this is nothing.
-    pub fn is_zero(self) -> bool
-        ensures { result ≡ eqb self.0 0 }
-    {
-        self.0 == 0
+    fn from(energy: Energy) -> u64 {
+        energy.0
     }
 }
 
@@ -110,21 +76,7 @@ impl Price {
     pub fn meets(self, sale: Price) -> bool
         ensures { result ≡ leb sale.0 self.0 }
     {
-        sale.0 <= self.0
-    }
-
-    // Whether this price is lower than `other`.
-    pub fn below(self, other: Price) -> bool
-        ensures { result ≡ ltb self.0 other.0 }
-    {
-        self.0 < other.0
-    }
-
-    // Whether the two prices are the same.
-    pub fn equals(self, other: Price) -> bool
-        ensures { result ≡ eqb self.0 other.0 }
-    {
-        self.0 == other.0
+        sale <= self
     }
 
     // The price between a bid at this price and an ask, rounded up.
@@ -138,71 +90,54 @@ impl Price {
     pub fn next(self) -> Price
         ensures { result.0 ≡ min (self.0 + 1) most_number }
     {
-        if self.0 == u64::MAX {
-            return self;
-        }
-        Price(self.0 + 1)
+        Price(self.0.saturating_add(1))
     }
 }
 
 // The sum of the amounts, or one more than Energy::MOST where it is more than that.
-fn capped_total(amounts: &[u64]) -> u64
-    ensures { result ≡ min (total amounts.now) (most_energy + 1) }
+pub fn capped_total(amounts: &[u64]) -> Energy
+    ensures { result.0 ≡ min (total amounts.now) (most_energy + 1) }
 {
     let mut sum: u64 = 0;
-    let mut i = 0;
-    while i < amounts.len() {
-        let r = amounts[i];
-        if r > Energy::MOST - sum {
-            return Energy::MOST + 1;
+    for r in amounts {
+        if *r > Energy::MOST - sum {
+            return Energy(Energy::MOST + 1);
         }
-        sum += r;
-        i += 1;
+        sum += *r;
     }
-    sum
+    Energy(sum)
 }
 
 // Shares an amount over the remaining amounts, into the first parts: 7 where fewer parts than amounts are lent, 9 where
 // the amount is 0 or above the remaining amounts' sum, or that sum above Energy::MOST, and 0 where the parts are written.
 // A refusal changes nothing.
-pub fn share(amount: Energy, amounts: &[u64], parts: &mut [u64]) -> u64
-    ensures { Is (sharing amount.0 amounts.now parts.old) result parts.new }
+#[tactic(auto, using(crate::proofs::SharingLaws::ways_out))]
+pub fn share(amount: Energy, amounts: &[u64], parts: &mut [u64]) -> Result<(), Refusal>
+    ensures { Is (sharing amount.0 amounts.now parts.old) (refusal_of result) parts.new }
 {
-    let d = amount.0;
     if parts.len() < amounts.len() {
-        return 7;
+        return Err(Refusal::FewRows);
     }
-    if d == 0 {
-        return 9;
+    if amount == Energy(0) {
+        return Err(Refusal::BadEnergy);
     }
     let whole = capped_total(amounts);
-    if Energy::MOST < whole {
-        return 9;
+    if !whole.in_range() {
+        return Err(Refusal::BadEnergy);
     }
-    if whole < d {
-        return 9;
+    if whole < amount {
+        return Err(Refusal::BadEnergy);
     }
-    crate::sharing::write_parts(d, whole, amounts, parts);
-    0
-}
-
-// The lesser of two counts.
-fn fewer(a: usize, b: usize) -> usize
-    ensures { result ≡ min a b }
-{
-    if b < a { b } else { a }
+    crate::sharing::write_parts(amount.0, whole.0, amounts, parts);
+    Ok(())
 }
 
 // Leaves each amount less its part, where it stands: nothing, where that is more. Amounts without a part stay.
 pub fn take_off(amounts: &mut [u64], parts: &[u64])
     ensures { amounts.new ≡ less_each amounts.old parts.now }
 {
-    let n = fewer(amounts.len(), parts.len());
-    let mut i = 0;
-    while i < n {
-        let left = Energy(amounts[i]).minus(Energy(parts[i]));
-        amounts[i] = left.0;
-        i += 1;
+    for i in 0..amounts.len().min(parts.len()) {
+        amounts[i] = amounts[i].saturating_sub(parts[i]);
     }
 }
 
@@ -211,5 +146,5 @@ pub fn take_off(amounts: &mut [u64], parts: &[u64])
 pub extern "C" fn cenduxari_share(amount: u64, amounts: &[u64], parts: &mut [u64]) -> u64
     ensures { Is (sharing amount amounts.now parts.old) result parts.new }
 {
-    share(Energy(amount), amounts, parts)
+    refusal_number(&share(Energy(amount), amounts, parts))
 }

@@ -1,6 +1,6 @@
 // The parts of an amount: each place's share rounded down, and the kWh left over one each to the largest fractions (paper 02, job 14).
 // A rounded part and its fraction stand in one number while the largest fractions are looked for, so that no list is needed beside the parts.
-ghost use Rattle.std.specs.Prelude.{◌≡◌, ◌++◌, ◌+◌, ◌*◌, ◌-◌, ◌/◌, ◌≤◌, ◌<◌, leb, eqb, length, drop};
+ghost use Rattle.std.specs.Prelude.{◌≡◌, ◌++◌, ◌+◌, ◌*◌, ◌-◌, ◌/◌, ◌≤◌, ◌<◌, leb, ltb, eqb, true, false, ◌&&◌, length, drop, fold, ◌%◌};
 ghost use Rattle.measures.specs.Ranges.{most_energy};
 ghost use Rattle.measures.specs.Lists.{one};
 ghost use Rattle.measures.specs.Sharing.{parts as parts_of};
@@ -17,6 +17,7 @@ ghost use Rattle.measures.specs.Inner.Cuts.{
   Divided,
   Between,
   Edged,
+  Nearer,
   settled,
 };
 
@@ -28,15 +29,19 @@ const HALF: u64 = 4_294_967_296;
 // How many turns look by proportion, before the others halve.
 const QUICK: u64 = 8;
 
-// Where the search for the largest fractions stands: they end from `low` to below `high`, `from` fractions are `low` or more, and
-// `above` are `high` or more. `next` is where to look next, if it lies between the two.
+// Where the search for the largest fractions stands: the `wanted` largest end from `low` to below `high`, `from` fractions are `low`
+// or more, and `above` are `high` or more. `next` is where to look next, if it lies between the two.
 #[derive(Clone, Copy)]
-struct Bracket {
+struct Search<'a> {
+    parts: &'a [u64],
+    wanted: u64,
     low: u64,
     high: u64,
     above: u64,
     from: u64,
-    next: u64,
+    next: Option<u64>,
+    ghost between: { Between (rest parts.now) (length parts.now) wanted low high above from },
+    ghost few: { wanted ≤ most_energy },
 }
 
 // Where the fractions that get one kWh more end: `above` of them lie above `at`.
@@ -52,14 +57,11 @@ fn divide(d: u64, whole: u64, amounts: &[u64], parts: &mut [u64]) -> u64
     ensures { Divided d amounts.now parts.old parts.new result }
 {
     let mut left = d;
-    let mut i = 0;
-    while i < amounts.len() {
-        let product = d * amounts[i];
+    for (i, r) in amounts.iter().enumerate() {
+        let product = d * *r;
         let quotient = product / whole;
-        let fraction = product % whole;
-        parts[i] = quotient * HALF + fraction;
+        parts[i] = quotient * HALF + product % whole;
         left -= quotient;
-        i += 1;
     }
     left
 }
@@ -72,17 +74,14 @@ fn reaches(m: u64, fraction: u64) -> u64
     (fraction + (HALF - m)) / HALF
 }
 
-// How many of the first n fractions are m or more.
-fn reaching(parts: &[u64], n: usize, m: u64) -> u64
-    requires { (n ≤ length parts.now) × (m ≤ half) }
-    ensures { result ≡ reach (rest parts.now) n m }
+// How many fractions are m or more.
+fn reaching(parts: &[u64], m: u64) -> u64
+    requires { m ≤ half }
+    ensures { result ≡ reach (rest parts.now) (length parts.now) m }
 {
     let mut count: u64 = 0;
-    let mut i = 0;
-    while i < n {
-        let fraction = parts[i] % HALF;
-        count += reaches(m, fraction);
-        i += 1;
+    for part in parts {
+        count += reaches(m, *part % HALF);
     }
     count
 }
@@ -92,24 +91,18 @@ fn higher(m: u64, best: u64, fraction: u64) -> u64
     ensures { result ≡ higher_below m best fraction }
 {
     if fraction < m {
-        return Energy(fraction).greatest(Energy(best)).0;
+        return fraction.max(best);
     }
     best
 }
 
 // The largest of `low` and the fractions below m.
-fn highest(parts: &[u64], n: usize, m: u64, low: u64) -> u64
-    requires { n ≤ length parts.now }
-    ensures { result ≡ folded (higher_below m) (rest parts.now) low n }
+fn highest(parts: &[u64], m: u64, low: u64) -> u64
+    ensures { result ≡ fold (λ best part. higher_below m best (part % half)) low parts.now }
 {
-    let mut best = low;
-    let mut i = 0;
-    while i < n {
-        let fraction = parts[i] % HALF;
-        best = higher(m, best, fraction);
-        i += 1;
-    }
-    best
+    parts
+        .iter()
+        .fold(low, |best, part| higher(m, best, *part % HALF))
 }
 
 // The smaller of `best` and a fraction, if that is m or more.
@@ -119,22 +112,16 @@ fn lower(m: u64, best: u64, fraction: u64) -> u64
     if fraction < m {
         return best;
     }
-    Energy(fraction).least(Energy(best)).0
+    fraction.min(best)
 }
 
 // The smallest of `high` and the fractions from m on.
-fn lowest(parts: &[u64], n: usize, m: u64, high: u64) -> u64
-    requires { n ≤ length parts.now }
-    ensures { result ≡ folded (lower_from m) (rest parts.now) high n }
+fn lowest(parts: &[u64], m: u64, high: u64) -> u64
+    ensures { result ≡ fold (λ best part. lower_from m best (part % half)) high parts.now }
 {
-    let mut best = high;
-    let mut i = 0;
-    while i < n {
-        let fraction = parts[i] % HALF;
-        best = lower(m, best, fraction);
-        i += 1;
-    }
-    best
+    parts
+        .iter()
+        .fold(high, |best, part| lower(m, best, *part % HALF))
 }
 
 // How far below the upper bound to look: by proportion while `quick` turns are left, then half way. Any place between the bounds will
@@ -153,170 +140,153 @@ fn step(width: u64, wanted: u64, among: u64, quick: u64) -> u64
     if far < width { far } else { width - 1 }
 }
 
-// Where to look next for the end of the k largest fractions.
-fn look(b: Bracket, k: u64, quick: u64) -> u64
-    requires { (b.low + 2 ≤ b.high) × (b.high ≤ most_energy) × (b.above < k) × (k ≤ b.from) × (k ≤ most_energy) }
-    ensures { (b.low < result) × (result < b.high) }
-{
-    if b.low < b.next {
-        if b.next < b.high {
-            return b.next;
+impl<'a> Search<'a> {
+    // Where to look next.
+    fn look(&self, quick: u64) -> u64
+        requires { (self.now.low + 2 ≤ self.now.high) × (self.now.above < self.now.wanted) }
+        ensures { (self.now.low < result) × (result < self.now.high) }
+    {
+        if let Some(next) = self.next {
+            if self.low < next && next < self.high {
+                return next;
+            }
+        }
+        self.high
+            - step(
+                self.high - self.low,
+                self.wanted - self.above,
+                self.from - self.above,
+                quick,
+            )
+    }
+
+    // The same search between other bounds.
+    fn moved(&self, low: u64, high: u64, above: u64, from: u64, next: Option<u64>) -> Search<'a>
+        requires { Between (rest self.now.parts.now) (length self.now.parts.now) self.now.wanted low high above from }
+        ensures { (result.parts.now ≡ self.now.parts.now) × (result.wanted ≡ self.now.wanted) × (result.low ≡ low) × (result.high ≡ high) }
+    {
+        Search {
+            parts: self.parts,
+            wanted: self.wanted,
+            low,
+            high,
+            above,
+            from,
+            next,
         }
     }
-    b.high - step(b.high - b.low, k - b.above, b.from - b.above, quick)
+
+    // `raised` and `lowered` are mirror images: one method with a flag for the bound that moves would be no plainer.
+    // The lower bound is m, which `count` fractions reach; where the bound before parts no fraction from them, the smallest of them.
+    fn raised(&self, m: u64, count: u64) -> Search<'a>
+        requires { (self.now.low < m) × (m < self.now.high) × (count ≡ reach (rest self.now.parts.now) (length self.now.parts.now) m) × (self.now.wanted < count) }
+        ensures { Nearer self.now.parts.now self.now.wanted self.now.low self.now.high result.parts.now result.wanted result.low result.high }
+    {
+        if count < self.from || self.high - m < 2 {
+            return self.moved(m, self.high, self.above, count, None);
+        }
+        let low = lowest(self.parts, m, self.high);
+        self.moved(low, self.high, self.above, count, Some(low + 1))
+    }
+
+    // The upper bound is m, which `count` fractions reach; where as many reach the bound before, one more than the largest fraction
+    // below m.
+    fn lowered(&self, m: u64, count: u64) -> Search<'a>
+        requires { (self.now.low < m) × (m < self.now.high) × (count ≡ reach (rest self.now.parts.now) (length self.now.parts.now) m) × (count ≤ self.now.wanted) }
+        ensures { Nearer self.now.parts.now self.now.wanted self.now.low self.now.high result.parts.now result.wanted result.low result.high }
+    {
+        if self.above < count || m - self.low < 2 {
+            return self.moved(self.low, m, count, self.from, None);
+        }
+        let best = highest(self.parts, m, self.low);
+        self.moved(self.low, best + 1, count, self.from, Some(best))
+    }
+
+    // Whether the end is still looked for.
+    fn is_open(&self) -> bool
+        ensures { result ≡ (ltb self.now.above self.now.wanted && leb 2 (self.now.high - self.now.low)) }
+    {
+        self.above < self.wanted && 2 <= self.high - self.low
+    }
+
+    // The search, one look further.
+    fn narrowed(&self, quick: u64) -> Search<'a>
+        requires { (ltb self.now.above self.now.wanted && leb 2 (self.now.high - self.now.low)) ≡ true }
+        ensures { Nearer self.now.parts.now self.now.wanted self.now.low self.now.high result.parts.now result.wanted result.low result.high }
+    {
+        let m = self.look(quick);
+        let count = reaching(self.parts, m);
+        if self.wanted < count {
+            return self.raised(m, count);
+        }
+        self.lowered(m, count)
+    }
+
+    // Where the fractions that were looked for end.
+    fn edge(&self) -> Edge
+        requires { (ltb self.now.above self.now.wanted && leb 2 (self.now.high - self.now.low)) ≡ false }
+        ensures { Edged (rest self.now.parts.now) (length self.now.parts.now) self.now.wanted result.at result.above × (result.at < most_energy) }
+    {
+        if self.above < self.wanted {
+            return Edge {
+                at: self.low,
+                above: self.above,
+            };
+        }
+        Edge {
+            at: self.high - 1,
+            above: self.above,
+        }
+    }
 }
 
-// The lower bound is m, which `count` fractions reach; where the bound before parts no fraction from them, the smallest of them.
-fn raise(parts: &[u64], n: usize, k: u64, b: Bracket, m: u64, count: u64) -> Bracket
-    requires { (n ≤ length parts.now) × Between (rest parts.now) n k b.low b.high b.above b.from × (b.low < m) × (m < b.high)
-        × (count ≡ reach (rest parts.now) n m) × (k < count) }
-    ensures { Between (rest parts.now) n k result.low result.high result.above result.from × (result.high - result.low < b.high - b.low) }
+// Where the k largest fractions end; each of them is below `whole`. It looks first at the fractions' mean.
+fn find_edge(parts: &[u64], whole: u64, k: u64) -> Edge
+    requires { (0 < whole) × (whole ≤ most_energy) × (k ≤ length parts.now) × (k ≤ most_energy) × (reach (rest parts.now) (length parts.now) whole ≡ 0) }
+    ensures { Edged (rest parts.now) (length parts.now) k result.at result.above × (result.at < most_energy) }
 {
-    let high = b.high;
-    let above = b.above;
-    let at_m = Bracket {
-        low: m,
-        high,
-        above,
-        from: count,
-        next: 0,
-    };
-    if count < b.from {
-        return at_m;
-    }
-    if high - m < 2 {
-        return at_m;
-    }
-    let low = lowest(parts, n, m, high);
-    Bracket {
-        low,
-        high,
-        above,
-        from: count,
-        next: low + 1,
-    }
-}
-
-// The upper bound is m, which `count` fractions reach; where as many reach the bound before, one more than the largest fraction below m.
-fn sink(parts: &[u64], n: usize, k: u64, b: Bracket, m: u64, count: u64) -> Bracket
-    requires { (n ≤ length parts.now) × Between (rest parts.now) n k b.low b.high b.above b.from × (b.low < m) × (m < b.high)
-        × (count ≡ reach (rest parts.now) n m) × (count ≤ k) }
-    ensures { Between (rest parts.now) n k result.low result.high result.above result.from × (result.high - result.low < b.high - b.low) }
-{
-    let low = b.low;
-    let from = b.from;
-    let at_m = Bracket {
-        low,
-        high: m,
-        above: count,
-        from,
-        next: 0,
-    };
-    if b.above < count {
-        return at_m;
-    }
-    if m - low < 2 {
-        return at_m;
-    }
-    let best = highest(parts, n, m, low);
-    Bracket {
-        low,
-        high: best + 1,
-        above: count,
-        from,
-        next: best,
-    }
-}
-
-// The search, after it has looked at m.
-fn narrow(parts: &[u64], n: usize, k: u64, b: Bracket, m: u64) -> Bracket
-    requires { (n ≤ length parts.now) × Between (rest parts.now) n k b.low b.high b.above b.from × (b.low < m) × (m < b.high) }
-    ensures { Between (rest parts.now) n k result.low result.high result.above result.from × (result.high - result.low < b.high - b.low) }
-{
-    let count = reaching(parts, n, m);
-    if k < count {
-        return raise(parts, n, k, b, m, count);
-    }
-    sink(parts, n, k, b, m, count)
-}
-
-// One less, or 0.
-fn less(x: u64) -> u64
-    ensures { result ≡ x - 1 }
-{
-    if x == 0 { 0 } else { x - 1 }
-}
-
-// Where the k largest of the first n fractions end; each of them is below `whole`. It looks first at the fractions' mean.
-fn find_edge(parts: &[u64], n: usize, whole: u64, k: u64) -> Edge
-    requires { (n ≤ length parts.now) × (0 < whole) × (whole ≤ most_energy) × (k ≤ n) × (k ≤ most_energy) × (reach (rest parts.now) n whole ≡ 0) }
-    ensures { Edged (rest parts.now) n k result.at result.above × (result.at < most_energy) }
-{
-    if k == 0 {
-        return Edge {
-            at: whole - 1,
-            above: 0,
-        };
-    }
-    let all = n as u64;
-    let mut b = Bracket {
+    let all = parts.len() as u64;
+    let mut search = Search {
+        parts,
+        wanted: k,
         low: 0,
         high: whole,
         above: 0,
         from: all,
-        next: whole * k / all,
+        next: (whole * k).checked_div(all),
     };
     let mut quick = QUICK;
-    while b.above < k {
-        if b.high - b.low < 2 {
-            return Edge {
-                at: b.low,
-                above: b.above,
-            };
-        }
-        let m = look(b, k, quick);
-        b = narrow(parts, n, k, b, m);
-        quick = less(quick);
+    while search.is_open() {
+        search = search.narrowed(quick);
+        quick = quick.saturating_sub(1);
     }
-    Edge {
-        at: b.high - 1,
-        above: b.above,
-    }
-}
-
-// 1 where two fractions are the same, else 0.
-fn same(a: u64, b: u64) -> u64
-    ensures { result ≡ one (eqb a b) }
-{
-    if a == b { 1 } else { 0 }
+    search.edge()
 }
 
 // The place behind the first `wanted` fractions that are `at`.
-fn ties_end(parts: &[u64], n: usize, at: u64, wanted: u64) -> usize
-    requires { (n ≤ length parts.now) × (wanted ≤ ties (rest parts.now) n at) }
-    ensures { (result ≤ n) × (ties (rest parts.now) result at ≡ wanted) }
+fn ties_end(parts: &[u64], at: u64, wanted: u64) -> usize
+    requires { wanted ≤ ties (rest parts.now) (length parts.now) at }
+    ensures { (result ≤ length parts.now) × (ties (rest parts.now) result at ≡ wanted) }
 {
     let mut left = wanted;
-    let mut i = 0;
-    while 0 < left {
-        let fraction = parts[i] % HALF;
-        left -= same(fraction, at);
-        i += 1;
+    for (i, part) in parts.iter().enumerate() {
+        if left == 0 {
+            return i;
+        }
+        if *part % HALF == at {
+            left -= 1;
+        }
     }
-    i
+    parts.len()
 }
 
-// Leaves the rounded parts from place `start` to before place `end`, and one more where the fraction is m or more.
-fn settle(parts: &mut [u64], start: usize, end: usize, m: u64)
-    requires { (start ≤ end) × (end ≤ length parts.old) × (m ≤ half) }
-    ensures { Written start end (settled m parts.old) parts.old parts.new }
+// Leaves the rounded parts, and one more where the fraction is m or more.
+fn settle(parts: &mut [u64], m: u64)
+    requires { m ≤ half }
+    ensures { Written 0 (length parts.old) (settled m parts.old) parts.old parts.new }
 {
-    let mut i = start;
-    while i < end {
-        let number = parts[i];
-        let fraction = number % HALF;
-        parts[i] = number / HALF + reaches(m, fraction);
-        i += 1;
+    for part in parts.iter_mut() {
+        *part = *part / HALF + reaches(m, *part % HALF);
     }
 }
 
@@ -327,10 +297,8 @@ pub(crate) fn write_parts(d: u64, whole: u64, amounts: &[u64], parts: &mut [u64]
 {
     let n = amounts.len();
     let odd = divide(d, whole, amounts, parts);
-    let edge = find_edge(parts, n, whole, odd);
-    let at = edge.at;
-    let next = at + 1;
-    let end = ties_end(parts, n, at, odd - edge.above);
-    settle(parts, 0, end, at);
-    settle(parts, end, n, next);
+    let edge = find_edge(&parts[..n], whole, odd);
+    let end = ties_end(&parts[..n], edge.at, odd - edge.above);
+    settle(&mut parts[..end], edge.at);
+    settle(&mut parts[end..n], edge.at + 1);
 }

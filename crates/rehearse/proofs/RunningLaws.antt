@@ -1,11 +1,18 @@
 -- Laws of steps one behind the other.
-use Prim.Native.Nat.{ℕ, ◌+◌, ◌-◌, ◌≤◌, ◌<◌}
-use mathlib.Core.Path.{◌≡◌, refl, ap, ◌∙◌}
-use mathlib.Core.Bool.{Bool}
-use mathlib.Core.List.{List, [], ◌++◌, append_assoc, append-nil}
+use Prim.Native.Nat.{ℕ, ◌-◌, ◌<◌}
+use mathlib.Core.Path.{◌≡◌, refl, sym, ◌∙◌}
+use mathlib.Core.Bool.{Bool, true, false}
+use mathlib.Core.List.{List, [], ◌∷◌, ◌++◌, append_assoc, append-nil}
 use native.Mathlib.Omega.{arith}
+use borrow.Author.Tests.{eqb-true}
+use lib.Dec.{eqb}
 use lib.ListN.{length, take, drop, length-drop}
-use lib.Seq.{take_all, take-add}
+use lib.Seq.{take_all}
+use Rattle.std.proofs.lemmas.List.{take-append-drop}
+use Rattle.std.specs.Prelude.{Option, Some, None, Result, Ok, Err, OnOk}
+use Rattle.std.specs.Result.{result_and}
+use Rattle.std.specs.Io.KnownBytes.{Consumes, Appends, IsAtEnd}
+use Rattle.measures.proofs.ListLaws.{both_ways}
 use Rattle.lines.specs.declared.steps.Desk.{Desk}
 use Rattle.lines.specs.Stepping.{State, state, fresh_desk, Stepped, Ended}
 use Rattle.lines.specs.EveryLine.{Steps, no_step, next_step, Run}
@@ -19,58 +26,129 @@ steps_join {i = i} {t = t} f no_step = rw (append-nil i, append-nil t) f
 steps_join {i = i} {t = t} f (next_step {input = j} {text = u} bytes used line g p) =
     rw (← append_assoc i j (take used bytes), ← append_assoc t u line) (next_step bytes used line (steps_join f g) p)
 
--- passing a piece: its first bytes are passed
-pub record Passing (s : State) (piece : List ℕ) (from : ℕ) (s' : State) : Type 0 where
-  pub within : from ≤ length piece
-  pub passed : Passed s (take from piece) s'
+-- bytes of an input behind bytes, and of an output
+reads_none : (i : Option (List ℕ)) → Consumes i i []
+reads_none None = tt
+reads_none (Some xs) = refl
 
-pub passing_none : (s : State) (piece : List ℕ) → Passing s piece 0 s
-passing_none s piece = record { within = omega arith; passed = record { text = []; steps = no_step } }
+reads_both : (a b c : Option (List ℕ)) (s t : List ℕ) → Consumes a b s → Consumes b c t → Consumes a c (s ++ t)
+reads_both None b c s t f g = tt
+reads_both (Some xs) None c s t f g = absurd f
+reads_both (Some xs) (Some ys) None s t f g = absurd g
+reads_both (Some xs) (Some ys) (Some zs) s t f g = f ∙ rw g (sym (append_assoc s t zs))
 
-pub passing_more : (s : State) (piece : List ℕ) (from : ℕ) (s₁ : State) (bytes : List ℕ) (s₂ : State) (used : ℕ) (t : List ℕ)
-    → Passing s piece from s₁ → bytes ≡ drop from piece → Stepped s₁ bytes s₂ used t → Passing s piece (from + used) s₂
-passing_more s piece from s₁ bytes s₂ used t f e p =
-    let w = f.within in
-    let u = used_within s₁ bytes s₂ used t p in
-    let l = ap length e ∙ length-drop from piece in
-    let q : take (from + used) piece ≡ take from piece ++ take used bytes = rw e (take-add from used piece) in
-    record {
-      within = omega arith;
-      passed = rw q (record { text = f.passed.text ++ t; steps = next_step bytes used t f.passed.steps p });
-    }
+writes_none : (o : Option (List ℕ)) → Appends o o []
+writes_none None = tt
+writes_none (Some xs) = sym (append-nil xs)
 
-pub passing_all : (s : State) (piece : List ℕ) (from : ℕ) (s' : State) → Passing s piece from s' → length piece ≤ from → Passed s piece s'
-passing_all s piece from s' f h = rw (take_all from piece h) at f.passed
+writes_both : (a b c : Option (List ℕ)) (s t : List ℕ) → Appends a b s → Appends b c t → Appends a c (s ++ t)
+writes_both None b c s t f g = tt
+writes_both (Some xs) None c s t f g = absurd f
+writes_both (Some xs) (Some ys) None s t f g = absurd g
+writes_both (Some xs) (Some ys) (Some zs) s t f g = g ∙ rw f (append_assoc xs s t)
 
--- the part of a piece that a step is lent
-pub lent : (piece : List ℕ) (from : ℕ) → take (length piece - from) (drop from piece) ≡ drop from piece
-lent piece from = take_all (length piece - from) (drop from piece) (omega (arith, length-drop from piece))
+-- whether a piece has bytes left
+pub some_left : (rest : List ℕ) → eqb (length rest) 0 ≡ false → 0 < length rest
+some_left [] e = both_ways e
+some_left (b ∷ bs) e = omega arith
 
-pub step_used : (piece : List ℕ) (from : ℕ) (s s' : State) (used : ℕ) (t : List ℕ) → from < length piece
-    → Stepped s (take (length piece - from) (drop from piece)) s' used t → (0 < used) × (from + used ≤ length piece)
-step_used piece from s s' used t h p =
-    let bytes = take (length piece - from) (drop from piece) in
-    let l = ap length (lent piece from) ∙ length-drop from piece in
-    let u = used_within s bytes s' used t p in
-    (used_some s bytes s' used t p (omega arith), omega arith)
+pub none_left : (rest : List ℕ) → eqb (length rest) 0 ≡ true → rest ≡ []
+none_left [] e = refl
+none_left (b ∷ bs) e = let z = eqb-true (length (b ∷ bs)) 0 e in absurd (omega arith)
 
--- reading piece after piece
-pub read_none : (d e : Desk) (ns m : List ℕ) → d ≡ e → ReadFrom (state e ns m) (state d ns m)
-read_none d e ns m same = rw same (record { bytes = []; passed = record { text = []; steps = no_step } })
+-- what a step leaves of a piece
+rest_left : (used : ℕ) (rest : List ℕ) → take (length rest - used) (drop used rest) ≡ drop used rest
+rest_left used rest = take_all (length rest - used) (drop used rest) (omega (arith, length-drop used rest))
 
-pub read_piece : (s : State) (piece : List ℕ) (s' : State) → Passed s piece s' → ReadFrom s s'
-read_piece s piece s' p = record { bytes = piece; passed = p }
+pub rest_shorter : (s : State) (rest : List ℕ) (s' : State) (used : ℕ) (t : List ℕ) → Stepped s rest s' used t → 0 < length rest
+    → length (take (length rest - used) (drop used rest)) < length rest
+rest_shorter s rest s' used t p h =
+    let u = used_some s rest s' used t p h in
+    let w = used_within s rest s' used t p in
+    rw (rest_left used rest) (omega (arith, length-drop used rest))
 
-pub read_more : (a b c : State) → ReadFrom a b → ReadFrom b c → ReadFrom a c
-read_more a b c f g =
-    record {
-      bytes = f.bytes ++ g.bytes;
-      passed = record { text = f.passed.text ++ g.passed.text; steps = steps_join f.passed.steps g.passed.steps };
-    }
+module _ {T E : Type 0} where
+  -- both writes went through, or one failed
+  written_both : {U : Type 0} (a b c : Option (List ℕ)) (s t : List ℕ) (w : Result T E) (v : Result U E) → OnOk w (Appends a b s) → OnOk v (Appends b c t)
+      → OnOk (result_and w v) (Appends a c (s ++ t))
+  written_both a b c s t (Ok x) (Ok y) f g = writes_both a b c s t f g
+  written_both a b c s t (Ok x) (Err y) f g = tt
+  written_both a b c s t (Err x) v f g = tt
 
-pub read_all : (ns m : List ℕ) (s : State) (started : Bool) (m' t : List ℕ) → ReadFrom (state fresh_desk ns m) s → Ended s started m' t → Rehearsal ns m
-read_all ns m s started m' t f e =
-    record { input = f.bytes; text = f.passed.text ++ t; run = whole; answered = every_line_answered ns m f.bytes (f.passed.text ++ t) whole }
-  where
-    whole : Run ns m f.bytes (f.passed.text ++ t)
-    whole = record { at = s; before = f.passed.text; steps = f.passed.steps; started = started; left = m'; last = t; ended = e; all = refl }
+  -- passing a piece: what stands before the rest is passed
+  pub record Passing (s : State) (piece rest : List ℕ) (s' : State) (o : Option (List ℕ)) (w : Result T E) (o' : Option (List ℕ)) : Type 0 where
+    pub before : List ℕ
+    pub parts : before ++ rest ≡ piece
+    pub passed : Passed s before s' o w o'
+
+  pub passing_none : (s : State) (piece : List ℕ) (o : Option (List ℕ)) (x : T) → Passing s piece piece s o (Ok x) o
+  passing_none s piece o x = record { before = []; parts = refl; passed = record { text = []; steps = no_step; writes = writes_none o } }
+
+  pub passing_more : (s : State) (piece rest : List ℕ) (s₁ : State) (o : Option (List ℕ)) (w : Result T E) (o₁ : Option (List ℕ)) (s₂ : State) (used : ℕ) (t : List ℕ)
+      (v : Result T E) (o₂ : Option (List ℕ)) → Passing s piece rest s₁ o w o₁ → Stepped s₁ rest s₂ used t → OnOk v (Appends o₁ o₂ t)
+      → Passing s piece (take (length rest - used) (drop used rest)) s₂ o (result_and w v) o₂
+  passing_more s piece rest s₁ o w o₁ s₂ used t v o₂ f p h =
+      record {
+        before = f.before ++ take used rest;
+        parts = rw (rest_left used rest) (append_assoc f.before (take used rest) (drop used rest) ∙ rw (take-append-drop used rest) f.parts);
+        passed =
+            record {
+              text = f.passed.text ++ t;
+              steps = next_step rest used t f.passed.steps p;
+              writes = written_both o o₁ o₂ f.passed.text t w v f.passed.writes h;
+            };
+      }
+
+  pub passing_all : (s : State) (piece rest : List ℕ) (s' : State) (o : Option (List ℕ)) (w : Result T E) (o' : Option (List ℕ))
+      → Passing s piece rest s' o w o' → rest ≡ [] → Passed s piece s' o w o'
+  passing_all s piece rest s' o w o' f e = rw (← f.parts, e, append-nil f.before) f.passed
+
+  -- reading piece after piece
+  pub read_none : (s : State) (i o : Option (List ℕ)) (x : T) → ReadFrom {T = T} {E = E} s s i i o (Ok x) o
+  read_none s i o x = record { bytes = []; reads = reads_none i; passed = record { text = []; steps = no_step; writes = writes_none o } }
+
+  pub read_more : (s s₁ s₂ : State) (i i₁ i₂ o : Option (List ℕ)) (w : Result T E) (o₁ : Option (List ℕ)) (piece : List ℕ) (v : Result T E) (o₂ : Option (List ℕ))
+      → ReadFrom s s₁ i i₁ o w o₁ → Consumes i₁ i₂ piece → Passed s₁ piece s₂ o₁ v o₂ → ReadFrom s s₂ i i₂ o (result_and w v) o₂
+  read_more s s₁ s₂ i i₁ i₂ o w o₁ piece v o₂ f r p =
+      record {
+        bytes = f.bytes ++ piece;
+        reads = reads_both i i₁ i₂ f.bytes piece f.reads r;
+        passed =
+            record {
+              text = f.passed.text ++ p.text;
+              steps = steps_join f.passed.steps p.steps;
+              writes = written_both o o₁ o₂ f.passed.text p.text w v f.passed.writes p.writes;
+            };
+      }
+
+  ends_still : {U : Type 0} (i : Option (List ℕ)) (w : Result T E) (v : Result U E) → OnOk w (IsAtEnd i) → OnOk (result_and w v) (IsAtEnd i)
+  ends_still i (Ok x) (Ok y) h = h
+  ends_still i (Ok x) (Err y) h = tt
+  ends_still i (Err x) v h = tt
+
+  pub read_all : (d : Desk) (ns m : List ℕ) (s : State) (i i' o : Option (List ℕ)) (w : Result T E) (o₁ : Option (List ℕ)) (started : Bool) (m' t : List ℕ)
+      (v : Result T E) (o₂ : Option (List ℕ)) → d ≡ fresh_desk → Ended s started m' t → OnOk v (Appends o₁ o₂ t)
+      → ReadFrom (state d ns m) s i i' o w o₁ → OnOk w (IsAtEnd i') → Rehearsal ns m i i' o (result_and w v) o₂
+  read_all d ns m s i i' o w o₁ started m' t v o₂ fresh e h f n =
+      record {
+        input = f.bytes;
+        text = f.passed.text ++ t;
+        run = whole;
+        answered = every_line_answered ns m f.bytes (f.passed.text ++ t) whole;
+        reads = f.reads;
+        writes = written_both o o₁ o₂ f.passed.text t w v f.passed.writes h;
+        ends = ends_still i' w v n;
+      }
+    where
+      whole : Run ns m f.bytes (f.passed.text ++ t)
+      whole =
+          record {
+            at = s;
+            before = f.passed.text;
+            steps = rw fresh at f.passed.steps;
+            started = started;
+            left = m';
+            last = t;
+            ended = e;
+            all = refl;
+          }

@@ -1,6 +1,6 @@
 -- What the functions that work out the fit of a unit in memory promise one another: amounts added by period, and the
 -- tests of a period.
-use Rattle.std.specs.Prelude.{◌≡◌, ℕ, ◌+◌, ◌<◌, ◌≤◌, Bool, true, false, cond, not, ◌&&◌, leb, List, [], ◌∷◌, length, ◌==◌, ◌≢◌, nat_le, slice_index}
+use Rattle.std.specs.Prelude.{◌≡◌, ℕ, ◌+◌, ◌<◌, ◌≤◌, Bool, true, false, cond, not, ◌&&◌, leb, List, [], ◌∷◌, length, ◌==◌, ◌≢◌, nat_le, nat_lt, slice_index}
 use Rattle.measures.specs.Lists.{holds, sum, all}
 use Rattle.limits.specs.Units.{periods}
 use Rattle.limits.specs.Limits.{hour_of, hour_limit, term_limit, volume_limit}
@@ -79,6 +79,11 @@ unit_holds m k x y =
     ∷ nat_le (sum (periods (word m DAYS)) (λ p. term_part m k p (x p))) (term_at m k)
     ∷ nat_le (sum (periods (word m DAYS)) (λ p. volume_part m k p (x p) (y p))) (volume_at m k)
     ∷ [])
+
+-- r is what the word of faults and the sums of a pass come to beside the limits of the unit at place k
+abbrev pub SumsCame : List ℕ → ℕ → ℕ → ℕ → ℕ → ℕ → Type 0
+SumsCame m k bad whole volume r =
+    r ≡ first_refusal (check 19 (nat_lt 1_099_511_627_775 bad) ∷ check 20 (nat_lt (term_at m k) whole) ∷ check 21 (nat_lt (volume_at m k) volume) ∷ [])
 
 -- r is what n periods with these tests, sums and limits come to
 pub record Came (n : ℕ) (marks hours : ℕ → Bool) (term volume : ℕ → ℕ) (term_most volume_most r : ℕ) : Type 0 where

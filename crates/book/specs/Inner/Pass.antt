@@ -1,7 +1,8 @@
 -- What the functions of the pass over a unit's figures promise one another. A word of faults joins words and differences
 -- that wrap: it is below 2^40 just where each cell fits, and there the sums are true.
-use Rattle.std.specs.Prelude.{◌≡◌, ℕ, ◌+◌, ◌%◌, ◌^◌, ◌<◌, ◌≤◌, List, length, slice_index}
+use Rattle.std.specs.Prelude.{◌≡◌, ℕ, ◌+◌, ◌*◌, ◌%◌, ◌^◌, ◌<◌, ◌≤◌, List, length, slice_index}
 use Rattle.measures.specs.Lists.{sum}
+use Rattle.book.specs.declared.pass.Sums.{Sums}
 use Rattle.limits.specs.Units.{periods}
 use Rattle.limits.specs.Limits.{hour_of, hour_limit}
 use Rattle.book.specs.Layout.{DAYS, unit_place, CAPACITY, figure_place, RAISED, LOWERED, MARK, VOLUME, word}
@@ -79,6 +80,19 @@ pub record Pass (n : ℕ) (f : ℕ → Cell) (bad marks whole volume : ℕ) : Ty
 -- what the pass over all periods of the unit at place k comes to, where x raises and y lowers
 abbrev pub UnitPass : List ℕ → ℕ → (ℕ → ℕ) → (ℕ → ℕ) → ℕ → ℕ → ℕ → ℕ → Type 0
 UnitPass m k x y bad marks whole volume = Pass (periods (word m DAYS)) (unit_cell m k x y) bad marks whole volume
+
+-- that no hour limit passes the largest capacity
+pub record Limited (f : ℕ → Cell) : Type 0 where
+  pub limit : (i : ℕ) → (f i).limit ≤ 5_000_000
+
+abbrev pub Passed : ℕ → (ℕ → Cell) → Sums → Type 0
+Passed n f s = Pass n f s.bad s.marks s.whole s.volume
+
+-- r joins the passes over so many days, of which day d may come to any s where P d s: if each of them is the pass over the
+-- day's cells of f, then r is that over all of them
+abbrev pub DaysJoined : (ℕ → Sums → Type 0) → ℕ → Sums → Type 0
+DaysJoined P days r =
+    (f : ℕ → Cell) → Limited f → ((d : ℕ) (s : Sums) → d < days → P d s → Passed 24 (λ h. f (24 * d + h)) s) → Passed (24 * days) f r
 
 -- two passes joined
 pub record Together (bad marks whole volume bad₂ marks₂ whole₂ volume₂ bad' marks' whole' volume' : ℕ) : Type 0 where

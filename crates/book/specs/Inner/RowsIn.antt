@@ -25,27 +25,9 @@ use Rattle.book.specs.Refusals.{
   term_misfit,
   volume_misfit,
 }
-use Rattle.book.specs.Layout.{
-  DAYS,
-  UNITS,
-  OFFERS,
-  offers_start,
-  offer_place,
-  TAKEN,
-  amount_place,
-  figures_start,
-  figure_place,
-  RAISED,
-  LOWERED,
-  MARK,
-  VOLUME,
-  book_words,
-  word,
-  amount_at,
-  offer_at,
-  decode,
-  Aside,
-}
+use Rattle.book.specs.Layout.{DAYS, UNITS, offers_start, offer_place, TAKEN, amount_place, figures_start, figure_place, RAISED, LOWERED, MARK, VOLUME}
+use Rattle.book.specs.Layout.{book_words, word, amount_at, offer_at, decode, Aside}
+use Rattle.book.specs.Inner.Search.{OfferHas}
 
 -- a value of the code's struct, as figures of these definitions
 abbrev pub as_figures : FiguresValue → Figures
@@ -108,13 +90,6 @@ small_figures = 1_000_000_000_000_000_000
 pub record RowsTraded (m x rows : List ℕ) (n : ℕ) : Type 0 where
   pub book : decode x ≡ rows_booked (rows_in rows n) (decode m)
   pub kept : Kept m x
-
--- r is the place of the first open offer of a number, or 8
-pub record Found (m : List ℕ) (n r : ℕ) : Type 0 where
-  pub to : r ≤ 8
-  pub unmet : (i : ℕ) → i < word m OFFERS → i < r → word m (offer_place i) ≢ n
-  pub there : r < 8 → r < word m OFFERS
-  pub number : r < 8 → word m (offer_place r) ≡ n
 
 -- whether a unit can take a quantity of the offer at place j
 unfoldable pub takes : List ℕ → ℕ → ℕ → ℕ → Bool
@@ -202,5 +177,5 @@ pub record TakeMade (m x : List ℕ) (u n q : ℕ) (lent out : List ℕ) (k : �
   pub aside : Aside m x
   -- where the offer stands, and what the take left there
   pub place : ℕ
-  pub found : Found m n place
+  pub found : OfferHas m n place
   pub left : q < total (table (periods (word m DAYS)) (amount_at m place)) → AmountsLeft m x place (parts_at m place q)

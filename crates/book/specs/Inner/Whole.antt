@@ -1,6 +1,6 @@
 -- What the functions that check all units, day by day, and those that check that orders may stand together promise one
 -- another. No sentence of the paper is rendered here: what they come to is `units_whole` and `pairs_fit` (Readable.antt).
-use Rattle.std.specs.Prelude.{◌≡◌, ℕ, ◌+◌, ◌-◌, ◌*◌, ◌/◌, ◌<◌, ◌≤◌, Bool, true, cond, List, [], ◌∷◌, length, ◌≢◌, slice_index}
+use Rattle.std.specs.Prelude.{◌≡◌, ℕ, ◌+◌, ◌-◌, ◌*◌, ◌/◌, ◌<◌, ◌≤◌, Bool, true, cond, List, [], ◌∷◌, length, Option, None, Some, ◌≢◌, slice_index}
 use Rattle.measures.specs.Lists.{holds, sum, all}
 use Rattle.limits.specs.Units.{periods, generator}
 use Rattle.matching.specs.Memory.{order_at}
@@ -21,6 +21,7 @@ use Rattle.book.specs.Layout.{
   word,
   orders_part,
 }
+use Rattle.book.specs.declared.standing.Links.{Links}
 use Rattle.book.specs.Inner.Readable.{pair_fits}
 use Rattle.book.specs.Inner.Fitting.{Added, order_share, offer_share}
 use Rattle.book.specs.Inner.Pass.{most_open, Pass, day_cell}
@@ -31,6 +32,11 @@ by_period m i = word m (order_place i + PERIOD)
 
 unfoldable pub by_day : List ℕ → ℕ → ℕ
 by_day m i = 64 * (word m (order_place i + PERIOD) / 24) + (word m (order_place i + UNIT) - 1)
+
+-- one more than a place, or 0 for none, as a link holds it
+abbrev pub link_of : Option ℕ → ℕ
+link_of None = 0
+link_of (Some i) = i + 1
 
 -- t is one more than the place of the last of the first n orders whose key is v, or 0 where there is none
 pub record Latest (key : ℕ → ℕ) (v t n : ℕ) : Type 0 where
@@ -47,31 +53,30 @@ pub record Linked (key : ℕ → ℕ) (n : ℕ) (last before : List ℕ) : Type 
   pub of_value : (v : ℕ) → v < length last → Latest key v (slice_index last v) n
   pub of_order : Chained key n before
 
--- if there are orders, last holds one more than the place of the last of each unit and day
-pub record DayHeads (m : List ℕ) (last : List ℕ) : Type 0 where
-  pub long : 0 < word m ORDERS → 64 * word m DAYS ≤ length last
-  pub heads : 0 < word m ORDERS → (v : ℕ) → v < length last → Latest (by_day m) v (slice_index last v) (word m ORDERS)
-
 -- the orders, if there are any, linked by unit and day
-pub record DayLinks (m : List ℕ) (last before : List ℕ) : Type 0 where
-  pub heads : DayHeads m last
-  pub places : word m ORDERS ≤ length before
-  pub chain : Chained (by_day m) (word m ORDERS) before
+pub record DayLinks (m : List ℕ) (days : Links) : Type 0 where
+  pub long : 0 < word m ORDERS → 64 * word m DAYS ≤ length days.last.now
+  pub heads : 0 < word m ORDERS → (v : ℕ) → v < length days.last.now → Latest (by_day m) v (slice_index days.last.now v) (word m ORDERS)
+  pub places : word m ORDERS ≤ length days.before.now
+  pub chain : Chained (by_day m) (word m ORDERS) days.before.now
 
 -- each order has a link to the one before it of its unit and day, and to that of its period
-pub record OrderLinks (m : List ℕ) (own peers : List ℕ) : Type 0 where
-  pub own_long : word m ORDERS ≤ length own
-  pub peers_long : word m ORDERS ≤ length peers
-  pub of_day : Chained (by_day m) (word m ORDERS) own
-  pub of_period : Chained (by_period m) (word m ORDERS) peers
+pub record OrderLinks (m : List ℕ) (own peers : Links) : Type 0 where
+  pub own_long : word m ORDERS ≤ length own.before.now
+  pub peers_long : word m ORDERS ≤ length peers.before.now
+  pub of_day : Chained (by_day m) (word m ORDERS) own.before.now
+  pub of_period : Chained (by_period m) (word m ORDERS) peers.before.now
 
--- t is one more than the place of an order before the one at place k with its unit and period, or 0 where there is none
-pub record Alike (m : List ℕ) (k t : ℕ) : Type 0 where
-  pub to : t ≤ k
-  pub unit : 0 < t → word m (order_place (t - 1) + UNIT) ≡ word m (order_place k + UNIT)
-  pub period : 0 < t → word m (order_place (t - 1) + PERIOD) ≡ word m (order_place k + PERIOD)
-  pub none : t ≡ 0 → (j : ℕ) → j < k → word m (order_place j + UNIT) ≡ word m (order_place k + UNIT) → word m (order_place j + PERIOD)
-      ≢ word m (order_place k + PERIOD)
+-- an order before the one at place k, at place t, has its unit and period
+pub record AlikeBefore (m : List ℕ) (k t : ℕ) : Type 0 where
+  pub to : t < k
+  pub unit : word m (order_place t + UNIT) ≡ word m (order_place k + UNIT)
+  pub period : word m (order_place t + PERIOD) ≡ word m (order_place k + PERIOD)
+
+-- r is the place of such an order, or none where there is none
+abbrev pub Alike : List ℕ → ℕ → Option ℕ → Type 0
+Alike m k None = (j : ℕ) → j < k → word m (order_place j + UNIT) ≡ word m (order_place k + UNIT) → word m (order_place j + PERIOD) ≢ word m (order_place k + PERIOD)
+Alike m k (Some t) = AlikeBefore m k t
 
 -- of each period and the first k orders: what is above each buy price and not above it needlessly, and what is not above
 -- any sell price and not below it needlessly
@@ -139,8 +144,6 @@ pub record Gathered (m : List ℕ) (k d : ℕ) (raising lowering : List ℕ) : T
   pub down : (h : ℕ) → h < 24 → slice_index lowering h ≡ open_down m k (24 * d + h)
   pub up_to : (h : ℕ) → slice_index raising h ≤ most_open
   pub down_to : (h : ℕ) → slice_index lowering h ≤ most_open
-  pub up_long : length raising ≡ 24
-  pub down_long : length lowering ≡ 24
 
 -- none of the first n offers is unit u's
 pub record OffersOther (m : List ℕ) (u n : ℕ) : Type 0 where

@@ -1,17 +1,15 @@
--- Text put at a place of lent bytes, and the text of rows as they stand in lent memory.
-use Rattle.std.specs.Prelude.{ℕ, zero, suc, ◌+◌, ◌≤◌, ◌≡◌, List, [], ◌∷◌, ◌++◌, length, take, drop}
+-- The text of rows as they stand in lent memory.
+use Rattle.std.specs.Prelude.{ℕ, zero, suc, List, [], ◌∷◌, ◌++◌, take, drop}
 use Rattle.lines.specs.Printed.{spaced}
 
--- o and o' are the bytes before and after; the text, of at most `most` bytes, stands from `at` and ends at r
-pub record Put (o : List ℕ) (at : ℕ) (text : List ℕ) (most r : ℕ) (o' : List ℕ) : Type 0 where
-  pub stands : take r o' ≡ take at o ++ text
-  pub ends : r ≤ at + most
-  pub long : length o' ≡ length o
+-- `t`, the six words of a row, and a line end
+unfoldable pub row_text : List ℕ → List ℕ
+row_text ws = 116 ∷ (spaced ws ++ (10 ∷ []))
 
 -- the first k rows of memory
 unfoldable pub rows_text : ℕ → List ℕ → List ℕ
 rows_text zero ws = []
-rows_text (suc k) ws = (116 ∷ (spaced (take 6 ws) ++ (10 ∷ []))) ++ rows_text k (drop 6 ws)
+rows_text (suc k) ws = row_text (take 6 ws) ++ rows_text k (drop 6 ws)
 
 -- `ok` with the first k rows of memory
 unfoldable pub ok_text : ℕ → ℕ → List ℕ → List ℕ

@@ -1,5 +1,5 @@
 -- How the code finds the places that get one kWh more: cited by contracts of private functions and by laws alone.
-use Rattle.std.specs.Prelude.{ℕ, zero, suc, ◌+◌, ◌*◌, ◌/◌, ◌%◌, ◌≤◌, ◌<◌, min, max, ◌≡◌, cond, List, length, get_or, leb, ltb, eqb}
+use Rattle.std.specs.Prelude.{ℕ, zero, suc, ◌+◌, ◌-◌, ◌*◌, ◌/◌, ◌%◌, ◌≤◌, ◌<◌, min, max, ◌≡◌, cond, List, length, get_or, leb, ltb, eqb}
 use Rattle.measures.specs.Ranges.{most_energy}
 use Rattle.measures.specs.Lists.{count, one}
 use Rattle.measures.specs.Sharing.{total, rounded, fraction, left_over}
@@ -75,3 +75,9 @@ pub record Divided (d : ℕ) (rs m m' : List ℕ) (k : ℕ) : Type 0 where
 -- the upper half of the number at place j, and one more where its fraction is x or more
 abbrev pub settled : ℕ → List ℕ → ℕ → ℕ
 settled x m j = get_or m j 0 / half + one (leb x (rest m j))
+
+-- what a look leaves of a search over m for k numbers, from low to below high: the same search, with less between the bounds
+pub record Nearer (m : List ℕ) (k low high : ℕ) (m' : List ℕ) (k' low' high' : ℕ) : Type 0 where
+  pub parts : m' ≡ m
+  pub wanted : k' ≡ k
+  pub less : high' - low' < high - low

@@ -4,8 +4,6 @@ use Rattle.std.proofs.Common.{sym, ap, ◌∙◌, ap₂, arith, length-append, l
 use Rattle.measures.proofs.ListLaws.{cond-true, cond-false, and_left, and_right, all_true, both_ways}
 use Rattle.matching.specs.Orders.{Row}
 use Rattle.matching.specs.Memory.{written}
-use Rattle.book.specs.declared.Answer.{Answer}
-use Rattle.book.specs.declared.Answer.TheVariants.{Done, Refused}
 use Rattle.limits.specs.Units.{periods}
 use Rattle.measures.specs.Lists.{keep}
 use Rattle.matching.specs.Clearing.{clear_from}
@@ -24,7 +22,11 @@ use Rattle.book.specs.Cancel.{cancellation, cancel_refusal, cancel_checks}
 use Rattle.book.specs.Clear.{clearing, clear_refusal, clear_checks}
 use Rattle.book.specs.Close.{closing, day_closed}
 use Rattle.book.specs.Calls.{Call, call_enrol, call_offer, call_take, call_withdraw, call_order, call_cancel, call_clear, call_close, outcome}
-use Rattle.book.specs.Contract.{Told, told_by, sound_in, outcome_on, Made}
+use Rattle.std.proofs.Common.{Ok, Err, zero}
+use Rattle.measures.specs.declared.refusals.Refusal.{Refusal}
+use Rattle.measures.specs.Refused.{number_of}
+use Rattle.measures.proofs.RefusedLaws.{number_some, number_fixes}
+use Rattle.book.specs.Contract.{Answer, Told, told_by, sound_in, outcome_on, Made}
 use Rattle.book.specs.Inner.Readable.{Readable}
 use Rattle.book.proofs.Laws.Memory.RangeFacts.{Head, head_facts, readable, units_held}
 use Rattle.book.proofs.Laws.Answer.RefusalLaws.{none_applies}
@@ -78,28 +80,32 @@ outcome-accepted m c = go (laid_out m)
     go false z = absurd (omega arith)
 
 -- the contract of a refused call, from what its outcome is
-pub made_refused : (m rows : List ℕ) (c : Call) (r : ℕ) → outcome_on m c ≡ record { refusal = r; number = 0; rows = []; book = decode m } → (r ≡ 0 → ⊥)
-    → Made m rows c (Refused r) m rows
-made_refused m rows c r e n = record {
-  answer = rw (e, ne_eqb r 0 n) refl;
+pub made_refused : (m rows : List ℕ) (c : Call) (r : Refusal) → outcome_on m c ≡ record { refusal = number_of r; number = 0; rows = []; book = decode m }
+    → Made m rows c (Err r) m rows
+made_refused m rows c r e = record {
+  answer = rw (e, ne_eqb (number_of r) 0 (number_some r)) refl;
   refused = λ h. (refl, refl);
-  accepted = λ h. absurd (n (sym (ap (λ (o : Outcome). o.refusal) e) ∙ h));
-  handed = λ h. absurd (n (sym (ap (λ (o : Outcome). o.refusal) e) ∙ h));
+  accepted = λ h. absurd (number_some r (sym (ap (λ (o : Outcome). o.refusal) e) ∙ h));
+  handed = λ h. absurd (number_some r (sym (ap (λ (o : Outcome). o.refusal) e) ∙ h));
   aside = record { layout = refl; past = refl };
   long = refl;
 }
 
 -- what is told fixes the answer
+abbrev done_answer : ℕ → ℕ → Answer
+done_answer n k = Ok (record { number = n; count = k })
+
 pub told_fixes : (a b : Answer) → told_by a ≡ told_by b → a ≡ b
-told_fixes (Done n k) (Done n' k') e = ap₂ Done (ap (λ (t : Told). t.number) e) (ap (λ (t : Told). t.count) e)
-told_fixes (Done n k) (Refused r) e = both_ways (ap (λ (t : Told). t.done) e)
-told_fixes (Refused r) (Done n k) e = both_ways (sym (ap (λ (t : Told). t.done) e))
-told_fixes (Refused r) (Refused r') e = ap Refused (ap (λ (t : Told). t.refusal) e)
+told_fixes (Ok d) (Ok d') e =
+    ap₂ (λ (n k : ℕ). done_answer n k) (ap (λ (t : Told). t.number) e) (ap (λ (t : Told). t.count) e)
+told_fixes (Ok d) (Err r) e = both_ways (ap (λ (t : Told). t.done) e)
+told_fixes (Err r) (Ok d) e = both_ways (sym (ap (λ (t : Told). t.done) e))
+told_fixes (Err r) (Err r') e = ap Err (number_fixes r r' (ap (λ (t : Told). t.refusal) e))
 
 -- the contract of an accepted call
 pub made_accepted : (m rows : List ℕ) (c : Call) (n : ℕ) (rs : List Row) (b : Book) (k : ℕ) (m' rows' : List ℕ) → outcome_on m c ≡ accepted n rs b
     → k ≡ length rs → decode m' ≡ b → rows' ≡ written rows rs → Aside m m' → length m' ≡ length m
-    → Made m rows c (Done n k) m' rows'
+    → Made m rows c (Ok (record { number = n; count = k })) m' rows'
 made_accepted m rows c n rs b k m' rows' e ek d w p l = record {
   answer = rw (e, ek) refl;
   refused = λ h. absurd (h (ap (λ (o : Outcome). o.refusal) e));
@@ -149,9 +155,9 @@ outcome_is b (call_clear lent) = refl
 outcome_is b call_close = refl
 
 -- the three ways of a call: not a sound book, a check that applies, or none
-pub made_unsound : (m rows : List ℕ) (c : Call) → sound_in m ≡ false → Made m rows c (Refused 1) m rows
+unsound_outcome : (m : List ℕ) (c : Call) → sound_in m ≡ false → outcome_on m c ≡ record { refusal = 1; number = 0; rows = []; book = decode m }
 unfolding sound_in outcome_on
-made_unsound m rows c e = made_refused m rows c 1 (go (laid_out m) (sound (decode m)) refl refl) (λ z. absurd (omega arith))
+unsound_outcome m c e = go (laid_out m) (sound (decode m)) refl refl
   where
     go : (a s : Bool) → laid_out m ≡ a → sound (decode m) ≡ s → outcome_on m c ≡ record { refusal = 1; number = 0; rows = []; book = decode m }
     go false s ea es = cond-false (laid_out m) (outcome (decode m) c) _ ea refl
@@ -163,19 +169,35 @@ made_unsound m rows c e = made_refused m rows c 1 (go (laid_out m) (sound (decod
         and_true' : laid_out m ≡ true → sound (decode m) ≡ true → (laid_out m && sound (decode m)) ≡ true
         and_true' x y = rw (x, y) refl
 
-pub made_checked : (m rows : List ℕ) (c : Call) (r : ℕ) → sound_in m ≡ true → r ≡ first_refusal (checks_of (decode m) c) → (r ≡ 0 → ⊥)
-    → Made m rows c (Refused r) m rows
-made_checked m rows c r e f n =
+-- what the check of soundness gives
+pub is_sound : (m : List ℕ) → zero ≡ cond (sound_in m) 0 1 → sound_in m ≡ true
+is_sound m e = go (sound_in m) refl e
+  where
+    go : (s : Bool) → sound_in m ≡ s → zero ≡ cond s 0 1 → sound_in m ≡ true
+    go true p q = p
+    go false p q = absurd (omega arith)
+
+pub made_unsound : (m rows : List ℕ) (c : Call) (r : Refusal) → number_of r ≡ cond (sound_in m) 0 1 → Made m rows c (Err r) m rows
+made_unsound m rows c r e = go (sound_in m) refl e
+  where
+    go : (s : Bool) → sound_in m ≡ s → number_of r ≡ cond s 0 1 → Made m rows c (Err r) m rows
+    go true p q = absurd (number_some r q)
+    go false p q =
+        made_refused m rows c r
+        (unsound_outcome m c p ∙ ap (λ (n : ℕ). record { refusal = n; number = 0; rows = []; book = decode m }) (sym q))
+
+pub made_checked : (m rows : List ℕ) (c : Call) (r : Refusal) → sound_in m ≡ true → number_of r ≡ first_refusal (checks_of (decode m) c)
+    → Made m rows c (Err r) m rows
+made_checked m rows c r e f =
     made_refused m rows c r
     (outcome-sound m c e ∙ outcome_is (decode m) c
     ∙ ap (λ (x : ℕ). decided x (decode m) (effect_of (decode m) c)) (chain_sound (decode m) (checks_of (decode m) c) (sound-book m e) ∙ sym f)
-    ∙ decided-refused r (decode m) (effect_of (decode m) c) n)
-    n
+    ∙ decided-refused (number_of r) (decode m) (effect_of (decode m) c) (number_some r))
 
 pub made_done : (m rows : List ℕ) (c : Call) (n : ℕ) (rs : List Row) (b : Book) (k : ℕ) (m' rows' : List ℕ)
     → sound_in m ≡ true → 0 ≡ first_refusal (checks_of (decode m) c) → effect_of (decode m) c ≡ accepted n rs b
     → k ≡ length rs → decode m' ≡ b → rows' ≡ written rows rs → Aside m m' → length m' ≡ length m
-    → Made m rows c (Done n k) m' rows'
+    → Made m rows c (Ok (record { number = n; count = k })) m' rows'
 made_done m rows c n rs b k m' rows' e f g =
     made_accepted m rows c n rs b k m' rows'
     (outcome-sound m c e ∙ outcome_is (decode m) c

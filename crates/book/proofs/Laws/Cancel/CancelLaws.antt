@@ -1,7 +1,6 @@
 -- Cancel on a sound book in memory: its checks, and the book without the order.
-use Rattle.std.proofs.Common.{◌≡◌, ℕ, ◌+◌, ◌-◌, ◌*◌, ◌<◌, ◌≤◌, Bool, true, false, cond, not, ◌&&◌, eqb, ltb, List, [], ◌∷◌, ◌++◌, length, get_or, take, drop, set, refl}
+use Rattle.std.proofs.Common.{◌≡◌, ℕ, ◌+◌, ◌-◌, ◌*◌, ◌<◌, ◌≤◌, Bool, true, false, cond, not, ◌&&◌, eqb, ltb, List, [], ◌∷◌, ◌++◌, length, get_or, take, drop, set, None, refl}
 use Rattle.std.proofs.Common.{sym, ap, ◌∙◌, arith, eq-eqb, ne_eqb}
-use native.Mathlib.Decide.{dec_lt}
 use borrow.Rule.Slice.PartMut.{put_mid}
 use Rattle.measures.specs.Lists.{keep}
 use Rattle.measures.proofs.ListLaws.{all_true, not_both}
@@ -15,6 +14,7 @@ use Rattle.book.specs.Layout.{UNITS, ORDERS, orders_start, orders_words, order_p
 use Rattle.book.specs.Inner.Readable.{offer_numbers}
 use Rattle.book.specs.Refusals.{first_refusal}
 use Rattle.book.specs.Contract.{sound_in}
+use Rattle.book.specs.Inner.Search.{OrderFound}
 use Rattle.book.specs.Cancel.{cancel_checks}
 use Rattle.book.proofs.Laws.Memory.RangeFacts.{units_held, orders_held, order_word}
 use Rattle.book.proofs.Laws.Check.NumberLaws.{orders_from}
@@ -87,8 +87,8 @@ module _ (m : List ℕ) (s : sound_in m ≡ true) (n : ℕ) where
         rw (units_held m) (rw (inside 1 (word m UNITS) u h, order_found k hk e, w, eq-eqb (word m (order_place k + UNIT)) u g) refl)
 
   -- an open order has a place
-  pub order_has_place : order_open (decode m) n ≡ true → ((k : ℕ) → k < word m ORDERS → word m (order_place k) ≡ n → ⊥) → ⊥
-  order_has_place o a =
+  pub order_placed : order_open (decode m) n ≡ true → OrderFound m n None → ⊥
+  order_placed o a =
       let z : ltb 0 (length (orders_of (decode m) n)) ≡ false = rw (order_absent a) refl in
       not_both _ o z
 
@@ -118,12 +118,3 @@ module _ (m ys : List ℕ) (n k : ℕ) (s : sound_in m ≡ true) (hk : k < word 
 
   pub cancelled_aside : Aside m (set (put_mid orders_start orders_words m ys) ORDERS (word m ORDERS - 1))
   cancelled_aside = put_aside m _ left put
-
--- the place that the search gives is an order's
-pub order_placed : (m : List ℕ) → sound_in m ≡ true → (n : ℕ) → order_open (decode m) n ≡ true → (k : ℕ) → k ≤ word m ORDERS
-    → ((i : ℕ) → i < k → word m (order_place i) ≡ n → ⊥) → k < word m ORDERS
-order_placed m s n o k le h = go (dec_lt k (word m ORDERS))
-  where
-    go : Dec (k < word m ORDERS) → k < word m ORDERS
-    go (yes l) = l
-    go (no l) = absurd (order_has_place m s n o (λ i u. h i (omega arith)))

@@ -185,13 +185,6 @@ module _ (m : List ℕ) (u : ℕ) (h : In 1 (word m UNITS) u) (few : word m ORDE
       let z = orders_open m u p (lowers (unit_of (decode m) u).kind) direction (λ d. lowers_by (unit_of (decode m) u).kind d ∙ ap (eqb d) (sym w)) few in
       omega arith
 
--- a direction and its other
-pub direction_generator : (g : Bool) (r : ℕ) → r ≡ 0 → g ≡ true → r ≡ cond g 0 1
-direction_generator g r h e = rw e h
-
-pub direction_load : (g : Bool) (r : ℕ) → r ≡ 1 → g ≡ false → r ≡ cond g 0 1
-direction_load g r h e = rw e h
-
 pub direction_other : (g : Bool) (direction : ℕ) → direction ≡ cond g 0 1 → 1 - direction ≡ cond g 1 0
 direction_other true direction e = omega arith
 direction_other false direction e = omega arith

@@ -1,10 +1,9 @@
 -- The orders linked by a key.
-use Rattle.std.proofs.Common.{◌≡◌, ℕ, ◌+◌, ◌-◌, ◌*◌, ◌/◌, ◌<◌, ◌≤◌, List, length, get_or, set, sym, refl, ap, ◌∙◌, arith, length-set, get_or-set_other, get_or-set_same}
+use Rattle.std.proofs.Common.{◌≡◌, ℕ, ◌+◌, ◌-◌, ◌*◌, ◌/◌, ◌<◌, ◌≤◌, List, length, get_or, set, sym, ap, ◌∙◌, arith, length-set, get_or-set_other, get_or-set_same}
 use native.Mathlib.Decide.{ℕ_discrete}
 use Rattle.book.specs.Layout.{DAYS, ORDERS, order_place, UNIT, PERIOD, word}
 use Rattle.book.specs.Inner.Readable.{Ranged}
-use Rattle.book.specs.Inner.Fitting.{Below}
-use Rattle.book.specs.Inner.Whole.{by_period, by_day, Latest, Chained, Linked}
+use Rattle.book.specs.Inner.Whole.{by_period, by_day, Latest, Chained}
 use Rattle.book.proofs.Laws.Check.ShareLaws.{order_words_lem}
 
 -- the last order of a key: among none, with one more of the key, and with one more of another
@@ -35,16 +34,6 @@ module _ (key : ℕ → ℕ) where
     pub of_value : (v : ℕ) → v < length last → Latest key v (get_or last v 0) k
     pub of_order : Chained key k before
 
-  pub linking_none : (n : ℕ) (last before : List ℕ) → Below 0 last → Linking n last before last before 0
-  linking_none n last before z =
-      record {
-        few = omega arith;
-        lasts = refl;
-        befores = refl;
-        of_value = λ v l. latest_none v _ 0 (let w = z v in omega arith) refl;
-        of_order = λ i l. absurd (omega arith);
-      }
-
   module _ (n : ℕ) (start₁ start₂ last before : List ℕ) (k : ℕ) (g : Linking n start₁ start₂ last before k) where
     pub linking_more : (v : ℕ) → v ≡ key k → k < n → v < length start₁ → k < length start₂
         → Linking n start₁ start₂ (set last v (k + 1)) (set before k (get_or last v 0)) (k + 1)
@@ -70,11 +59,6 @@ module _ (key : ℕ → ℕ) where
         order : (i : ℕ) → i < k + 1 → Dec (i ≡ k) → Latest key (key i) (get_or (set before k (get_or last v 0)) i 0) i
         order i l (yes q) = rw q (rw (get_or-set_same before k (get_or last v 0) 0 room, ← e) (g.of_value v inside))
         order i l (no q) = rw (get_or-set_other before k i (get_or last v 0) 0 q) (g.of_order i (omega arith))
-
-    pub linking_ends : n ≤ k → Linked key n last before
-    linking_ends h =
-        let e : k ≡ n = let t = g.few in omega arith in
-        record { of_value = λ v l. rw (← e) (g.of_value v l); of_order = λ i l. g.of_order i (omega arith) }
 
 -- the keys of orders in range
 module _ (m : List ℕ) (i : ℕ) (r : Ranged m) (h : i < word m ORDERS) where
@@ -104,7 +88,3 @@ module _ (m : List ℕ) (i : ℕ) (r : Ranged m) (h : i < word m ORDERS) where
   pub key_by : (k d : ℕ) → word m (order_place i + UNIT) ≡ k + 1 → word m (order_place i + PERIOD) / 24 ≡ d → by_day m i ≡ 64 * d + k
   unfolding by_day
   key_by k d e f = omega arith
-
--- some, where it is not none
-pub not_none : (n : ℕ) → (n ≡ 0 → ⊥) → 0 < n
-not_none n h = omega arith

@@ -1,9 +1,9 @@
 -- Laws of open numbers in memory.
-use Rattle.std.proofs.Common.{◌≡◌, ℕ, suc, ◌+◌, ◌-◌, ◌*◌, ◌<◌, ◌≤◌, Bool, true, false, not, eqb, List, length, get_or, sym, refl, ap, ◌∙◌, arith}
-use native.Mathlib.Decide.{dec_lt}
+use Rattle.std.proofs.Common.{◌≡◌, ℕ, suc, ◌-◌, ◌*◌, ◌<◌, ◌≤◌, Bool, true, false, not, eqb, List, length, get_or, sym, refl, ap, ◌∙◌, arith, Option, Some, None, is_some, eq-eqb, ne_eqb}
+use borrow.Author.Tests.{not-true, not-false}
 use lib.ListN.{length-map, get_or-map}
 use Rattle.measures.specs.Lists.{all}
-use Rattle.measures.proofs.ListLaws.{table_at, every-table, all_ext, all_true, holds-all, false_by, not_both}
+use Rattle.measures.proofs.ListLaws.{table_at, every-table, all_ext, all_true, all_by, all_fails, holds-all, false_by, not_both}
 use Rattle.matching.specs.Orders.{Order as OpenOrder, rising, numbers}
 use Rattle.matching.specs.Memory.{order_at, orders_in}
 use Rattle.matching.proofs.Laws.Orders.FitLaws.{rising_by, rising_fails}
@@ -11,6 +11,7 @@ use Rattle.book.specs.Book.{OpenOffer, no_offer}
 use Rattle.book.specs.Sound.{numbers_differ}
 use Rattle.book.specs.Layout.{DAYS, OFFERS, ORDERS, offer_place, order_place, word, offer_at, orders_part, decode}
 use Rattle.book.specs.Inner.Readable.{offer_numbers, number_free, numbers_free}
+use Rattle.book.specs.Inner.Search.{OrderFound}
 use Rattle.book.proofs.Laws.Memory.RangeFacts.{offers_held, order_word}
 
 -- the number of the open offer at a place
@@ -26,16 +27,6 @@ offer_numbers-length m = length-map (decode m).offers (λ (o : OpenOffer). o.num
 -- the numbers of the offers before place j rise by neighbours
 abbrev pub Climbing : List ℕ → ℕ → Type 0
 Climbing m j = (i : ℕ) → suc i < j → word m (offer_place i) < word m (offer_place (suc i))
-
-pub climbing_more : (m : List ℕ) (j : ℕ) → 1 ≤ j → word m (offer_place (j - 1)) < word m (offer_place j) → Climbing m j → Climbing m (j + 1)
-climbing_more m j one h c i l = go (dec_lt (suc i) j)
-  where
-    go : Dec (suc i < j) → word m (offer_place i) < word m (offer_place (suc i))
-    go (yes u) = c i u
-    go (no u) =
-        let a : word m (offer_place i) ≡ word m (offer_place (j - 1)) = ap (λ (x : ℕ). word m (offer_place x)) (omega arith) in
-        let b : word m (offer_place (suc i)) ≡ word m (offer_place j) = ap (λ (x : ℕ). word m (offer_place x)) (omega arith) in
-        omega arith
 
 pub climbing_rises : (m : List ℕ) (j : ℕ) → word m OFFERS ≤ j → Climbing m j → true ≡ rising (offer_numbers (decode m))
 climbing_rises m j h c = sym (rising_by (offer_numbers (decode m)) at)
@@ -63,6 +54,13 @@ unfolding number_free decode orders_in
 number_by_places m n h =
     every-table (λ (o : OpenOrder). not (eqb n o.number)) (word m ORDERS) (order_at (orders_part m))
     ∙ all_ext (word m ORDERS) _ _ (λ k l. ap (λ (x : ℕ). not (eqb n x)) (order_word m (6 * k) (omega arith)))
+
+-- a number is free where no order is found with it
+pub free_by : (m : List ℕ) (n : ℕ) (r : Option ℕ) → word m ORDERS ≤ 256 → OrderFound m n r → (b : Bool) → is_some r ≡ not b → b ≡ number_free (decode m) n
+free_by m n None few f b e =
+    not-false b (sym e) ∙ sym (number_by_places m n few ∙ all_by (word m ORDERS) _ (λ k l. ap not (ne_eqb _ _ (λ q. f k l (sym q)))))
+free_by m n (Some k) few f b e =
+    not-true b (sym e) ∙ sym (number_by_places m n few ∙ all_fails (word m ORDERS) _ k f.there (ap not (eq-eqb _ _ (sym f.here))))
 
 pub numbers_by_places : (m : List ℕ) → numbers_free (decode m) ≡ all (word m OFFERS) (λ j. number_free (decode m) (word m (offer_place j)))
 unfolding numbers_free decode

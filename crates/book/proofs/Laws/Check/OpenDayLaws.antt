@@ -1,5 +1,5 @@
 -- What a unit has open on a day: its offers' amounts, the walk through its orders of the day, and both together.
-use Rattle.std.proofs.Common.{◌≡◌, ℕ, zero, suc, ◌+◌, ◌-◌, ◌*◌, ◌/◌, ◌%◌, ◌<◌, ◌≤◌, cond, ◌&&◌, eqb, List, length, get_or, set, sym, refl, ap, ◌∙◌, zero-add, arith, ne_eqb}
+use Rattle.std.proofs.Common.{◌≡◌, ℕ, zero, suc, ◌+◌, ◌-◌, ◌*◌, ◌/◌, ◌%◌, ◌<◌, ◌≤◌, cond, ◌&&◌, eqb, List, length, get_or, set, Option, Some, None, is_some, false, sym, refl, ap, ◌∙◌, arith, ne_eqb}
 use native.Mathlib.Decide.{dec_lt, ℕ_discrete}
 use Rattle.measures.specs.Ranges.{most_energy}
 use Rattle.measures.specs.Lists.{sum}
@@ -7,8 +7,7 @@ use Rattle.measures.proofs.ListLaws.{and_left-false, and_right_false, sum_none, 
 use Rattle.book.specs.Layout.{UNITS, OFFERS, ORDERS, offer_place, order_place, UNIT, DIRECTION, PERIOD, QUANTITY, amount_place, word, amount_at}
 use Rattle.book.specs.Inner.Readable.{Ranged}
 use Rattle.book.specs.Inner.Fitting.{Below, Added, order_share, offer_share}
-use Rattle.book.specs.Inner.Pass.{Pass, cell_at, day_cell}
-use Rattle.book.specs.Inner.Whole.{by_day, Latest, raising_direction, open_up, open_down, BothAdded, hour_share, Gathered, OffersOther, DayIdle}
+use Rattle.book.specs.Inner.Whole.{by_day, link_of, Latest, raising_direction, open_up, open_down, BothAdded, hour_share, Gathered, OffersOther, DayIdle}
 use Rattle.book.proofs.Laws.Check.ShareLaws.{
   order_words_lem,
   added_none,
@@ -21,7 +20,6 @@ use Rattle.book.proofs.Laws.Check.ShareLaws.{
   shares_more,
 }
 use Rattle.book.proofs.Laws.Check.LinkedLaws.{key_unit, key_day, key_by}
-use Rattle.book.proofs.Laws.Check.PassLaws.{pass_ext}
 
 -- an amount of a day, by its place
 pub amount_at_lem : (m : List ℕ) (j d h : ℕ) → word m (amount_place j (24 * d) + h) ≡ amount_at m j (24 * d + h)
@@ -190,51 +188,50 @@ module _ (m : List ℕ) (k d : ℕ) (r : Ranged m) (unit_in : k < word m UNITS) 
           lowering = walked_none _ _ y₀ at a.to (λ i h b c e. share_away (1 - direction) i h b e (a.none i c e));
         }
 
-    pub walking_more : (x y x' y' : List ℕ) (at t : ℕ) → 0 < at → Walking m k d direction x₀ y₀ x y at
-        → Latest (by_day m) (by_day m (at - 1)) t (at - 1)
-        → BothAdded x y x' y' (hour_share m direction (at - 1)) (hour_share m (1 - direction) (at - 1)) most_energy
+    pub walking_more : (x y x' y' : List ℕ) (i t : ℕ) → Walking m k d direction x₀ y₀ x y (i + 1)
+        → Latest (by_day m) (by_day m i) t i
+        → BothAdded x y x' y' (hour_share m direction i) (hour_share m (1 - direction) i) most_energy
         → Walking m k d direction x₀ y₀ x' y' t
-    walking_more x y x' y' at t h g a b = go (rw (g.own h) at a) (rw e at g.raising) (rw e at g.lowering)
+    walking_more x y x' y' i t g a b = go (rw own at a)
       where
-        e : at ≡ at - 1 + 1
-        e = omega arith
+        own : by_day m i ≡ 64 * d + k
+        own = let e : i ≡ i + 1 - 1 = omega arith in ap (by_day m) e ∙ g.own (omega arith)
 
-        small : at - 1 < 256
+        inside : i < word m ORDERS
+        inside = let f = g.few in omega arith
+
+        small : i < 256
         small =
-            let f = g.few in
+            let f = inside in
             let o = r.readable.orders_to in
             omega arith
 
-        inside : at - 1 < word m ORDERS
-        inside = let f = g.few in omega arith
-
-        go : Latest (by_day m) (64 * d + k) t (at - 1) → Walked (day_share m k d direction) (word m ORDERS) x₀ x (at - 1 + 1)
-            → Walked (day_share m k d (1 - direction)) (word m ORDERS) y₀ y (at - 1 + 1) → Walking m k d direction x₀ y₀ x' y' t
-        go w u v =
-            let i = inside in
+        go : Latest (by_day m) (64 * d + k) t i → Walking m k d direction x₀ y₀ x' y' t
+        go w =
+            let h = inside in
             record {
               few = let q = w.to in omega arith;
               own = w.own;
-              raising = walked_more _ _ x₀ x x' (at - 1) t small w.to (λ i h b c f. share_away direction i h b (omega arith) (w.none i c f)) u
-                  (added_of_day direction (at - 1) x x' i (g.own h) b.raising);
-              lowering = walked_more _ _ y₀ y y' (at - 1) t small w.to (λ i h b c f. share_away (1 - direction) i h b (omega arith) (w.none i c f)) v
-                  (added_of_day (1 - direction) (at - 1) y y' i (g.own h) b.lowering);
+              raising = walked_more _ _ x₀ x x' i t small w.to (λ j h b c f. share_away direction j h b (omega arith) (w.none j c f)) g.raising
+                  (added_of_day direction i x x' h own b.raising);
+              lowering = walked_more _ _ y₀ y y' i t small w.to (λ j h b c f. share_away (1 - direction) j h b (omega arith) (w.none j c f)) g.lowering
+                  (added_of_day (1 - direction) i y y' h own b.lowering);
             }
 
-    pub walking_ends : (x y : List ℕ) (at : ℕ) → at ≤ 0 → Walking m k d direction x₀ y₀ x y at → direction ≡ raising_direction m k
+    pub walking_ends : (x y : List ℕ) → Walking m k d direction x₀ y₀ x y 0 → direction ≡ raising_direction m k
         → BothAdded x₀ y₀ x y (λ h. sum (word m ORDERS) (λ i. order_share m (k + 1) (raising_direction m k) i (24 * d + h)))
         (λ h. sum (word m ORDERS) (λ i. order_share m (k + 1) (1 - raising_direction m k) i (24 * d + h))) 1_024_000_000_000
-    walking_ends x y at h g q =
-        let e : at ≡ 0 = omega arith in
+    walking_ends x y g q =
         rw (← q) (record {
-          raising = walked_ends (day_share m k d direction) (word m ORDERS) x₀ x (rw e at g.raising);
-          lowering = walked_ends (day_share m k d (1 - direction)) (word m ORDERS) y₀ y (rw e at g.lowering);
+          raising = walked_ends (day_share m k d direction) (word m ORDERS) x₀ x g.raising;
+          lowering = walked_ends (day_share m k d (1 - direction)) (word m ORDERS) y₀ y g.lowering;
         })
 
   -- nothing open: no offer of the unit, no order of the unit and day
-  pub day_idle : (t : ℕ) → t ≤ 0 → Latest (by_day m) (64 * d + k) t (word m ORDERS) → OffersOther m (k + 1) (word m OFFERS) → DayIdle m k d
+  pub day_idle : (t : Option ℕ) → is_some t ≡ false → Latest (by_day m) (64 * d + k) (link_of t) (word m ORDERS) → OffersOther m (k + 1) (word m OFFERS) → DayIdle m k d
   unfolding open_up open_down
-  day_idle t z l o =
+  day_idle (Some i) z l o = cc
+  day_idle None z l o =
       record {
         up = λ h b.
             let a = sum-zero (word m OFFERS) (λ j. offer_share m (k + 1) j (24 * d + h)) (λ j q. offer_other m (k + 1) j (o.none j q) (24 * d + h)) in
@@ -247,49 +244,16 @@ module _ (m : List ℕ) (k d : ℕ) (r : Ranged m) (unit_in : k < word m UNITS) 
       }
 
 -- the offers and the orders gathered
-pub gathered : (m : List ℕ) (k d : ℕ) (x₀ y₀ x₁ x y : List ℕ) → Below 0 x₀ → Below 0 y₀ → length x₀ ≡ 24 → length y₀ ≡ 24
+pub gathered : (m : List ℕ) (k d : ℕ) (x₀ y₀ x₁ x y : List ℕ) → Below 0 x₀ → Below 0 y₀
     → Added 24 x₀ x₁ (λ h. sum (word m OFFERS) (λ j. offer_share m (k + 1) j (24 * d + h))) 32_000_000_000
     → BothAdded x₁ y₀ x y (λ h. sum (word m ORDERS) (λ i. order_share m (k + 1) (raising_direction m k) i (24 * d + h)))
     (λ h. sum (word m ORDERS) (λ i. order_share m (k + 1) (1 - raising_direction m k) i (24 * d + h))) 1_024_000_000_000
     → Gathered m k d x y
 unfolding open_up open_down
-gathered m k d x₀ y₀ x₁ x y zx zy lx ly a b =
+gathered m k d x₀ y₀ x₁ x y zx zy a b =
     record {
       up = λ h l. omega (arith, zx h, a.each h l, b.raising.each h l);
       down = λ h l. omega (arith, zy h, b.lowering.each h l);
       up_to = λ h. omega (arith, zx h, a.grown h, b.raising.grown h);
       down_to = λ h. omega (arith, zy h, b.lowering.grown h);
-      up_long = b.raising.long ∙ a.long ∙ lx;
-      down_long = b.lowering.long ∙ ly;
     }
-
--- the pass over a day's tables, and over a day with nothing open, is that with what is open
-cell_ext : (m : List ℕ) (i l x x' y y' : ℕ) → x ≡ x' → y ≡ y' → cell_at m i l x y ≡ cell_at m i l x' y'
-cell_ext m i l x x' y y' ex ey = rw (ex, ey)
-
-module _ (m : List ℕ) (k d at : ℕ) (limits : List ℕ) (bad marks whole volume : ℕ) where
-  pub day_gathered : (x y : List ℕ) → Gathered m k d x y → Pass 24 (day_cell m at limits (λ h. get_or x (0 + h) 0) (λ h. get_or y (0 + h) 0)) bad marks whole volume
-      → Pass 24 (day_cell m at limits (λ h. open_up m k (24 * d + h)) (λ h. open_down m k (24 * d + h))) bad marks whole volume
-  unfolding day_cell
-  day_gathered x y g p =
-      pass_ext 24 _ _ bad marks whole volume
-      (λ h b. cell_ext m _ _ _ _ _ _ (ap (λ (i : ℕ). get_or x i 0) (zero-add h) ∙ g.up h b) (ap (λ (i : ℕ). get_or y i 0) (zero-add h) ∙ g.down h b)) p
-
-  pub day_nothing : DayIdle m k d → Pass 24 (day_cell m at limits (λ h. 0) (λ h. 0)) bad marks whole volume
-      → Pass 24 (day_cell m at limits (λ h. open_up m k (24 * d + h)) (λ h. open_down m k (24 * d + h))) bad marks whole volume
-  unfolding day_cell
-  day_nothing g p = pass_ext 24 _ _ bad marks whole volume (λ h b. cell_ext m _ _ _ _ _ _ (g.up h b) (g.down h b)) p
-
--- none of the offers passed is the unit's
-pub other_none : (m : List ℕ) (u : ℕ) → OffersOther m u 0
-other_none m u = record { none = λ j h. absurd (omega arith) }
-
-pub other_more : (m : List ℕ) (u n : ℕ) → OffersOther m u n → (word m (offer_place n + UNIT) ≡ u → ⊥) → OffersOther m u (n + 1)
-other_more m u n a b = record { none = λ j h. go j h (ℕ_discrete j n) }
-  where
-    go : (j : ℕ) → j < n + 1 → Dec (j ≡ n) → word m (offer_place j + UNIT) ≡ u → ⊥
-    go j h (yes e) w = b (sym (ap (λ (i : ℕ). word m (offer_place i + UNIT)) e) ∙ w)
-    go j h (no e) w = a.none j (omega arith) w
-
-pub other_all : (m : List ℕ) (u n t : ℕ) → t ≤ n → OffersOther m u n → OffersOther m u t
-other_all m u n t h a = record { none = λ j l. a.none j (omega arith) }

@@ -1,9 +1,9 @@
 -- The pass over cells in turn: none, one more, a day more.
-use Rattle.std.proofs.Common.{◌≡◌, ℕ, zero, suc, ◌+◌, ◌-◌, ◌*◌, ◌%◌, ◌<◌, ◌≤◌, sym, ap, ◌∙◌, add-zero, add-suc, arith}
+use Rattle.std.proofs.Common.{◌≡◌, ℕ, zero, suc, ◌+◌, ◌-◌, ◌*◌, ◌%◌, ◌<◌, ◌≤◌, refl, sym, ap, ◌∙◌, add-zero, add-suc, arith}
 use native.Mathlib.Decide.{dec_lt}
 use Rattle.measures.specs.Lists.{sum}
 use Rattle.measures.proofs.ListLaws.{sum_none, sum_more, sum_ext}
-use Rattle.book.specs.Inner.Pass.{Same, Low, Joined, Cell, Fits, CellsFit, Pass}
+use Rattle.book.specs.Inner.Pass.{Same, Low, Joined, Cell, Fits, CellsFit, Pass, Limited, Together}
 use Rattle.book.proofs.Laws.Check.CellLaws.{joined-low, joined_marks}
 
 -- a sum over n + b numbers is that over n and that over the b that follow
@@ -25,10 +25,6 @@ term c = c.held + (c.raised + c.up)
 
 abbrev pub most : Cell → ℕ
 most c = c.volume + (c.up + c.down)
-
--- that no hour limit passes the largest capacity
-pub record Limited (f : ℕ → Cell) : Type 0 where
-  pub limit : (i : ℕ) → (f i).limit ≤ 5_000_000
 
 module _ (n : ℕ) (f : ℕ → Cell) (l : Limited f) (c : CellsFit n f) where
   term-small : sum n (λ i. term (f i)) ≤ 2_000_000_000_000 * n
@@ -197,3 +193,12 @@ pass_ext n f g bad marks whole volume e p =
       term = λ h. p.term h ∙ sum_ext n _ _ (λ i l. ap (λ (c : Cell). term c) (e i l));
       most = λ h. p.most h ∙ sum_ext n _ _ (λ i l. ap (λ (c : Cell). most c) (e i l));
     }
+
+-- one day more
+pub days_more : (f : ℕ → Cell) → Limited f → (d bad marks whole volume bad₂ marks₂ whole₂ volume₂ bad' marks' whole' volume' : ℕ) → d < 31
+    → Pass (24 * d) f bad marks whole volume → Pass 24 (λ h. f (24 * d + h)) bad₂ marks₂ whole₂ volume₂
+    → Together bad marks whole volume bad₂ marks₂ whole₂ volume₂ bad' marks' whole' volume' → Pass (24 * (d + 1)) f bad' marks' whole' volume'
+days_more f l d bad marks whole volume bad₂ marks₂ whole₂ volume₂ bad' marks' whole' volume' few p q j =
+    let e : 24 * (d + 1) ≡ 24 * d + 24 = omega arith in
+    rw e (pass_join (24 * d) f bad marks whole volume (omega arith) l p 24 (λ h. f (24 * d + h)) bad₂ marks₂ whole₂ volume₂ bad' marks' whole' volume'
+    (omega arith) (λ i h. refl) q j.faults j.marked j.term j.most)

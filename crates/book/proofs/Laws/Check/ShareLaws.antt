@@ -1,6 +1,6 @@
 -- Amounts added by period: none, one more, and what an order and an offer in memory add.
 use Rattle.std.proofs.Common.{◌≡◌, ℕ, zero, suc, ◌+◌, ◌*◌, ◌<◌, ◌≤◌, ◌&&◌, eqb, List, [], ◌∷◌, length, get_or, set, refl}
-use Rattle.std.proofs.Common.{sym, ap, ◌∙◌, add-zero, arith, length-set, get_or-set_other, get_or-set_same, eq-eqb, ne_eqb}
+use Rattle.std.proofs.Common.{sym, ◌∙◌, add-zero, arith, length-set, get_or-set_other, get_or-set_same, eq-eqb, ne_eqb}
 use native.Mathlib.Decide.{ℕ_discrete, dec_lt}
 use Rattle.measures.specs.Ranges.{most_energy}
 use Rattle.measures.specs.Lists.{sum}
@@ -92,25 +92,6 @@ pub record Adding (l x : List ℕ) (f : ℕ → ℕ) (p : ℕ) : Type 0 where
   pub passed : (i : ℕ) → i < p → get_or x i 0 ≡ get_or l i 0 + f i
   pub still : (i : ℕ) → p ≤ i → get_or x i 0 ≡ get_or l i 0
 
-pub adding_none : (l : List ℕ) (f : ℕ → ℕ) → Adding l l f 0
-adding_none l f = record { long = refl; passed = λ i h. absurd (omega arith); still = λ i h. refl }
-
-pub adding_more : (l x : List ℕ) (f : ℕ → ℕ) (p v : ℕ) → p < length l → v ≡ f p → Adding l x f p → Adding l (set x p (get_or x p 0 + v)) f (p + 1)
-adding_more l x f p v h ev a =
-    let n = a.long in
-    record {
-      long = length-set x p _ ∙ a.long;
-      passed = λ i k. go i k (ℕ_discrete i p);
-      still = λ i k. get_or-set_other x p i _ 0 (omega arith) ∙ a.still i (omega arith);
-    }
-  where
-    go : (i : ℕ) → i < p + 1 → Dec (i ≡ p) → get_or (set x p (get_or x p 0 + v)) i 0 ≡ get_or l i 0 + f i
-    go i k (yes e) =
-        let n = a.long in
-        let s = a.still p (omega arith) in
-        rw (e, ← ev) (get_or-set_same x p _ 0 (omega arith) ∙ ap (λ (y : ℕ). y + v) s)
-    go i k (no ne) = get_or-set_other x p i _ 0 ne ∙ a.passed i (omega arith)
-
 pub adding_ends : (n : ℕ) (l x : List ℕ) (f s : ℕ → ℕ) (p g : ℕ) → p ≡ n → Adding l x f p → ((i : ℕ) → i < n → f i ≤ g) → ((i : ℕ) → s i ≡ f i)
     → Added n l x s g
 adding_ends n l x f s p g e a b q =
@@ -146,8 +127,3 @@ shares_none n l s = added_none n l _ 0 (λ p h. sum_none _)
 pub shares_more : (n : ℕ) (l x y : List ℕ) (s : ℕ → ℕ → ℕ) (k : ℕ) → Added n l x (λ p. sum k (λ i. s i p)) (most_energy * k) → Added n x y (s k) most_energy
     → Added n l y (λ p. sum (k + 1) (λ i. s i p)) (most_energy * (k + 1))
 shares_more n l x y s k a b = added_more n l x y _ (s k) _ (most_energy * k) most_energy _ a b (λ p h. sum_more k (λ i. s i p)) (omega arith)
-
-pub shares_end : (n : ℕ) (l x : List ℕ) (s : ℕ → ℕ → ℕ) (k t g : ℕ) → k ≡ t → most_energy * k ≤ g → Added n l x (λ p. sum k (λ i. s i p)) (most_energy * k)
-    → Added n l x (λ p. sum t (λ i. s i p)) g
-shares_end n l x s k t g e h a =
-    record { long = a.long; each = λ p i. a.each p i ∙ rw e; grown = λ p. let u = a.grown p in omega arith }

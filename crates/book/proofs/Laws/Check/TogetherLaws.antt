@@ -1,5 +1,5 @@
 -- Open orders that may stand together: a unit's orders of a period go one way, and no two of a period cross.
-use Rattle.std.proofs.Common.{◌≡◌, ℕ, zero, suc, ◌+◌, ◌-◌, ◌*◌, ◌<◌, ◌≤◌, Bool, true, false, not, ◌&&◌, eqb, List, [], ◌∷◌, length, get_or, set, replicate, refl}
+use Rattle.std.proofs.Common.{◌≡◌, ℕ, zero, suc, ◌+◌, ◌-◌, ◌*◌, ◌<◌, ◌≤◌, Bool, true, false, not, ◌&&◌, eqb, List, [], ◌∷◌, length, get_or, set, replicate, None, refl}
 use Rattle.std.proofs.Common.{sym, ap, ◌∙◌, arith, get_or-set_other, get_or-set_same, eq-eqb, eqb-true}
 use native.Mathlib.Decide.{ℕ_discrete, dec_lt}
 use borrow.Author.Tests.{eqb-false, not-false}
@@ -14,7 +14,7 @@ use Rattle.matching.proofs.Laws.Periods.NoteLaws.{high_new, high-not, low_new, l
 use Rattle.book.specs.Sound.{one_direction, apart}
 use Rattle.book.specs.Layout.{DAYS, CEILING, PHASE, ORDERS, order_place, UNIT, DIRECTION, PERIOD, PRICE, word, orders_part, decode}
 use Rattle.book.specs.Inner.Readable.{Ranged, pair_fits, pairs_fit}
-use Rattle.book.specs.Inner.Whole.{by_period, by_day, Latest, Alike, Prices, PricesKept, crossless, Priced, pairs_before, OrderStands}
+use Rattle.book.specs.Inner.Whole.{by_period, by_day, Latest, AlikeBefore, Alike, Prices, PricesKept, crossless, Priced, pairs_before, OrderStands}
 use Rattle.book.proofs.Laws.Memory.RangeFacts.{order_word}
 use Rattle.book.proofs.Laws.Check.ShareLaws.{order_words_lem}
 use Rattle.book.proofs.Laws.Check.MisfitLaws.{zeros_at}
@@ -120,11 +120,18 @@ module _ (m : List ℕ) (k : ℕ) where
         none_period = λ j h l e. p.none j h l (same_period j e);
       }
 
-  module _ (a b : ℕ) (s : Seeking m k a b) where
-    pub seeking_more : (c d : ℕ) → 0 < a → 0 < b → (word m (order_place (a - 1) + PERIOD) ≡ word m (order_place k + PERIOD) → ⊥)
-        → (word m (order_place (b - 1) + UNIT) ≡ word m (order_place k + UNIT) → ⊥)
-        → Latest (by_day m) (by_day m (a - 1)) c (a - 1) → Latest (by_period m) (by_period m (b - 1)) d (b - 1) → Seeking m k c d
-    seeking_more c d ha hb na nb u p =
+  -- at an order of the unit and day and one of the period
+  module _ (a b : ℕ) (s : Seeking m k (a + 1) (b + 1)) where
+    at_day : by_day m a ≡ by_day m k
+    at_day = let e : a ≡ a + 1 - 1 = omega arith in ap (by_day m) e ∙ s.own_day (omega arith)
+
+    at_period : by_period m b ≡ by_period m k
+    at_period = let e : b ≡ b + 1 - 1 = omega arith in ap (by_period m) e ∙ s.own_period (omega arith)
+
+    pub seeking_more : (c d : ℕ) → (word m (order_place a + PERIOD) ≡ word m (order_place k + PERIOD) → ⊥)
+        → (word m (order_place b + UNIT) ≡ word m (order_place k + UNIT) → ⊥)
+        → Latest (by_day m) (by_day m a) c a → Latest (by_period m) (by_period m b) d b → Seeking m k c d
+    seeking_more c d na nb u p =
         let x = s.few_day in
         let y = s.few_period in
         let z = u.to in
@@ -132,69 +139,49 @@ module _ (m : List ℕ) (k : ℕ) where
         record {
           few_day = omega arith;
           few_period = omega arith;
-          own_day = λ h. u.own h ∙ s.own_day ha;
-          own_period = λ h. p.own h ∙ s.own_period hb;
-          none_day = λ j h l. days_of j h l (ℕ_discrete j (a - 1)) (dec_lt j a);
-          none_period = λ j h l. periods_of j h l (ℕ_discrete j (b - 1)) (dec_lt j b);
+          own_day = λ h. u.own h ∙ at_day;
+          own_period = λ h. p.own h ∙ at_period;
+          none_day = λ j h l. days_of j h l (ℕ_discrete j a) (dec_lt j a);
+          none_period = λ j h l. periods_of j h l (ℕ_discrete j b) (dec_lt j b);
         }
       where
-        days_of : (j : ℕ) → c ≤ j → j < k → Dec (j ≡ a - 1) → Dec (j < a) → AlikeAt m k j → ⊥
+        days_of : (j : ℕ) → c ≤ j → j < k → Dec (j ≡ a) → Dec (j < a) → AlikeAt m k j → ⊥
         days_of j h l (yes e) q w = na (sym (ap (λ (i : ℕ). word m (order_place i + PERIOD)) e) ∙ w.1)
-        days_of j h l (no e) (yes q) w = u.none j h (omega arith) (same_day j w ∙ sym (s.own_day ha))
+        days_of j h l (no e) (yes q) w = u.none j h q (same_day j w ∙ sym at_day)
         days_of j h l (no e) (no q) w = s.none_day j (omega arith) l w
 
-        periods_of : (j : ℕ) → d ≤ j → j < k → Dec (j ≡ b - 1) → Dec (j < b) → AlikeAt m k j → ⊥
+        periods_of : (j : ℕ) → d ≤ j → j < k → Dec (j ≡ b) → Dec (j < b) → AlikeAt m k j → ⊥
         periods_of j h l (yes e) q w = nb (sym (ap (λ (i : ℕ). word m (order_place i + UNIT)) e) ∙ w.0)
-        periods_of j h l (no e) (yes q) w = p.none j h (omega arith) (same_period j w ∙ sym (s.own_period hb))
+        periods_of j h l (no e) (yes q) w = p.none j h q (same_period j w ∙ sym at_period)
         periods_of j h l (no e) (no q) w = s.none_period j (omega arith) l w
 
-    pub none_of_day : a ≤ 0 → Alike m k 0
-    none_of_day h = record {
-      to = omega arith;
-      unit = λ z. absurd (omega arith);
-      period = λ z. absurd (omega arith);
-      none = λ z j l u p. s.none_day j (omega arith) l (u, p);
-    }
-
-    pub none_of_period : b ≡ 0 → Alike m k 0
-    none_of_period h = record {
-      to = omega arith;
-      unit = λ z. absurd (omega arith);
-      period = λ z. absurd (omega arith);
-      none = λ z j l u p. s.none_period j (omega arith) l (u, p);
-    }
-
-    pub alike-by_day : Ranged m → k < word m ORDERS → 0 < a → word m (order_place (a - 1) + PERIOD) ≡ word m (order_place k + PERIOD) → Alike m k a
-    alike-by_day r hk h e =
+    pub alike-by_day : Ranged m → k < word m ORDERS → word m (order_place a + PERIOD) ≡ word m (order_place k + PERIOD) → AlikeBefore m k a
+    alike-by_day r hk e =
         let f = s.few_day in
-        record { to = f; unit = λ z. same_unit m (a - 1) k r (omega arith) hk (s.own_day h); period = λ z. e; none = λ z. absurd (omega arith) }
+        record { to = omega arith; unit = same_unit m a k r (omega arith) hk at_day; period = e }
 
-    pub alike-by_period : (b ≡ 0 → ⊥) → word m (order_place (b - 1) + UNIT) ≡ word m (order_place k + UNIT) → Alike m k b
+    pub alike-by_period : word m (order_place b + UNIT) ≡ word m (order_place k + UNIT) → AlikeBefore m k b
     unfolding by_period
-    alike-by_period h e = record { to = s.few_period; unit = λ z. e; period = s.own_period; none = λ z. absurd (h z) }
+    alike-by_period e = let f = s.few_period in record { to = omega arith; unit = e; period = at_period }
 
 -- the order at place k beside one of its unit and period, or none
 module _ (m : List ℕ) (k : ℕ) (hk : k < 256) where
-  pub direction_alone : (t : ℕ) → t ≡ 0 → Alike m k t → true ≡ all k (λ j. one_direction (order_in m k) (order_in m j))
-  direction_alone t e al = sym (all_by k _ (λ j l. direction_holds m k j hk (omega arith) (λ u p. absurd (al.none e j l (sym u) (sym p)))))
+  pub direction_alone : Alike m k None → true ≡ all k (λ j. one_direction (order_in m k) (order_in m j))
+  direction_alone al = sym (all_by k _ (λ j l. direction_holds m k j hk (omega arith) (λ u p. absurd (al j l (sym u) (sym p)))))
 
-  module _ (t : ℕ) (some : t ≡ 0 → ⊥) (al : Alike m k t) where
-    place : (0 < t) × (t - 1 < k)
-    place = let z = al.to in go (dec_lt 0 t)
-      where
-        go : Dec (0 < t) → (0 < t) × (t - 1 < k)
-        go (yes h) = let z = al.to in (h, omega arith)
-        go (no h) = absurd (some (omega arith))
+  module _ (t : ℕ) (al : AlikeBefore m k t) where
+    before : t < k
+    before = al.to
 
-    direction_other : (word m (order_place (t - 1) + DIRECTION) ≡ word m (order_place k + DIRECTION) → ⊥) → false
+    direction_other : (word m (order_place t + DIRECTION) ≡ word m (order_place k + DIRECTION) → ⊥) → false
         ≡ all k (λ j. one_direction (order_in m k) (order_in m j))
     direction_other n =
-        let h = place in
-        sym (all_fails k (λ j. one_direction (order_in m k) (order_in m j)) (t - 1) h.1
-        (false_by _ (λ e. n (sym (direction_fact m k (t - 1) hk (omega arith) e (sym (al.unit h.0)) (sym (al.period h.0)))))))
+        let h = before in
+        sym (all_fails k (λ j. one_direction (order_in m k) (order_in m j)) t h
+        (false_by _ (λ e. n (sym (direction_fact m k t hk (omega arith) e (sym al.unit) (sym al.period))))))
 
     -- those before go one way, so the one found stands for all
-    direction_same : pairs_before m k ≡ true → word m (order_place (t - 1) + DIRECTION) ≡ word m (order_place k + DIRECTION) → true
+    direction_same : pairs_before m k ≡ true → word m (order_place t + DIRECTION) ≡ word m (order_place k + DIRECTION) → true
         ≡ all k (λ j. one_direction (order_in m k) (order_in m j))
     unfolding pairs_before
     direction_same pb e = sym (all_by k _ (λ j l. direction_holds m k j hk (omega arith) (λ u p. sym (dirs j l (sym u) (sym p)))))
@@ -208,23 +195,23 @@ module _ (m : List ℕ) (k : ℕ) (hk : k < 256) where
 
         dirs : (j : ℕ) → j < k → word m (order_place j + UNIT) ≡ word m (order_place k + UNIT) → word m (order_place j + PERIOD) ≡ word m (order_place k + PERIOD)
             → word m (order_place j + DIRECTION) ≡ word m (order_place k + DIRECTION)
-        dirs j l u p = go (dec_lt j (t - 1)) (dec_lt (t - 1) j)
+        dirs j l u p = go (dec_lt j t) (dec_lt t j)
           where
-            go : Dec (j < t - 1) → Dec (t - 1 < j) → word m (order_place j + DIRECTION) ≡ word m (order_place k + DIRECTION)
+            go : Dec (j < t) → Dec (t < j) → word m (order_place j + DIRECTION) ≡ word m (order_place k + DIRECTION)
             go (yes a) b =
-                let h = place in
-                sym (direction_fact m (t - 1) j (omega arith) (omega arith) (pair (t - 1) j h.1 a) (al.unit h.0 ∙ sym u) (al.period h.0 ∙ sym p))
+                let h = before in
+                sym (direction_fact m t j (omega arith) (omega arith) (pair t j h a) (al.unit ∙ sym u) (al.period ∙ sym p))
                 ∙ e
             go (no a) (yes b) =
-                let h = place in
-                direction_fact m j (t - 1) (omega arith) (omega arith) (pair j (t - 1) l b) (u ∙ sym (al.unit h.0)) (p ∙ sym (al.period h.0)) ∙ e
-            go (no a) (no b) = let q : j ≡ t - 1 = omega arith in ap (λ (i : ℕ). word m (order_place i + DIRECTION)) q ∙ e
+                let h = before in
+                direction_fact m j t (omega arith) (omega arith) (pair j t l b) (u ∙ sym al.unit) (p ∙ sym al.period) ∙ e
+            go (no a) (no b) = let q : j ≡ t = omega arith in ap (λ (i : ℕ). word m (order_place i + DIRECTION)) q ∙ e
 
-    pub direction_tested : pairs_before m k ≡ true → eqb (word m (order_place (t - 1) + DIRECTION)) (word m (order_place k + DIRECTION))
+    pub direction_tested : pairs_before m k ≡ true → eqb (word m (order_place t + DIRECTION)) (word m (order_place k + DIRECTION))
         ≡ all k (λ j. one_direction (order_in m k) (order_in m j))
-    direction_tested pb = go (eqb (word m (order_place (t - 1) + DIRECTION)) (word m (order_place k + DIRECTION))) refl
+    direction_tested pb = go (eqb (word m (order_place t + DIRECTION)) (word m (order_place k + DIRECTION))) refl
       where
-        go : (b : Bool) → eqb (word m (order_place (t - 1) + DIRECTION)) (word m (order_place k + DIRECTION)) ≡ b → b
+        go : (b : Bool) → eqb (word m (order_place t + DIRECTION)) (word m (order_place k + DIRECTION)) ≡ b → b
             ≡ all k (λ j. one_direction (order_in m k) (order_in m j))
         go true e = direction_same pb (eqb-true _ _ e)
         go false e = direction_other (eqb-false _ _ e)
@@ -403,9 +390,6 @@ module _ (m : List ℕ) (g : Ranged m) (k : ℕ) (h : k < word m ORDERS) (high l
             price_entered (omega arith) (omega arith) (omega arith) (ℕ_discrete d 1) (dec_lt price (get_or high p 0)) (dec_lt price (get_or low p 0));
       }
 
-pub not_priced : (m : List ℕ) (k : ℕ) (high low : List ℕ) → false ≡ all k (crossless m k) → Priced m k false high low
-not_priced m k high low e = record { answer = e; entered = λ z. both_ways (sym z) }
-
 -- an order that stands, or does not
 module _ (m : List ℕ) (k : ℕ) (high low : List ℕ) where
   pub stands_not : (r : Bool) → r ≡ all k (λ j. one_direction (order_in m k) (order_in m j)) → r ≡ false → OrderStands m k false high low
@@ -457,12 +441,12 @@ pub record Stood (m : List ℕ) (k : ℕ) (high low : List ℕ) : Type 0 where
   pub kept : PricesKept m k high low
 
 -- no price is entered yet
-pub kept_none : (m : List ℕ) (n : ℕ) → periods (word m DAYS) ≤ n → PricesKept m 0 (replicate n 0) (replicate n 10_000_001)
+pub kept_none : (m : List ℕ) (n : ℕ) → (word m PHASE ≡ 1 → periods (word m DAYS) ≤ n) → PricesKept m 0 (replicate n 0) (replicate n 10_000_001)
 kept_none m n few =
     record {
-      high_long = λ z. rw (length-replicate {A = ℕ} n 0) few;
-      low_long = λ z. rw (length-replicate {A = ℕ} n 10_000_001) few;
-      prices = λ z. prices_none m n few;
+      high_long = λ z. rw (length-replicate {A = ℕ} n 0) (few z);
+      low_long = λ z. rw (length-replicate {A = ℕ} n 10_000_001) (few z);
+      prices = λ z. prices_none m n (few z);
     }
 
 pub stood_none : (m high low : List ℕ) → PricesKept m 0 high low → Stood m 0 high low

@@ -1,5 +1,5 @@
 -- What the pass over all periods of a unit says of its fit.
-use Rattle.std.proofs.Common.{◌≡◌, ℕ, ◌+◌, ◌<◌, ◌≤◌, true, false, leb, List, sym, arith, le-leb, leb-true}
+use Rattle.std.proofs.Common.{◌≡◌, ℕ, ◌+◌, ◌<◌, ◌≤◌, Bool, true, false, cond, eqb, ltb, leb, List, refl, sym, arith, ltb-true, ltb-false, le-leb, leb-true}
 use borrow.Author.Tests.{lt-leb}
 use Rattle.measures.specs.Lists.{sum, all}
 use Rattle.measures.proofs.ListLaws.{false_by, not_both, and_true, and_left, and_right, all_true, holds-all, all_at, all_by, sum_at}
@@ -8,7 +8,7 @@ use Rattle.limits.specs.Limits.{hour_of, hour_limit}
 use Rattle.book.specs.Refusals.{first_refusal}
 use Rattle.book.specs.Layout.{DAYS, UNITS, unit_place, CAPACITY, figure_place, RAISED, LOWERED, MARK, VOLUME, word}
 use Rattle.book.specs.Inner.Readable.{Ranged}
-use Rattle.book.specs.Inner.Fitting.{mark_holds, hour_holds, term_part, volume_part, term_at, volume_at, unit_holds, UnitCame}
+use Rattle.book.specs.Inner.Fitting.{mark_holds, hour_holds, term_part, volume_part, term_at, volume_at, unit_holds, SumsCame, UnitCame}
 use Rattle.book.specs.Inner.Pass.{Low, UnitPass, unit_cell}
 use Rattle.book.proofs.Laws.Check.BoundLaws.{volume_at-most}
 
@@ -109,7 +109,7 @@ module _ (m : List ℕ) (k : ℕ) (x y : ℕ → ℕ) where
       unfolding unit_cell volume_part
       most_is l = p.most l
 
-      pub unfit_bad : 1_099_511_627_775 < bad → false ≡ unit_holds m k x y
+      unfit_bad : 1_099_511_627_775 < bad → false ≡ unit_holds m k x y
       unfit_bad h = sym (false_by _ (λ t. let w = facts t in let l = low_by w.hours (traded-low w) in omega arith))
 
       pub unfit_marks : 3 < marks → false ≡ unit_holds m k x y
@@ -119,10 +119,10 @@ module _ (m : List ℕ) (k : ℕ) (x y : ℕ → ℕ) where
         low : Low bad
         low = omega arith
 
-        pub unfit_term : t < whole → false ≡ unit_holds m k x y
+        unfit_term : t < whole → false ≡ unit_holds m k x y
         unfit_term h = sym (false_by _ (λ z. let w = (facts z).term in let s = term_is low in omega arith))
 
-        pub unfit_volume : v < volume → false ≡ unit_holds m k x y
+        unfit_volume : v < volume → false ≡ unit_holds m k x y
         unfit_volume h = sym (false_by _ (λ z. let w = (facts z).most in let s = most_is low in omega arith))
 
         term_in : whole ≤ t → sum n (λ i. term_part m k i (x i)) ≤ term_at m k
@@ -131,7 +131,7 @@ module _ (m : List ℕ) (k : ℕ) (x y : ℕ → ℕ) where
         most_in : volume ≤ v → sum n (λ i. volume_part m k i (x i) (y i)) ≤ volume_at m k
         most_in a = let s = most_is low in omega arith
 
-        pub fit : marks ≤ 3 → whole ≤ t → volume ≤ v → true ≡ unit_holds m k x y
+        fit : marks ≤ 3 → whole ≤ t → volume ≤ v → true ≡ unit_holds m k x y
         fit h a b = sym (whole_by (record { marks = marks_in_lem (omega arith); hours = hours_in low; term = term_in a; most = most_in b }))
 
         -- the same with the number of what does not fit, where marks and volumes are in range
@@ -139,24 +139,24 @@ module _ (m : List ℕ) (k : ℕ) (x y : ℕ → ℕ) where
           hours-all : all n (λ i. hour_holds m k i (x i) (y i)) ≡ true
           hours-all = all_by n _ (λ i h. hour_by i (hours_in low i h))
 
-          pub came_term : t < whole → UnitCame m k x y 20
+          came_term : t < whole → UnitCame m k x y 20
           unfolding first_refusal
           came_term h =
               let s : term_at m k < sum n (λ i. term_part m k i (x i)) = let z = term_is low in omega arith in
               record { clean = λ c. rw (hours-all, lt-leb _ _ s); dirty = λ c. absurd (not_both _ g.marks c) }
 
-          pub came_volume : whole ≤ t → v < volume → UnitCame m k x y 21
+          came_volume : whole ≤ t → v < volume → UnitCame m k x y 21
           unfolding first_refusal
           came_volume a h =
               let s : volume_at m k < sum n (λ i. volume_part m k i (x i) (y i)) = let z = most_is low in omega arith in
               record { clean = λ c. rw (hours-all, le-leb _ _ (term_in a), lt-leb _ _ s); dirty = λ c. absurd (not_both _ g.marks c) }
 
-          pub came_fits : whole ≤ t → volume ≤ v → UnitCame m k x y 0
+          came_fits : whole ≤ t → volume ≤ v → UnitCame m k x y 0
           unfolding first_refusal
           came_fits a b =
               record { clean = λ c. rw (hours-all, le-leb _ _ (term_in a), le-leb _ _ (most_in b)); dirty = λ c. absurd (not_both _ g.marks c) }
 
-      pub came_bad : Tidy m k → 1_099_511_627_775 < bad → UnitCame m k x y 19
+      came_bad : Tidy m k → 1_099_511_627_775 < bad → UnitCame m k x y 19
       unfolding first_refusal
       came_bad g h = record { clean = λ c. rw not-all; dirty = λ c. absurd (not_both _ g.marks c) }
         where
@@ -165,3 +165,32 @@ module _ (m : List ℕ) (k : ℕ) (x y : ℕ → ℕ) where
               false_by _ (λ t.
               let l = low_by (λ i q. hour_facts i (all_at n (λ i. hour_holds m k i (x i) (y i)) i t q)) g.traded in
               omega arith)
+
+      -- what the sums come to decides
+      module _ (q : ℕ) (came : SumsCame m k bad whole volume q) where
+        pub sums_decide : marks ≤ 3 → eqb q 0 ≡ unit_holds m k x y
+        unfolding first_refusal
+        sums_decide h =
+            go (ltb 1_099_511_627_775 bad) (ltb (term_at m k) whole) (ltb (volume_at m k) volume) refl refl refl came
+          where
+            go : (a b c : Bool) → ltb 1_099_511_627_775 bad ≡ a → ltb (term_at m k) whole ≡ b → ltb (volume_at m k) volume ≡ c
+                → q ≡ cond (ltb 1_099_511_627_775 bad) 19 (cond (ltb (term_at m k) whole) 20 (cond (ltb (volume_at m k) volume) 21 0)) → eqb q 0 ≡ unit_holds m k x y
+            go true b c ea eb ec e = rw (rw ea at e) (unfit_bad (ltb-true _ _ ea))
+            go false true c ea eb ec e = rw (rw (ea, eb) at e) (unfit_term _ _ (ltb-false _ _ ea) refl refl (ltb-true _ _ eb))
+            go false false true ea eb ec e = rw (rw (ea, eb, ec) at e) (unfit_volume _ _ (ltb-false _ _ ea) refl refl (ltb-true _ _ ec))
+            go false false false ea eb ec e =
+                rw (rw (ea, eb, ec) at e) (fit _ _ (ltb-false _ _ ea) refl refl h (ltb-false _ _ eb) (ltb-false _ _ ec))
+
+        pub sums_came : Tidy m k → UnitCame m k x y q
+        unfolding first_refusal
+        sums_came g =
+            go (ltb 1_099_511_627_775 bad) (ltb (term_at m k) whole) (ltb (volume_at m k) volume) refl refl refl came
+          where
+            go : (a b c : Bool) → ltb 1_099_511_627_775 bad ≡ a → ltb (term_at m k) whole ≡ b → ltb (volume_at m k) volume ≡ c
+                → q ≡ cond (ltb 1_099_511_627_775 bad) 19 (cond (ltb (term_at m k) whole) 20 (cond (ltb (volume_at m k) volume) 21 0)) → UnitCame m k x y q
+            go true b c ea eb ec e = rw (rw ea at e) (came_bad g (ltb-true _ _ ea))
+            go false true c ea eb ec e = rw (rw (ea, eb) at e) (came_term _ _ (ltb-false _ _ ea) refl refl g (ltb-true _ _ eb))
+            go false false true ea eb ec e =
+                rw (rw (ea, eb, ec) at e) (came_volume _ _ (ltb-false _ _ ea) refl refl g (ltb-false _ _ eb) (ltb-true _ _ ec))
+            go false false false ea eb ec e =
+                rw (rw (ea, eb, ec) at e) (came_fits _ _ (ltb-false _ _ ea) refl refl g (ltb-false _ _ eb) (ltb-false _ _ ec))

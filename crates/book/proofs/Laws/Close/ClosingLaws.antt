@@ -7,22 +7,6 @@ use Rattle.book.specs.Layout.{DAYS, UNITS, OFFERS, ORDERS, block_words, day_plac
 use Rattle.book.specs.Inner.Pass.{Joined}
 use Rattle.book.proofs.Laws.Memory.RunLaws.{FourSet, four_set}
 
--- no hour yet, and one hour more
-pub closed_none : (m : List ℕ) (at : ℕ) → BlockClosed m m at 0
-closed_none m at =
-    record {
-      long = refl;
-      over =
-          record {
-            held = λ h l. absurd (omega arith);
-            raised = λ h l. absurd (omega arith);
-            lowered = λ h l. absurd (omega arith);
-            mark = λ h l. absurd (omega arith);
-            volume = λ h l. absurd (omega arith);
-          };
-      kept = λ i n. refl;
-    }
-
 module _ (m x : List ℕ) (at h : ℕ) (g : BlockClosed m x at h) (hh : h < hours) where
   -- this hour's figures are as they were
   pub hour_kept : (f i : ℕ) → i ≡ at + h + hours * f → word x i ≡ word m i
@@ -42,6 +26,7 @@ module _ (m x : List ℕ) (at h : ℕ) (g : BlockClosed m x at h) (hh : h < hour
     early : (c f i : ℕ) → c < h → f < 5 → i ≡ at + c + hours * f → word y i ≡ word x i
     early c f i hc hf e = four.other i (λ z. omega arith) (λ z. omega arith) (λ z. omega arith) (λ z. omega arith)
 
+    -- one hour more
     pub closed_more : BlockClosed m y at (h + 1)
     closed_more =
         record {
@@ -158,10 +143,7 @@ netted_same m x at n s =
           let e = n.lowered h l in omega arith;
     }
 
--- no unit yet, and one unit more
-pub over_none : (m : List ℕ) (d : ℕ) → DayOver m m d 0
-over_none m d = record { long = refl; over = λ j l. absurd (omega arith); before = λ i l. refl; behind = λ i l. refl }
-
+-- one unit more
 pub over_more : (m x y : List ℕ) (d k : ℕ) → DayOver m x d k → BlockClosed x y (day_place d k) hours → DayOver m y d (k + 1)
 over_more m x y d k g b = record {
   long = b.long ∙ g.long;
@@ -177,10 +159,7 @@ over_more m x y d k g b = record {
 pub over_netted : (m x : List ℕ) (d k : ℕ) → DayOver m x d k → DayNetted m d → k < word m UNITS → BlockNetted x (day_place d k)
 over_netted m x d k g n h = netted_same m x (day_place d k) (n k h) (λ i a z. g.behind i a)
 
--- no day yet, and one day more
-pub days_none : (m : List ℕ) → DaysOver m m 0
-days_none m = record { long = refl; over = λ d l j h. absurd (omega arith); before = λ i l. refl; behind = λ i l. refl }
-
+-- one day more
 pub days_more : (m x y : List ℕ) (n : ℕ) → word m UNITS ≤ 64 → DaysOver m x n → DayOver x y n (word x UNITS) → DaysOver m y (n + 1)
 days_more m x y n few g e = record {
   long = e.long ∙ g.long;

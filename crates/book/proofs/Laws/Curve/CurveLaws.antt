@@ -15,7 +15,10 @@ use Rattle.book.specs.Sound.{sound}
 use Rattle.book.specs.Refusals.{first_refusal}
 use Rattle.book.specs.Curve.{Drawn, curve, curve_refusal, curve_checks, first_half, second_half, points_from, points}
 use Rattle.book.specs.Layout.{DAYS, UNITS, figure_place, RAISED, LOWERED, word, figures_at, decode, laid_out, net_in}
-use Rattle.book.specs.declared.Answer.TheVariants.{Done, Refused}
+use Rattle.std.proofs.Common.{Ok, Err, cond}
+use Rattle.measures.specs.declared.refusals.Refusal.{Refusal}
+use Rattle.measures.specs.Refused.{number_of}
+use Rattle.measures.proofs.RefusedLaws.{number_some}
 use Rattle.book.specs.Contract.{sound_in, curve_on, Curved}
 use Rattle.book.specs.Inner.Readable.{Netted}
 use Rattle.book.proofs.Laws.Memory.RangeFacts.{units_held, unit_at_lem, days_held}
@@ -95,9 +98,6 @@ pub record Drawing (b : Book) (u p : ℕ) (pts₀ pts : List ℕ) (h : ℕ) : Ty
   pub long : length pts ≡ length pts₀
   pub written : take (2 * h) pts ++ (points_from b u (p + h) (24 - h) ++ drop 48 pts) ≡ points_from b u p 24 ++ drop 48 pts₀
 
-pub drawing_start : (b : Book) (u p : ℕ) (pts : List ℕ) → Drawing b u p pts pts 0
-drawing_start b u p pts = record { at = omega arith; long = refl; written = ap (λ (x : ℕ). points_from b u x 24 ++ drop 48 pts) (omega arith) }
-
 -- two stores, one behind the other
 put_two : (l : List ℕ) (i v w : ℕ) (ys : List ℕ) → i + 1 < 48 → 48 ≤ length l → take (i + 2) (set (set l i v) (i + 1) w)
     ++ (ys ++ drop 48 (set (set l i v) (i + 1) w)) ≡ take i l ++ ((v ∷ w ∷ ys) ++ drop 48 l)
@@ -146,16 +146,16 @@ module _ (m pts : List ℕ) (u day : ℕ) where
   unfolding curve_on
   on_sound e = cond-true (laid_out m) (curve (decode m) u day (length pts)) _ (sound-laid m e) refl
 
-  pub curved_refused : (r : ℕ) → curve_on m u day (length pts) ≡ record { refusal = r; points = [] } → (r ≡ 0 → ⊥) → Curved m pts u day (Refused r) pts
-  curved_refused r e n = record {
-    answer = rw (e, ne_eqb r 0 n) refl;
+  pub curved_refused : (r : Refusal) → curve_on m u day (length pts) ≡ record { refusal = number_of r; points = [] } → Curved m pts u day (Err r) pts
+  curved_refused r e = record {
+    answer = rw (e, ne_eqb (number_of r) 0 (number_some r)) refl;
     refused = λ h. refl;
-    accepted = λ h. absurd (n (sym (ap (λ (d : Drawn). d.refusal) e) ∙ h));
+    accepted = λ h. absurd (number_some r (sym (ap (λ (d : Drawn). d.refusal) e) ∙ h));
   }
 
-  pub curved_unsound : sound_in m ≡ false → Curved m pts u day (Refused 1) pts
+  unsound_drawn : sound_in m ≡ false → curve_on m u day (length pts) ≡ record { refusal = 1; points = [] }
   unfolding sound_in curve_on curve curve_refusal
-  curved_unsound e = curved_refused 1 (go (laid_out m) (sound (decode m)) refl refl) (λ z. absurd (omega arith))
+  unsound_drawn e = go (laid_out m) (sound (decode m)) refl refl
     where
       go : (a s : Bool) → laid_out m ≡ a → sound (decode m) ≡ s → curve_on m u day (length pts) ≡ record { refusal = 1; points = [] }
       go false s ea es = cond-false (laid_out m) (curve (decode m) u day (length pts)) _ ea refl
@@ -163,17 +163,24 @@ module _ (m pts : List ℕ) (u day : ℕ) where
           (rw (chain_unsound (decode m) (curve_checks (decode m) u day (length pts)) es) refl)
       go true true ea es = both_ways (sym (and_true (laid_out m) (sound (decode m)) ea es) ∙ e)
 
-  pub curved_checked : (r : ℕ) → sound_in m ≡ true → r ≡ first_refusal (curve_checks (decode m) u day (length pts)) → (r ≡ 0 → ⊥)
-      → Curved m pts u day (Refused r) pts
+  pub curved_unsound : (r : Refusal) → number_of r ≡ cond (sound_in m) 0 1 → Curved m pts u day (Err r) pts
+  curved_unsound r e = go (sound_in m) refl e
+    where
+      go : (s : Bool) → sound_in m ≡ s → number_of r ≡ cond s 0 1 → Curved m pts u day (Err r) pts
+      go true p q = absurd (number_some r q)
+      go false p q = curved_refused r (unsound_drawn p ∙ ap (λ (n : ℕ). record { refusal = n; points = [] }) (sym q))
+
+  pub curved_checked : (r : Refusal) → sound_in m ≡ true → number_of r ≡ first_refusal (curve_checks (decode m) u day (length pts))
+      → Curved m pts u day (Err r) pts
   unfolding curve curve_refusal
-  curved_checked r e f n =
+  curved_checked r e f =
       curved_refused r
       (on_sound e
-      ∙ rw (chain_sound (decode m) (curve_checks (decode m) u day (length pts)) (sound-book m e), ← f) (cond-false (eqb r 0) _ _ (ne_eqb r 0 n) refl))
-      n
+      ∙ rw (chain_sound (decode m) (curve_checks (decode m) u day (length pts)) (sound-book m e), ← f)
+      (cond-false (eqb (number_of r) 0) _ _ (ne_eqb (number_of r) 0 (number_some r)) refl))
 
   pub curved_drawn : (pts' : List ℕ) → sound_in m ≡ true → 0 ≡ first_refusal (curve_checks (decode m) u day (length pts)) → pts' ≡ points (decode m) u day
-      ++ drop 48 pts → Curved m pts u day (Done 0 0) pts'
+      ++ drop 48 pts → Curved m pts u day (Ok (record { number = 0; count = 0 })) pts'
   unfolding curve curve_refusal
   curved_drawn pts' e f w =
       let c : curve_on m u day (length pts) ≡ record { refusal = 0; points = points (decode m) u day } =

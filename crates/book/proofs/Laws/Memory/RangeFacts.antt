@@ -1,7 +1,7 @@
 -- The tests of ranges as facts, of a plain book and of one in memory.
 use Rattle.std.proofs.Common.{◌≡◌, ℕ, ◌+◌, ◌-◌, ◌*◌, ◌<◌, ◌≤◌, Bool, true, false, not, leb, List, length, get_or, drop, refl}
 use Rattle.std.proofs.Common.{sym, ap, ◌∙◌, arith, get_or-drop, get_or-take, ltb-true, lt-ltb, eq-eqb, ne_eqb, le-leb, leb-true}
-use Rattle.measures.specs.Ranges.{most_energy, most_price}
+use Rattle.measures.specs.Ranges.{between, most_energy, most_price}
 use Rattle.measures.specs.Lists.{every, all, table}
 use Rattle.measures.specs.Sharing.{total}
 use Rattle.measures.proofs.RangeLaws.{In, inside, outside, within}
@@ -22,7 +22,7 @@ use Rattle.measures.proofs.ListLaws.{
 use Rattle.limits.specs.Units.{most_days, most_capacity, periods, generator}
 use Rattle.matching.specs.Memory.{order_at, orders_in}
 use Rattle.matching.proofs.Laws.Orders.OrderLaws.{orders_length}
-use Rattle.book.specs.Book.{EnrolledUnit, Book, no_unit, unit_of, OpenOffer, no_offer}
+use Rattle.book.specs.Book.{EnrolledUnit, Book, no_unit, unit_of, known, OpenOffer, no_offer}
 use Rattle.book.specs.Sound.{head_in, bilateral_sides, offer_in, order_in}
 use Rattle.book.specs.Layout.{
   DAYS,
@@ -66,6 +66,10 @@ pub offers_held : (m : List ℕ) → length (decode m).offers ≡ word m OFFERS
 unfolding decode
 offers_held m = table-length _ _
 
+-- a test of whether a unit is known, as a fact of the memory
+pub unit_test : (m : List ℕ) (u : ℕ) {r : Bool} → r ≡ known (decode m) u → r ≡ between 1 (word m UNITS) u
+unit_test m u e = rw (units_held m) at e
+
 pub orders_held : (m : List ℕ) → length (decode m).orders ≡ word m ORDERS
 unfolding decode
 orders_held m = orders_length (orders_part m) (word m ORDERS)
@@ -74,6 +78,14 @@ orders_held m = orders_length (orders_part m) (word m ORDERS)
 pub days_held : (m : List ℕ) → (decode m).rules.days ≡ word m DAYS
 unfolding decode
 days_held m = refl
+
+pub floor_held : (m : List ℕ) → (decode m).rules.floor ≡ word m FLOOR
+unfolding decode
+floor_held m = refl
+
+pub ceiling_held : (m : List ℕ) → (decode m).rules.ceiling ≡ word m CEILING
+unfolding decode
+ceiling_held m = refl
 
 pub phase_held : (m : List ℕ) → (decode m).phase ≡ word m PHASE
 unfolding decode
@@ -178,12 +190,6 @@ offer_number m j h = ap (λ (o : OpenOffer). o.number) (offer_at_lem m j h)
 
 pub kind_at : (m : List ℕ) (u : ℕ) → In 1 (word m UNITS) u → (unit_of (decode m) u).kind ≡ word m (unit_place (u - 1))
 kind_at m u h = ap (λ (x : EnrolledUnit). x.kind) (unit_at_lem m u h)
-
-pub generator_is : (m : List ℕ) (u : ℕ) → In 1 (word m UNITS) u → In 1 2 (word m (unit_place (u - 1))) → true ≡ generator (unit_of (decode m) u).kind
-generator_is m u h k = rw (kind_at m u h) (sym (inside 1 2 _ k))
-
-pub generator-not : (m : List ℕ) (u : ℕ) → In 1 (word m UNITS) u → (In 1 2 (word m (unit_place (u - 1))) → ⊥) → false ≡ generator (unit_of (decode m) u).kind
-generator-not m u h k = rw (kind_at m u h) (sym (outside 1 2 _ k))
 
 -- a partner, by cases
 pub sides_alone : (b : Book) (u v : ℕ) → v ≡ 0 → true ≡ sides_in b u v
@@ -335,3 +341,6 @@ offers_every m = every-table (offer_in (decode m)) (word m OFFERS) (offer_at m (
 pub orders_every : (m : List ℕ) → every (order_in (decode m)) (decode m).orders ≡ all (word m ORDERS) (λ k. order_in (decode m) (order_at (orders_part m) k))
 unfolding decode orders_in
 orders_every m = every-table (order_in (decode m)) (word m ORDERS) (order_at (orders_part m))
+
+-- for checks to cite: what stands in memory stands in the book that it decodes to
+pub ruleset held = (units_held, offers_held, orders_held, days_held, floor_held, ceiling_held, phase_held, given_held)

@@ -1,7 +1,7 @@
 -- Runs of words that are written one after the other.
-use Rattle.std.proofs.Common.{◌≡◌, ℕ, ◌+◌, ◌-◌, ◌<◌, ◌≤◌, List, length, set, refl, ◌∙◌, arith, length-set, get_or-set_other, get_or-set_same}
+use Rattle.std.proofs.Common.{◌≡◌, ℕ, ◌+◌, ◌-◌, ◌<◌, List, length, set, refl, ◌∙◌, arith, length-set, get_or-set_other, get_or-set_same}
 use native.Mathlib.Decide.{ℕ_discrete, dec_lt}
-use Rattle.book.specs.Inner.Runs.{Emptied, Shifted, UnitEmptied}
+use Rattle.book.specs.Inner.Runs.{Emptied, UnitEmptied}
 use Rattle.book.specs.Layout.{block_words, day_place, word}
 
 -- x is m with four words written, at rising places
@@ -29,42 +29,6 @@ four_set m a b c d p q r s ab bc cd fits =
       fourth = get_or-set_same l3 d s 0 (simp length-set (omega arith));
       other = λ i na nb nc nd. get_or-set_other l3 d i s 0 nd ∙ get_or-set_other l2 c i r 0 nc ∙ get_or-set_other l1 b i q 0 nb ∙ get_or-set_other m a i p 0 na;
     }
-
--- one word more is 0
-pub emptied_none : (m : List ℕ) (from : ℕ) → Emptied m from from m
-emptied_none m from = record { long = refl; zeros = λ i l u. absurd (omega arith); before = λ i l. refl; behind = λ i l. refl }
-
-pub emptied_more : (m x : List ℕ) (from at : ℕ) → from ≤ at → at < length m → Emptied m from at x → Emptied m from (at + 1) (set x at 0)
-emptied_more m x from at h fits g =
-    record {
-      long = length-set x at 0 ∙ g.long;
-      zeros = λ i l u. go i l u (ℕ_discrete i at);
-      before = λ i l. get_or-set_other x at i 0 0 (omega arith) ∙ g.before i l;
-      behind = λ i l. get_or-set_other x at i 0 0 (omega arith) ∙ g.behind i (omega arith);
-    }
-  where
-    go : (i : ℕ) → from ≤ i → i < at + 1 → Dec (i ≡ at) → word (set x at 0) i ≡ 0
-    go i l u (yes e) = rw e (get_or-set_same x at 0 0 (omega (arith, g.long)))
-    go i l u (no e) = get_or-set_other x at i 0 0 e ∙ g.zeros i l (omega arith)
-
--- one word more is the one a step behind it
-pub shifted_none : (m : List ℕ) (from step : ℕ) → Shifted m from from step m
-shifted_none m from step = record { long = refl; here = λ i l u. absurd (omega arith); before = λ i l. refl; behind = λ i l. refl }
-
-pub shifted_more : (m x : List ℕ) (from at step : ℕ) → from ≤ at → at + step < length m → Shifted m from at step x
-    → Shifted m from (at + 1) step (set x at (word x (at + step)))
-shifted_more m x from at step h fits g =
-    let v = word x (at + step) in
-    record {
-      long = length-set x at v ∙ g.long;
-      here = λ i l u. go i l u (ℕ_discrete i at);
-      before = λ i l. get_or-set_other x at i v 0 (omega arith) ∙ g.before i l;
-      behind = λ i l. get_or-set_other x at i v 0 (omega arith) ∙ g.behind i (omega arith);
-    }
-  where
-    go : (i : ℕ) → from ≤ i → i < at + 1 → Dec (i ≡ at) → word (set x at (word x (at + step))) i ≡ word m (i + step)
-    go i l u (yes e) = rw e (get_or-set_same x at (word x (at + step)) 0 (omega (arith, g.long)) ∙ g.behind (at + step) (omega arith))
-    go i l u (no e) = get_or-set_other x at i (word x (at + step)) 0 e ∙ g.here i l (omega arith)
 
 -- one day more of a unit is 0
 pub unit_emptied_none : (m : List ℕ) (k : ℕ) → UnitEmptied m m k 0

@@ -1,6 +1,9 @@
 -- What a test of an energy or a price says of the numbers.
 use Rattle.std.proofs.Common.{◌≡◌, ℕ, ◌<◌, ◌≤◌, Bool, true, false, eqb, ltb, leb, sym, refl, ◌∙◌, arith, ltb-false, ltb-true, eqb-true, leb-false, leb-true}
 use borrow.Author.Tests.{eqb-false}
+use Rattle.measures.specs.Ranges.{between}
+use Rattle.measures.proofs.RangeLaws.{In, inside, within}
+use Rattle.measures.proofs.ListLaws.{not_both}
 
 module _ {a b : ℕ} {r : Bool} where
   pub is_below : r ≡ ltb a b → r ≡ true → a < b
@@ -33,6 +36,14 @@ module _ {a b : ℕ} {r : Bool} where
 module _ {a : ℕ} {r : Bool} where
   pub deny_none : 1 ≤ a → r ≡ eqb a 0 → r ≡ true → ⊥
   deny_none h e t = let z : a ≡ 0 = is_none e t in omega arith
+
+-- a test of a range
+module _ {a b x : ℕ} {r : Bool} where
+  pub is_in : r ≡ between a b x → r ≡ true → In a b x
+  is_in e t = within a b x (sym e ∙ t)
+
+  pub not_in : r ≡ between a b x → r ≡ false → In a b x → ⊥
+  not_in e t h = not_both _ (inside a b x h) (sym e ∙ t)
 
 -- a test that settles what is left
 pub settles : (r b : Bool) → (r ≡ true → b ≡ true) → (r ≡ false → false ≡ b) → r ≡ b

@@ -1,5 +1,6 @@
 -- What a sound book in memory gives of its units, and the fit of an offer's amounts.
-use Rattle.std.proofs.Common.{◌≡◌, ℕ, ◌+◌, ◌<◌, ◌≤◌, true, List, length, get_or, set, sym, refl, ◌∙◌, arith, length-set, get_or-set_other, get_or-set_same}
+use Rattle.std.proofs.Common.{◌≡◌, ℕ, ◌+◌, ◌<◌, ◌≤◌, true, List, ◌++◌, length, get_or, drop, set, rules, sym, refl, ◌∙◌, arith, length-set, get_or-set_other, get_or-set_same}
+use Rattle.std.proofs.lemmas.List.{places}
 use native.Mathlib.Decide.{dec_lt, ℕ_discrete}
 use lib.ListN.{get_or-eq_default}
 use Rattle.measures.specs.Ranges.{most_energy}
@@ -60,6 +61,16 @@ copied_at z l x zeros here kept k = go (dec_lt k (length l))
         kept k n ∙ zeros k ∙ sym (get_or-eq_default l 0 n)
 
 -- zeros, and amounts with a total in range, are small
+-- the same of amounts that stand before what was there
+pub copied_over : (z l : List ℕ) → ((k : ℕ) → word z k ≡ 0) → (k : ℕ) → get_or (l ++ drop (length l) z) k 0 ≡ get_or l k 0
+copied_over z l zeros k = go (dec_lt k (length l))
+  where
+    go : Dec (k < length l) → get_or (l ++ drop (length l) z) k 0 ≡ get_or l k 0
+    go (yes h) = search (rules, places)
+    go (no h) =
+        let e : get_or (l ++ drop (length l) z) k 0 ≡ get_or z k 0 = search (rules, places) in
+        e ∙ zeros k ∙ sym (get_or-eq_default l 0 (omega arith))
+
 pub copied_small : (l x : List ℕ) → total l ≤ most_energy → ((k : ℕ) → get_or x k 0 ≡ get_or l k 0) → small x
 copied_small l x t h k =
     let e = h k in

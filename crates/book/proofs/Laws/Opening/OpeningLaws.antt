@@ -8,7 +8,10 @@ use Rattle.measures.proofs.RangeLaws.{In, inside, outside}
 use Rattle.limits.specs.Units.{most_days, days_in}
 use Rattle.measures.proofs.ListLaws.{and_left}
 use Rattle.matching.specs.Memory.{orders_in}
-use Rattle.book.specs.declared.Answer.TheVariants.{Done, Refused}
+use Rattle.std.proofs.Common.{Ok, Err}
+use Rattle.measures.specs.declared.refusals.Refusal.{Refusal}
+use Rattle.measures.specs.Refused.{number_of}
+use Rattle.measures.proofs.RefusedLaws.{number_some}
 use Rattle.book.specs.Book.{rules_of}
 use Rattle.book.specs.Sound.{prices_in}
 use Rattle.book.specs.Refusals.{first_refusal, bad_opening}
@@ -64,16 +67,17 @@ module _ (words days floor ceiling : ℕ) where
   unfolding opening_refusal first_refusal
   opens h l p q = rw (inside 1 most_days days h, le-ltb words (book_words days) l, le-leb floor ceiling p, le-leb ceiling most_price q)
 
-pub opened-refused : (m : List ℕ) (days floor ceiling r : ℕ) → opening_refusal (length m) (rules_of days floor ceiling) ≡ r → (r ≡ 0 → ⊥)
-    → Opened m (rules_of days floor ceiling) (Refused r) m
-opened-refused m days floor ceiling r e n = record {
-  answer = rw (e, ne_eqb r 0 n) refl;
-  refused = λ h. refl;
-  accepted = λ h. absurd (n (sym e ∙ h));
-  laid = λ h. absurd (n (sym e ∙ h));
-  past = refl;
-  long = refl;
-}
+pub opened-refused : (m : List ℕ) (days floor ceiling : ℕ) (r : Refusal) → opening_refusal (length m) (rules_of days floor ceiling) ≡ number_of r
+    → Opened m (rules_of days floor ceiling) (Err r) m
+opened-refused m days floor ceiling r e =
+    let n = number_some r in record {
+      answer = rw (e, ne_eqb (number_of r) 0 n) refl;
+      refused = λ h. refl;
+      accepted = λ h. absurd (n (sym e ∙ h));
+      laid = λ h. absurd (n (sym e ∙ h));
+      past = refl;
+      long = refl;
+    }
 
 -- nine words at the front
 abbrev pub head_written : List ℕ → ℕ → ℕ → ℕ → List ℕ
@@ -119,7 +123,7 @@ past_book days m m' e =
 
 pub opened-fresh : (m : List ℕ) (days floor ceiling : ℕ) (m' : List ℕ) → opening_refusal (length m) (rules_of days floor ceiling) ≡ 0
     → decode m' ≡ fresh (rules_of days floor ceiling) → word m' LAYOUT ≡ layout_number → drop figures_start m' ≡ drop figures_start m
-    → length m' ≡ length m → Opened m (rules_of days floor ceiling) (Done 0 0) m'
+    → length m' ≡ length m → Opened m (rules_of days floor ceiling) (Ok (record { number = 0; count = 0 })) m'
 opened-fresh m days floor ceiling m' e d y p l = record {
   answer = rw e refl;
   refused = λ h. absurd (h e);

@@ -1,6 +1,6 @@
 -- The fit of an order on a sound book in memory: its quantity stands alone in its period.
 use Rattle.std.proofs.Common.{◌≡◌, ℕ, zero, suc, ◌<◌, ◌≤◌, Bool, true, false, cond, eqb, List, length, get_or, set, replicate, refl, sym}
-use Rattle.std.proofs.Common.{◌∙◌, arith, length-set, get_or-set_other, get_or-set_same, eq-eqb, ne_eqb, eqb-true}
+use Rattle.std.proofs.Common.{◌∙◌, arith, get_or-set_other, get_or-set_same, eq-eqb, ne_eqb, eqb-true}
 use native.Mathlib.Decide.{ℕ_discrete}
 use lib.ListN.{length-replicate}
 use Rattle.measures.specs.Ranges.{most_energy}
@@ -27,9 +27,6 @@ module _ (n p q : ℕ) (h : p < n) where
           let l : p < length (replicate {A = ℕ} n 0) = omega (arith, length-replicate {A = ℕ} n 0) in
           rw (eq-eqb i p e, e) (get_or-set_same (replicate {A = ℕ} n 0) p q 0 l)
       go (no e) = rw (ne_eqb i p e) (get_or-set_other (replicate {A = ℕ} n 0) p i q 0 e ∙ zeros_at n i)
-
-pub alone_length : (n p q : ℕ) → length (set (replicate {A = ℕ} n 0) p q) ≡ n
-alone_length n p q = simp length-set (length-replicate {A = ℕ} n 0)
 
 pub alone_small : (n p q : ℕ) → p < n → q ≤ most_energy → small (set (replicate {A = ℕ} n 0) p q)
 alone_small n p q h l i = rw (alone_at n p q h i) (go (eqb i p))

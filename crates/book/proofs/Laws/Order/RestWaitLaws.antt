@@ -7,6 +7,7 @@ use Rattle.measures.proofs.ListLaws.{and_true, not_both}
 use Rattle.limits.specs.Units.{most_capacity, generator}
 use Rattle.limits.specs.Limits.{hour_of}
 use Rattle.limits.proofs.LimitLaws.{hour_most}
+use Rattle.std.specs.Prelude.{Option}
 use Rattle.matching.specs.declared.orders.Matched.{Matched}
 use Rattle.matching.specs.Orders.{Order as OpenOrder, leaving, rising, numbers, quantities}
 use Rattle.matching.specs.Memory.{orders_in}
@@ -98,7 +99,7 @@ orders_fit_lem m rows e l =
         let w : quantities (decode m).orders ≤ most_energy = omega (arith, few, orders_held m) in
         rw (orders_from m) at w
 
-module _ (m ys rows rows' : List ℕ) (o : OpenOrder) (a : Matched) (e : sound_in m ≡ true) (l : 4464
+module _ (m ys rows rows' : List ℕ) (o : OpenOrder) (a : Option Matched) (e : sound_in m ≡ true) (l : 4464
     ≤ length rows) (h : Meets (orders_part m) rows (word m ORDERS) o a ys rows') where
   pub met_unfit : (answer_of a).fits ≡ false → ⊥
   met_unfit z = not_both _ (h.fits ∙ orders_fit_lem m rows e l) z

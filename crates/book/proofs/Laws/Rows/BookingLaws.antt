@@ -232,7 +232,7 @@ row_asks m x rows n i g l t f h b = (
 )
 
 pub seller-asks : (m : List ℕ) (r : Row) → Readable m → RowFits m r → Small m 1_900_000_000_000_000_000
-    → (Readable m) × (r.period < 24 * word m DAYS) × (1 ≤ r.seller) × (r.seller ≤ word m UNITS) × (0 ≤ 1) × (r.quantity ≤ most_energy)
+    → (Readable m) × (r.period < 24 * word m DAYS) × (1 ≤ r.seller) × (r.seller ≤ word m UNITS) × (r.quantity ≤ most_energy)
     × (SmallAt m (r.seller - 1) r.period 2_000_000_000_000_000_000)
 seller-asks m r g f s =
     let a = f.seller_from in
@@ -241,7 +241,6 @@ seller-asks m r g f s =
       f.period,
       f.seller_from,
       f.seller_to,
-      omega arith,
       f.quantity,
       small-more m 1_900_000_000_000_000_000 2_000_000_000_000_000_000 (omega arith) s
           (r.seller - 1) r.period (omega arith) f.period,
@@ -249,7 +248,7 @@ seller-asks m r g f s =
 
 pub buyer-asks : (m x : List ℕ) (r : Row) → Readable m → RowFits m r → Small m 1_900_000_000_000_000_000
     → Traded m x r.way 0 r.period r.quantity r.seller
-    → (Readable x) × (r.period < 24 * word x DAYS) × (1 ≤ r.buyer) × (r.buyer ≤ word x UNITS) × (1 ≤ 1) × (r.quantity ≤ most_energy)
+    → (Readable x) × (r.period < 24 * word x DAYS) × (1 ≤ r.buyer) × (r.buyer ≤ word x UNITS) × (r.quantity ≤ most_energy)
     × (SmallAt x (r.buyer - 1) r.period 2_000_000_000_000_000_000)
 buyer-asks m x r g f s t =
     let k = kept_fits m x r t.kept f in
@@ -260,7 +259,6 @@ buyer-asks m x r g f s t =
       k.period,
       k.buyer_from,
       k.buyer_to,
-      omega arith,
       f.quantity,
       small-more x (1_900_000_000_000_000_000 + r.quantity) 2_000_000_000_000_000_000 (omega arith) (t.small 1_900_000_000_000_000_000 s) (r.buyer - 1)
           r.period (omega arith) k.period,

@@ -1,6 +1,5 @@
 -- The checks of a take, joined: before the fit, and the fit.
-use Rattle.std.proofs.Common.{◌≡◌, ℕ, ◌+◌, ◌<◌, ◌≤◌, Bool, true, false, cond, not, ◌&&◌, eqb, leb, List, ◌++◌, drop, sym, ap, ◌∙◌, arith, eqb-true, leb-true}
-use native.Mathlib.Decide.{dec_lt}
+use Rattle.std.proofs.Common.{◌≡◌, ℕ, ◌+◌, ◌<◌, ◌≤◌, Bool, true, false, cond, not, ◌&&◌, eqb, leb, List, ◌++◌, drop, None, sym, ap, ◌∙◌, arith, eqb-true, leb-true}
 use borrow.Author.Tests.{not-false}
 use Rattle.measures.specs.Ranges.{most_energy}
 use Rattle.measures.specs.Lists.{table}
@@ -15,9 +14,9 @@ use Rattle.book.specs.Offer.{raising_amounts}
 use Rattle.book.specs.Take.{taken_parts}
 use Rattle.book.specs.Layout.{DAYS, UNITS, OFFERS, offer_place, UNIT, PARTNER, word, amount_at, decode}
 use Rattle.book.specs.Contract.{sound_in}
-use Rattle.book.specs.Inner.RowsIn.{Found, takes, party_checks, fit_checks, parts_at, Nothing, TakeFit, TakeChecked}
+use Rattle.book.specs.Inner.Search.{OfferHas, OfferFound}
+use Rattle.book.specs.Inner.RowsIn.{takes, party_checks, fit_checks, parts_at, Nothing, TakeFit, TakeChecked}
 use Rattle.book.proofs.Laws.Memory.RangeFacts.{units_held}
-use Rattle.book.proofs.Laws.Answer.MadeLaws.{sound_readable}
 use Rattle.book.proofs.Laws.Take.FoundLaws.{found_offer, found_none}
 use Rattle.book.proofs.Laws.Take.PartyLaws.{AllFalse, all-false, first-after, first-before}
 
@@ -46,7 +45,7 @@ module _ (m : List ℕ) (u n q lent : ℕ) (s : sound_in m ≡ true) where
     memory = λ z. absurd (omega arith);
   }
 
-  module _ (r : ℕ) (none : r ≡ 0) (e : r ≡ first_refusal (party_checks (decode m) u n q lent)) (j : ℕ) (f : Found m n j) where
+  module _ (r : ℕ) (none : r ≡ 0) (e : r ≡ first_refusal (party_checks (decode m) u n q lent)) where
     passed : AllFalse (party_checks (decode m) u n q lent)
     unfolding party_checks
     passed =
@@ -59,14 +58,10 @@ module _ (m : List ℕ) (u n q lent : ℕ) (s : sound_in m ≡ true) where
         )
         (sym none ∙ e)
 
-    found_open : j < 8
+    -- the offer is open
+    pub checked_finds : OfferFound m n None → ⊥
     unfolding party_checks
-    found_open = go (dec_lt j 8)
-      where
-        go : Dec (j < 8) → j < 8
-        go (yes h) = h
-        go (no h) = absurd (not_both (offer_open (decode m) n) (not-false _ passed.1.1.1.0)
-            (found_none m n j f (sound_readable m s).offers_to (omega arith)))
+    checked_finds f = not_both (offer_open (decode m) n) (not-false _ passed.1.1.1.0) (found_none m n f)
 
     known_unit : In 1 (word m UNITS) u
     unfolding party_checks
@@ -76,26 +71,27 @@ module _ (m : List ℕ) (u n q lent : ℕ) (s : sound_in m ≡ true) where
     unfolding party_checks
     energy_in_lem = within 1 most_energy q (not-false (energy_in q) passed.1.1.0)
 
-    can_take_lem : takes m j u q ≡ true
-    unfolding party_checks takes
-    can_take_lem =
-        ap (λ (o : OpenOffer). can_take (decode m) o u q) (sym (found_offer m n j f found_open).0)
-        ∙ not-false (can_take (decode m) (offer_of (decode m) n) u q) passed.1.1.1.1.0
+    module _ (j : ℕ) (f : OfferHas m n j) where
+      can_take_lem : takes m j u q ≡ true
+      unfolding party_checks takes
+      can_take_lem =
+          ap (λ (o : OpenOffer). can_take (decode m) o u q) (sym (found_offer m n j f).0)
+          ∙ not-false (can_take (decode m) (offer_of (decode m) n) u q) passed.1.1.1.1.0
 
-    pub fit_asks : (l : List ℕ) → Nothing l
-        → (sound_in m ≡ true) × (j < word m OFFERS) × (1 ≤ u) × (u ≤ word m UNITS) × (1 ≤ q) × (q ≤ total (table (periods (word m DAYS)) (amount_at m j)))
-        × (Nothing l)
-    fit_asks l h = (s, f.there found_open, known_unit.0, known_unit.1, energy_in_lem.0, takes-most m j u q can_take_lem, h)
+      pub fit_asks : (l : List ℕ) → Nothing l
+          → (sound_in m ≡ true) × (j < word m OFFERS) × (1 ≤ u) × (u ≤ word m UNITS) × (1 ≤ q) × (q ≤ total (table (periods (word m DAYS)) (amount_at m j)))
+          × (Nothing l)
+      fit_asks l h = (s, f.there, known_unit.0, known_unit.1, energy_in_lem.0, takes-most m j u q can_take_lem, h)
 
-    parts_are : parts_at m j q ≡ taken_parts (decode m) n q
-    unfolding parts_at
-    parts_are = ap (λ (o : OpenOffer). parts q o.amounts) (sym (found_offer m n j f found_open).0)
+      parts_are : parts_at m j q ≡ taken_parts (decode m) n q
+      unfolding parts_at
+      parts_are = ap (λ (o : OpenOffer). parts q o.amounts) (sym (found_offer m n j f).0)
 
-    pub checked_fit : (x l : List ℕ) (t : ℕ) → TakeFit m u j q t l x → TakeChecked m u n q lent t l x
-    unfolding party_checks fit_checks
-    checked_fit x l t g = record {
-      answer =
-          g.answer ∙ ap (λ (ps : List ℕ). first_refusal (fit_checks (decode m) u (raising_amounts ps))) parts_are
-          ∙ first-after (party_checks (decode m) u n q lent) (fit_checks (decode m) u (raising_amounts (taken_parts (decode m) n q))) passed;
-      memory = λ z. g.memory ∙ ap (λ (ps : List ℕ). ps ++ drop (periods (word m DAYS)) l) parts_are;
-    }
+      pub checked_fit : (x l : List ℕ) (t : ℕ) → TakeFit m u j q t l x → TakeChecked m u n q lent t l x
+      unfolding party_checks fit_checks
+      checked_fit x l t g = record {
+        answer =
+            g.answer ∙ ap (λ (ps : List ℕ). first_refusal (fit_checks (decode m) u (raising_amounts ps))) parts_are
+            ∙ first-after (party_checks (decode m) u n q lent) (fit_checks (decode m) u (raising_amounts (taken_parts (decode m) n q))) passed;
+        memory = λ z. g.memory ∙ ap (λ (ps : List ℕ). ps ++ drop (periods (word m DAYS)) l) parts_are;
+      }

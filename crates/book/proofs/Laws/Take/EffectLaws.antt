@@ -1,7 +1,6 @@
 -- From a take by place to the take of a number: what its effect promises.
-use Rattle.std.proofs.Common.{◌≡◌, ℕ, ◌+◌, ◌*◌, ◌<◌, ◌≤◌, min, true, not, eqb, List, ◌++◌, length, get_or, take, drop, set, refl}
+use Rattle.std.proofs.Common.{◌≡◌, ℕ, ◌+◌, ◌*◌, ◌<◌, ◌≤◌, min, true, not, eqb, List, ◌++◌, length, get_or, take, drop, set, None, refl}
 use Rattle.std.proofs.Common.{sym, ap, ◌∙◌, subst, arith, take_at, ltb-false, lt-ltb, eqb-true}
-use native.Mathlib.Decide.{dec_lt}
 use lib.ListN.{get_or-append}
 use Rattle.measures.specs.Ranges.{most_energy}
 use Rattle.measures.specs.Lists.{keep, table}
@@ -18,11 +17,12 @@ use Rattle.book.specs.Take.{taken_parts, take_checks, take_refusal, take_rows, o
 use Rattle.book.specs.Refusals.{first_refusal}
 use Rattle.book.specs.Layout.{DAYS, UNITS, OFFERS, word, amount_at, offer_at, decode}
 use Rattle.book.specs.Contract.{sound_in}
-use Rattle.book.specs.Inner.RowsIn.{Found, parts_at, AmountsLeft, PartsThere, RowsPut, PartTaken, WholeTaken, PartsLent, TakeMade}
+use Rattle.book.specs.Inner.Search.{OfferHas, OfferFound}
+use Rattle.book.specs.Inner.RowsIn.{parts_at, AmountsLeft, PartsThere, RowsPut, PartTaken, WholeTaken, PartsLent, TakeMade}
 use Rattle.book.proofs.Laws.Memory.RangeFacts.{units_held, offers_held, offer_at_lem}
 use Rattle.book.proofs.Laws.Answer.RefusalLaws.{none_applies}
 use Rattle.book.proofs.Laws.Sound.SoundLaws.{sound_facts}
-use Rattle.book.proofs.Laws.Answer.MadeLaws.{sound-book, sound_readable, chain_sound}
+use Rattle.book.proofs.Laws.Answer.MadeLaws.{sound-book, chain_sound}
 use Rattle.book.proofs.Laws.Memory.KeptLaws.{number_apart}
 use Rattle.book.proofs.Laws.Cancel.CancelLaws.{sound_rises}
 use Rattle.book.proofs.Laws.Take.PartyLaws.{offer_sound}
@@ -36,9 +36,9 @@ left_some rs q some less z = omega (arith, less-parts q rs (omega arith) (omega 
 left_none : (rs : List ℕ) (q : ℕ) → 1 ≤ q → q ≡ total rs → total (less_each rs (parts q rs)) ≡ 0
 left_none rs q some all = omega (arith, less-parts q rs (omega arith) (omega arith))
 
-module _ (m : List ℕ) (n q j : ℕ) (f : Found m n j) (h : j < 8) where
+module _ (m : List ℕ) (n q j : ℕ) (f : OfferHas m n j) where
   amounts_are : taken_parts (decode m) n q ≡ parts q (table (periods (word m DAYS)) (amount_at m j))
-  amounts_are = ap (λ (o : OpenOffer). parts q o.amounts) (found_offer m n j f h).0
+  amounts_are = ap (λ (o : OpenOffer). parts q o.amounts) (found_offer m n j f).0
 
   taken_long : length (taken_parts (decode m) n q) ≡ 24 * word m DAYS
   taken_long = ap (λ (t : List ℕ). length t) amounts_are ∙ parts-length q (table (periods (word m DAYS)) (amount_at m j))
@@ -65,32 +65,32 @@ module _ (m : List ℕ) (n q j : ℕ) (f : Found m n j) (h : j < 8) where
         ≡ take_rows (decode m) (offer_of (decode m) n) u (taken_parts (decode m) n q)
     rows_are u =
         ap (λ (s : List ℕ). take_rows (decode m) (offer_at m (word m DAYS) j) u s) parts-taken
-        ∙ ap (λ (o : OpenOffer). take_rows (decode m) o u (taken_parts (decode m) n q)) (sym (found_offer m n j f h).0)
+        ∙ ap (λ (o : OpenOffer). take_rows (decode m) o u (taken_parts (decode m) n q)) (sym (found_offer m n j f).0)
 
     -- the offer as the definition leaves it: with less, or gone
     left_of : total (less_each (get_or (decode m).offers j no_offer).amounts (taken_parts (decode m) n q))
         ≡ total (less_each (table (periods (word m DAYS)) (amount_at m j)) (parts q (table (periods (word m DAYS)) (amount_at m j))))
     left_of =
-        ap (λ (o : OpenOffer). total (less_each o.amounts (taken_parts (decode m) n q))) (offer_at_lem m j (f.there h))
+        ap (λ (o : OpenOffer). total (less_each o.amounts (taken_parts (decode m) n q))) (offer_at_lem m j f.there)
         ∙ ap (λ (ps : List ℕ). total (less_each (table (periods (word m DAYS)) (amount_at m j)) ps)) amounts_are
 
     less_are : 1 ≤ q → q < total (table (periods (word m DAYS)) (amount_at m j))
         → set (decode m).offers j (offer_less (offer_at m (word m DAYS) j) (take (24 * word m DAYS) l))
         ≡ offers_less n (taken_parts (decode m) n q) (decode m).offers
     less_are some less =
-        let hj = f.there h in
+        let hj = f.there in
         ap (λ (s : List ℕ). set (decode m).offers j (offer_less (offer_at m (word m DAYS) j) s)) parts-taken
         ∙ ap (λ (o : OpenOffer). set (decode m).offers j (offer_less o (taken_parts (decode m) n q))) (sym (offer_at_lem m j hj))
-        ∙ sym (less_stays n (taken_parts (decode m) n q) (decode m).offers j (omega (arith, offers_held m)) (met_there m n j f h) (unmet_before m n j f h)
+        ∙ sym (less_stays n (taken_parts (decode m) n q) (decode m).offers j (omega (arith, offers_held m)) (met_there m n j f) (unmet_before m n j f)
         (λ y. left_some (table (periods (word m DAYS)) (amount_at m j)) q some less (sym left_of ∙ y)))
 
     gone_are : sound_in m ≡ true → 1 ≤ q → q ≡ total (table (periods (word m DAYS)) (amount_at m j))
         → keep (λ (o : OpenOffer). not (eqb o.number n)) (decode m).offers ≡ offers_less n (taken_parts (decode m) n q) (decode m).offers
     gone_are s some all =
-        let hj = f.there h in
-        sym (less_goes n (taken_parts (decode m) n q) (decode m).offers j (omega (arith, offers_held m)) (met_there m n j f h)
+        let hj = f.there in
+        sym (less_goes n (taken_parts (decode m) n q) (decode m).offers j (omega (arith, offers_held m)) (met_there m n j f)
         (number_apart (λ (o : OpenOffer). o.number) (decode m).offers no_offer refl (sound_rises m s).0 n j (omega (arith, offers_held m))
-        (eqb-true _ _ (met_there m n j f h)))
+        (eqb-true _ _ (met_there m n j f)))
         (left_of ∙ left_none (table (periods (word m DAYS)) (amount_at m j)) q some all))
 
     -- a take of some or of all that is left is the take of the definition
@@ -135,18 +135,15 @@ module _ (m : List ℕ) (n q j : ℕ) (f : Found m n j) (h : j < 8) where
       }
 
 -- what a passed take asks of its effect
-module _ (m : List ℕ) (u n q lent : ℕ) (s : sound_in m ≡ true) (e : 0 ≡ first_refusal (take_checks (decode m) u n q lent)) (j : ℕ) (f : Found m n j) where
+module _ (m : List ℕ) (u n q lent : ℕ) (s : sound_in m ≡ true) (e : 0 ≡ first_refusal (take_checks (decode m) u n q lent)) where
   passed : TakePassed (decode m) u n q
   unfolding take_refusal
   passed = take_passed (decode m) u n q lent (sound_facts (decode m) (sound-book m s))
       (chain_sound (decode m) (take_checks (decode m) u n q lent) (sound-book m s) ∙ sym e)
 
-  pub there : j < 8
-  there = go (dec_lt j 8)
-    where
-      go : Dec (j < 8) → j < 8
-      go (yes h) = h
-      go (no h) = absurd (not_both (offer_open (decode m) n) (lt-ltb _ _ passed.found) (found_none m n j f (sound_readable m s).offers_to (omega arith)))
+  -- the offer is open
+  pub take_finds : OfferFound m n None → ⊥
+  take_finds f = not_both (offer_open (decode m) n) (lt-ltb _ _ passed.found) (found_none m n f)
 
   pub lent_enough : 4464 ≤ lent
   lent_enough =
@@ -157,41 +154,42 @@ module _ (m : List ℕ) (u n q lent : ℕ) (s : sound_in m ≡ true) (e : 0 ≡ 
   pub take_some : 1 ≤ q
   take_some = passed.some
 
-  pub take-most : q ≤ total (table (periods (word m DAYS)) (amount_at m j))
-  take-most = let a = passed.enough in let b = ap (λ (o : OpenOffer). total o.amounts) (found_offer m n j f there).0 in omega arith
+  module _ (j : ℕ) (f : OfferHas m n j) where
+    pub take-most : q ≤ total (table (periods (word m DAYS)) (amount_at m j))
+    take-most = let a = passed.enough in let b = ap (λ (o : OpenOffer). total o.amounts) (found_offer m n j f).0 in omega arith
 
-  -- all that is left, as the code sums it
-  take_all : (w : ℕ) → w ≡ min (total (table (periods (word m DAYS)) (amount_at m j))) (most_energy + 1) → w
-      ≡ total (table (periods (word m DAYS)) (amount_at m j))
-  take_all w h = let a = (offer_sound m j s (f.there there)).whole in omega arith
+    -- all that is left, as the code sums it
+    take_all : (w : ℕ) → w ≡ min (total (table (periods (word m DAYS)) (amount_at m j))) (most_energy + 1) → w
+        ≡ total (table (periods (word m DAYS)) (amount_at m j))
+    take_all w h = let a = (offer_sound m j s (f.there)).whole in omega arith
 
-  pub take_whole : (w : ℕ) → w ≡ min (total (table (periods (word m DAYS)) (amount_at m j))) (most_energy + 1) → w ≤ q → q
-      ≡ total (table (periods (word m DAYS)) (amount_at m j))
-  take_whole w h l = omega (arith, take-most, take_all w h, l)
+    pub take_whole : (w : ℕ) → w ≡ min (total (table (periods (word m DAYS)) (amount_at m j))) (most_energy + 1) → w ≤ q → q
+        ≡ total (table (periods (word m DAYS)) (amount_at m j))
+    take_whole w h l = omega (arith, take-most, take_all w h, l)
 
-  pub take_less : (w : ℕ) → w ≡ min (total (table (periods (word m DAYS)) (amount_at m j))) (most_energy + 1) → q < w → q
-      < total (table (periods (word m DAYS)) (amount_at m j))
-  take_less w h l = omega (arith, take_all w h, l)
+    pub take_less : (w : ℕ) → w ≡ min (total (table (periods (word m DAYS)) (amount_at m j))) (most_energy + 1) → q < w → q
+        < total (table (periods (word m DAYS)) (amount_at m j))
+    take_less w h l = omega (arith, take_all w h, l)
 
-  pub part-asks : (l : List ℕ) → 744 ≤ length l → PartsLent m n q l → (sound_in m ≡ true) × (j < word m OFFERS) × (1 ≤ u) × (u ≤ word m UNITS) × (744 ≤ length l) × (4464 ≤ lent)
-      × (PartsThere m j l)
-  part-asks l room p =
-      let t = passed.taker in
-      let c = units_held m in
-      (s, f.there there, omega arith, omega arith, room, lent_enough, parts_there m n q j f there p.behind l p.parts take_some take-most)
+    pub part-asks : (l : List ℕ) → 744 ≤ length l → PartsLent m n q l → (sound_in m ≡ true) × (j < word m OFFERS) × (1 ≤ u) × (u ≤ word m UNITS) × (744 ≤ length l) × (4464 ≤ lent)
+        × (PartsThere m j l)
+    part-asks l room p =
+        let t = passed.taker in
+        let c = units_held m in
+        (s, f.there, omega arith, omega arith, room, lent_enough, parts_there m n q j f p.behind l p.parts take_some take-most)
 
-  pub all-asks : (l : List ℕ) → 744 ≤ length l → PartsLent m n q l
-      → (sound_in m ≡ true) × (j < word m OFFERS) × (1 ≤ u) × (u ≤ word m UNITS) × (744 ≤ length l) × (4464 ≤ lent) × (PartsThere m j l)
-      × (offer_open (decode m) n ≡ true)
-  all-asks l room p =
-      let t = passed.taker in
-      let c = units_held m in (
-        s,
-        f.there there,
-        omega arith,
-        omega arith,
-        room,
-        lent_enough,
-        parts_there m n q j f there p.behind l p.parts take_some take-most,
-        (found_offer m n j f there).1,
-      )
+    pub all-asks : (l : List ℕ) → 744 ≤ length l → PartsLent m n q l
+        → (sound_in m ≡ true) × (j < word m OFFERS) × (1 ≤ u) × (u ≤ word m UNITS) × (744 ≤ length l) × (4464 ≤ lent) × (PartsThere m j l)
+        × (offer_open (decode m) n ≡ true)
+    all-asks l room p =
+        let t = passed.taker in
+        let c = units_held m in (
+          s,
+          f.there,
+          omega arith,
+          omega arith,
+          room,
+          lent_enough,
+          parts_there m n q j f p.behind l p.parts take_some take-most,
+          (found_offer m n j f).1,
+        )

@@ -1,5 +1,5 @@
 -- The open offer of a number, by its place in memory, and who can take it.
-use Rattle.std.proofs.Common.{◌≡◌, ℕ, zero, suc, ◌+◌, ◌<◌, ◌≤◌, min, Bool, true, false, not, eqb, ltb, leb, List, [], ◌∷◌, length, get_or, refl}
+use Rattle.std.proofs.Common.{◌≡◌, ℕ, zero, suc, ◌+◌, ◌<◌, ◌≤◌, min, Bool, true, false, not, eqb, ltb, leb, List, [], ◌∷◌, length, get_or, None, refl}
 use Rattle.std.proofs.Common.{sym, ap, ◌∙◌, arith, lt-ltb, eq-eqb, ne_eqb, le-leb}
 use native.Mathlib.Decide.{ℕ_discrete}
 use borrow.Author.Tests.{lt-leb}
@@ -11,7 +11,8 @@ use Rattle.limits.specs.Units.{periods, generator}
 use Rattle.book.specs.Book.{OpenOffer, no_offer, unit_of, offer_of, offer_open}
 use Rattle.book.specs.Refusals.{same_side}
 use Rattle.book.specs.Layout.{DAYS, OFFERS, offer_place, UNIT, PARTNER, word, amount_at, offer_at, decode}
-use Rattle.book.specs.Inner.RowsIn.{Found, takes}
+use Rattle.book.specs.Inner.RowsIn.{takes}
+use Rattle.book.specs.Inner.Search.{OfferHas, OfferFound}
 use Rattle.book.proofs.Laws.Memory.RangeFacts.{offers_held, offer_at_lem, offer_number}
 
 -- the first of a list that passes a test
@@ -26,51 +27,28 @@ module _ {A : Type 0} (f : A → Bool) (d : A) where
   keep_none [] n = refl
   keep_none (x ∷ xs) n = rw (n 0 (omega arith)) (keep_none xs (λ i k. n (suc i) (omega arith)))
 
--- the offers passed do not have the number
-abbrev pub Unmet : List ℕ → ℕ → ℕ → Type 0
-Unmet m n j = (i : ℕ) → i < j → word m (offer_place i) ≡ n → ⊥
-
-pub unmet_more : (m : List ℕ) (n j : ℕ) → (word m (offer_place j) ≡ n → ⊥) → Unmet m n j → Unmet m n (j + 1)
-unmet_more m n j ne u i h e = go (ℕ_discrete i j)
-  where
-    go : Dec (i ≡ j) → ⊥
-    go (yes q) = ne (ap (λ (t : ℕ). word m (offer_place t)) (sym q) ∙ e)
-    go (no q) = u i (omega arith) e
-
-pub found_here : (m : List ℕ) (n j : ℕ) → word m OFFERS ≤ 8 → j < word m OFFERS → word m (offer_place j) ≡ n → Unmet m n j → Found m n j
-found_here m n j few h e u = record { to = omega arith; unmet = λ i a b. u i b; there = λ z. h; number = λ z. e }
-
-pub found_nowhere : (m : List ℕ) (n j : ℕ) → word m OFFERS ≤ j → Unmet m n j → Found m n 8
-found_nowhere m n j h u = record {
-  to = omega arith;
-  unmet = λ i a b. u i (omega arith);
-  there = λ z. absurd (omega arith);
-  number = λ z. absurd
-      (omega arith);
-}
-
-module _ (m : List ℕ) (n r : ℕ) (f : Found m n r) where
-  pub unmet_before : r < 8 → (i : ℕ) → i < r → eqb (get_or (decode m).offers i no_offer).number n ≡ false
-  unmet_before h i l =
-      let t = f.there h in
+module _ (m : List ℕ) (n r : ℕ) (f : OfferHas m n r) where
+  pub unmet_before : (i : ℕ) → i < r → eqb (get_or (decode m).offers i no_offer).number n ≡ false
+  unmet_before i l =
+      let t = f.there in
       let u : i < word m OFFERS = omega arith in
-      ne_eqb _ _ (λ e. f.unmet i u l (sym (offer_number m i u) ∙ e))
+      ne_eqb _ _ (λ e. f.before i l (sym (offer_number m i u) ∙ e))
 
-  pub met_there : r < 8 → eqb (get_or (decode m).offers r no_offer).number n ≡ true
-  met_there h = eq-eqb _ _ (offer_number m r (f.there h) ∙ f.number h)
+  pub met_there : eqb (get_or (decode m).offers r no_offer).number n ≡ true
+  met_there = eq-eqb _ _ (offer_number m r f.there ∙ f.here)
 
-  pub found_offer : r < 8 → (offer_of (decode m) n ≡ offer_at m (word m DAYS) r) × (offer_open (decode m) n ≡ true)
-  found_offer h =
-      let t = f.there h in
-      let k = keep-first (λ (o : OpenOffer). eqb o.number n) no_offer (decode m).offers r (omega (arith, offers_held m)) (met_there h)
-      (unmet_before h) in
+  pub found_offer : (offer_of (decode m) n ≡ offer_at m (word m DAYS) r) × (offer_open (decode m) n ≡ true)
+  found_offer =
+      let t = f.there in
+      let k = keep-first (λ (o : OpenOffer). eqb o.number n) no_offer (decode m).offers r (omega (arith, offers_held m)) met_there unmet_before in
       (k.0 ∙ offer_at_lem m r t, lt-ltb _ _ k.1)
 
-  pub found_none : word m OFFERS ≤ 8 → 8 ≤ r → offer_open (decode m) n ≡ false
-  found_none few h =
-      let k = keep_none (λ (o : OpenOffer). eqb o.number n) no_offer (decode m).offers (λ i l. let u : i
-      < word m OFFERS = omega (arith, offers_held m) in ne_eqb _ _ (λ e. f.unmet i u (omega arith) (sym (offer_number m i u) ∙ e))) in
-      ap (λ (l : List OpenOffer). ltb 0 (length l)) k
+-- no offer has the number
+pub found_none : (m : List ℕ) (n : ℕ) → OfferFound m n None → offer_open (decode m) n ≡ false
+found_none m n f =
+    let k = keep_none (λ (o : OpenOffer). eqb o.number n) no_offer (decode m).offers (λ i l. let u : i
+    < word m OFFERS = omega (arith, offers_held m) in ne_eqb _ _ (λ e. f i u (sym (offer_number m i u) ∙ e))) in
+    ap (λ (l : List OpenOffer). ltb 0 (length l)) k
 
 -- who can take the offer at place j
 module _ (m : List ℕ) (j u q whole : ℕ) (hw : whole ≡ min (total (table (periods (word m DAYS)) (amount_at m j))) (most_energy + 1)) (hq : q ≤ most_energy) where

@@ -36,7 +36,7 @@ module _ (m : List ℕ) (j : ℕ) (g : Readable m) (hj : j < 8) where
   fits : e ≤ length m
   fits = omega (arith, g.long, g.days_to)
 
-  amounts_stand : take (e - a) (drop a m) ≡ rs
+  pub amounts_stand : take (e - a) (drop a m) ≡ rs
   amounts_stand =
       sym (table_is (periods (word m DAYS)) (amount_at m j) (take (e - a) (drop a m)) 0 (mid_len a e m fits ∙ omega arith)
       (λ p h. sym (get_or-take (e - a) (drop a m) p 0 (omega arith) ∙ get_or-drop a m p 0)))

@@ -1,5 +1,5 @@
 -- The checks of a take on a sound book in memory, one by one.
-use Rattle.std.proofs.Common.{◌≡◌, ℕ, ◌+◌, ◌<◌, ◌≤◌, Bool, true, false, cond, not, ltb, List, [], ◌∷◌, ◌++◌, sym, refl, ap, ◌∙◌, le-ltb, lt-ltb}
+use Rattle.std.proofs.Common.{◌≡◌, ℕ, ◌+◌, ◌<◌, ◌≤◌, Bool, true, false, cond, not, ltb, List, [], ◌∷◌, ◌++◌, None, sym, refl, ap, ◌∙◌, arith, le-ltb, lt-ltb}
 use Rattle.measures.specs.Ranges.{most_energy}
 use Rattle.measures.specs.Lists.{Each}
 use Rattle.measures.proofs.RangeLaws.{In, inside, outside}
@@ -10,7 +10,8 @@ use Rattle.book.specs.Refusals.{Check, check, first_refusal, can_take}
 use Rattle.book.specs.Layout.{DAYS, UNITS, OFFERS, offer_place, UNIT, word, offer_at, decode}
 use Rattle.book.specs.Contract.{sound_in}
 use Rattle.book.specs.Inner.Readable.{Readable}
-use Rattle.book.specs.Inner.RowsIn.{Found, takes, party_checks}
+use Rattle.book.specs.Inner.RowsIn.{takes, party_checks}
+use Rattle.book.specs.Inner.Search.{OfferHas, OfferFound}
 use Rattle.book.proofs.Laws.Memory.RangeFacts.{units_held, OfferWords, offer_facts, offers_every}
 use Rattle.book.proofs.Laws.Answer.MadeLaws.{sound-book, sound_readable}
 use Rattle.book.proofs.Laws.Take.FoundLaws.{found_offer, found_none}
@@ -87,41 +88,44 @@ module _ (m : List ℕ) (u n q lent : ℕ) where
         first_skip 6 (not (known (decode m) u)) _ (is_known hu)
         (first_skip 7 (ltb lent 4464) _ (le-ltb lent 4464 h) (first_hit 9 (not (energy_in q)) _ (no_energy k)))
 
-    module _ (hl : 4464 ≤ lent) (hq : In 1 most_energy q) (s : sound_in m ≡ true) (r : ℕ) (f : Found m n r) where
+    module _ (hl : 4464 ≤ lent) (hq : In 1 most_energy q) where
       skip_energy : (x : ℕ) (cs : List Check) → x ≡ first_refusal cs → x
           ≡ first_refusal (check 6 (not (known (decode m) u)) ∷ check 7 (ltb lent 4464) ∷ check 9 (not (energy_in q)) ∷ cs)
       skip_energy x cs e =
           first_skip 6 (not (known (decode m) u)) (check 7 (ltb lent 4464) ∷ check 9 (not (energy_in q)) ∷ cs) (is_known hu)
           (first_skip 7 (ltb lent 4464) (check 9 (not (energy_in q)) ∷ cs) (le-ltb lent 4464 hl) (first_skip 9 (not (energy_in q)) cs (is_energy hq) e))
 
-      skip_found : r < 8 → (x : ℕ) (cs : List Check) → x ≡ first_refusal cs → x
-          ≡ first_refusal (check 6 (not (known (decode m) u)) ∷ check 7 (ltb lent 4464) ∷ check 9 (not (energy_in q)) ∷ check 11 (not (offer_open (decode m) n))
-          ∷ cs)
-      skip_found h x cs e =
-          skip_energy x (check 11 (not (offer_open (decode m) n))
-          ∷ cs) (first_skip 11 (not (offer_open (decode m) n)) cs (rw (found_offer m n r f h).1 refl) e)
-
-      pub party_none : 8 ≤ r → 11 ≡ first_refusal (party_checks (decode m) u n q lent)
+      pub party_none : OfferFound m n None → 11 ≡ first_refusal (party_checks (decode m) u n q lent)
       unfolding party_checks
-      party_none h = skip_energy 11 _ (first_hit 11 (not (offer_open (decode m) n)) _ (rw (found_none m n r f (sound_readable m s).offers_to h) refl))
+      party_none f = skip_energy 11 _ (first_hit 11 (not (offer_open (decode m) n)) _ (rw (found_none m n f) refl))
 
-      can_take_lem : r < 8 → can_take (decode m) (offer_of (decode m) n) u q ≡ takes m r u q
-      unfolding takes
-      can_take_lem h = ap (λ (o : OpenOffer). can_take (decode m) o u q) (found_offer m n r f h).0
+      module _ (r : ℕ) (f : OfferHas m n r) where
+        skip_found : (x : ℕ) (cs : List Check) → x ≡ first_refusal cs → x
+            ≡ first_refusal (check 6 (not (known (decode m) u)) ∷ check 7 (ltb lent 4464) ∷ check 9 (not (energy_in q)) ∷ check 11 (not (offer_open (decode m) n))
+            ∷ cs)
+        skip_found x cs e =
+            skip_energy x (check 11 (not (offer_open (decode m) n))
+            ∷ cs) (first_skip 11 (not (offer_open (decode m) n)) cs (rw (found_offer m n r f).1 refl) e)
 
-      pub party_cannot : r < 8 → takes m r u q ≡ false → 12 ≡ first_refusal (party_checks (decode m) u n q lent)
-      unfolding party_checks
-      party_cannot h e = skip_found h 12 _ (first_hit 12 (not (can_take (decode m) (offer_of (decode m) n) u q)) [] (ap not (can_take_lem h ∙ e)))
+        can_take_lem : can_take (decode m) (offer_of (decode m) n) u q ≡ takes m r u q
+        unfolding takes
+        can_take_lem = ap (λ (o : OpenOffer). can_take (decode m) o u q) (found_offer m n r f).0
 
-      pub party_passed : r < 8 → takes m r u q ≡ true → 0 ≡ first_refusal (party_checks (decode m) u n q lent)
-      unfolding party_checks first_refusal
-      party_passed h e = skip_found h 0 (check 12 (not (can_take (decode m) (offer_of (decode m) n) u q))
-          ∷ []) (first_skip 12 (not (can_take (decode m) (offer_of (decode m) n) u q)) [] (ap not (can_take_lem h ∙ e)) refl)
+        pub party_cannot : takes m r u q ≡ false → 12 ≡ first_refusal (party_checks (decode m) u n q lent)
+        unfolding party_checks
+        party_cannot e = skip_found 12 _ (first_hit 12 (not (can_take (decode m) (offer_of (decode m) n) u q)) [] (ap not (can_take_lem ∙ e)))
+
+        pub party_passed : takes m r u q ≡ true → 0 ≡ first_refusal (party_checks (decode m) u n q lent)
+        unfolding party_checks first_refusal
+        party_passed e = skip_found 0 (check 12 (not (can_take (decode m) (offer_of (decode m) n) u q))
+            ∷ []) (first_skip 12 (not (can_take (decode m) (offer_of (decode m) n) u q)) [] (ap not (can_take_lem ∙ e)) refl)
 
 -- what asking whether a unit can take needs
-pub can_asks : (m : List ℕ) (u q n r : ℕ) → sound_in m ≡ true → Found m n r → r < 8 → In 1 (word m UNITS) u → q ≤ most_energy
+pub can_asks : (m : List ℕ) (u q n r : ℕ) → sound_in m ≡ true → OfferHas m n r → In 1 (word m UNITS) u → q ≤ most_energy
     → (Readable m) × (r < 8) × (1 ≤ word m (offer_place r + UNIT)) × (word m (offer_place r + UNIT) ≤ word m UNITS)
     × (1 ≤ u) × (u ≤ word m UNITS) × (q ≤ most_energy)
-can_asks m u q n r s f h hu hq =
-    let o = offer_sound m r s (f.there h) in
-    (sound_readable m s, h, o.unit.0, o.unit.1, hu.0, hu.1, hq)
+can_asks m u q n r s f hu hq =
+    let o = offer_sound m r s f.there in
+    let g = sound_readable m s in
+    let a = f.there in
+    (g, omega (arith, a, g.offers_to), o.unit.0, o.unit.1, hu.0, hu.1, hq)

@@ -1,7 +1,6 @@
 -- Open offers of a sound book in memory: the offer at a place, the offer of a number, and the checks of a withdraw.
-use Rattle.std.proofs.Common.{◌≡◌, ℕ, ◌+◌, ◌<◌, ◌≤◌, Bool, true, false, cond, not, ◌&&◌, eqb, ltb, List, [], ◌∷◌, ◌++◌, length, take, drop, refl}
+use Rattle.std.proofs.Common.{◌≡◌, ℕ, ◌+◌, ◌<◌, Bool, true, false, cond, not, ◌&&◌, eqb, ltb, List, [], ◌∷◌, ◌++◌, length, take, drop, None, refl}
 use Rattle.std.proofs.Common.{sym, ap, ◌∙◌, arith, eq-eqb, ne_eqb}
-use native.Mathlib.Decide.{dec_lt}
 use Rattle.measures.specs.Lists.{keep}
 use Rattle.measures.proofs.ListLaws.{not_both}
 use Rattle.measures.proofs.RangeLaws.{In, inside, outside}
@@ -10,7 +9,7 @@ use Rattle.book.specs.Layout.{DAYS, UNITS, OFFERS, offer_place, UNIT, TAKEN, wor
 use Rattle.book.specs.Refusals.{first_refusal}
 use Rattle.book.specs.Contract.{sound_in}
 use Rattle.book.specs.Withdraw.{withdraw_checks}
-use Rattle.book.specs.Inner.RowsIn.{Found}
+use Rattle.book.specs.Inner.Search.{OfferFound}
 use Rattle.book.proofs.Laws.Memory.RangeFacts.{units_held, offers_held, offer_at_lem, offer_number}
 use Rattle.book.proofs.Laws.Memory.KeptLaws.{number_kept, number_gone, number_none}
 use Rattle.book.proofs.Laws.Cancel.CancelLaws.{sound_rises}
@@ -72,18 +71,11 @@ module _ (m : List ℕ) (s : sound_in m ≡ true) (n : ℕ) where
                 (word m (offer_place j + TAKEN)) 1 t,
           ) refl)
 
-  -- the place that the search gives is an offer's
-  pub offer_placed : offer_open (decode m) n ≡ true → word m OFFERS ≤ 8 → (j : ℕ) → Found m n j → j < word m OFFERS
-  offer_placed o few j f = go (dec_lt j 8)
-    where
-      none : ((i : ℕ) → i < word m OFFERS → word m (offer_place i) ≡ n → ⊥) → ⊥
-      none a =
-          let z : ltb 0 (length (offers_of (decode m) n)) ≡ false = rw (offer_absent a) refl in
-          not_both _ o z
-
-      go : Dec (j < 8) → j < word m OFFERS
-      go (yes l) = f.there l
-      go (no l) = absurd (none (λ i u. f.unmet i u (omega arith)))
+  -- an open offer has a place
+  pub offer_placed : offer_open (decode m) n ≡ true → OfferFound m n None → ⊥
+  offer_placed o f =
+      let z : ltb 0 (length (offers_of (decode m) n)) ≡ false = rw (offer_absent f) refl in
+      not_both _ o z
 
 -- where the checks of a withdraw give 0, the offer is open
 pub withdraw_open : (b : Book) (u n : ℕ) → 0 ≡ first_refusal (withdraw_checks b u n) → offer_open b n ≡ true

@@ -10,29 +10,24 @@ use Rattle.book.proofs.cancelling.cancel_effect.Goals as goal
 pub bounds-book-7 : goal.bounds-book-7
 bounds-book-7 c = let r = sound_readable _ c.requires.0 in omega arith
 
-pub order_place-k-requires : goal.order_place-k-requires
-order_place-k-requires c = sound_readable _ c.requires.0
+pub find_order-requires : goal.find_order-requires
+find_order-requires c = sound_readable _ c.requires.0
+
+pub unreachable-requires : goal.unreachable-requires
+unreachable-requires c = order_placed _ c.requires.0 _ c.requires.1 c.in_default.ensures
 
 pub slice_bounds-remove-end : goal.slice_bounds-remove-end
 slice_bounds-remove-end c = let r = sound_readable _ c.requires.0 in omega arith
-
-pub overflow_sub-book : goal.overflow_sub-book
-overflow_sub-book c =
-    let f = order_placed _ c.requires.0 _ c.requires.1 c.order_place-k.result c.order_place-k.ensures.0 c.order_place-k.ensures.1 in omega arith
-
-pub bounds-book-7-2 : goal.bounds-book-7-2
-bounds-book-7-2 c =
-    let r = sound_readable _ c.requires.0 in omega arith
 
 pub returns : goal.returns
 returns c =
     let m = c.args.book.now in
     let o = c.remove.new.orders in
-    let w = c.order_place-k in
-    let f = order_placed _ c.requires.0 _ c.requires.1 w.result w.ensures.0 w.ensures.1 in
+    let w = c.in-Some.ensures in
+    let f = w.there in
     let r = sound_readable _ c.requires.0 in
     let long = c.remove.auto.orders ∙ mid_len orders_start amounts_start m (omega arith) in
     let p = c.remove.ensures.orders (place_there _ _ _ r.orders_to (simp (length-take, length-drop) (omega arith)) f) in (
-      cancelled m o c.args.number w.result c.requires.0 f (w.ensures.2 f) long p,
-      cancelled_aside m o c.args.number w.result c.requires.0 f (w.ensures.2 f) long p,
+      cancelled m o c.args.number _ c.requires.0 f w.here long p,
+      cancelled_aside m o c.args.number _ c.requires.0 f w.here long p,
     )

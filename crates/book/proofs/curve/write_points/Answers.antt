@@ -1,13 +1,7 @@
 -- `write_points`: the points of the hours passed stand, and those to come follow.
-use Rattle.std.proofs.Common.{◌+◌, ◌*◌, ◌∙◌, arith, length-set}
-use Rattle.book.proofs.Laws.Curve.CurveLaws.{drawing_start, drawing_more, drawing_ends, net-figures}
+use Rattle.std.proofs.Common.{◌+◌, ◌*◌, ◌∙◌, arith}
+use Rattle.book.proofs.Laws.Curve.CurveLaws.{drawing_more, drawing_ends, net-figures}
 use Rattle.book.proofs.curve.write_points.Goals as goal
-
-pub loop-h-init : goal.loop-h-init
-loop-h-init c = drawing_start _ _ _ _
-
-pub bounds-points-h-in-loop-h : goal.bounds-points-h-in-loop-h
-bounds-points-h-in-loop-h c = simp length-set (omega arith)
 
 pub loop-h-preserved : goal.loop-h-preserved
 loop-h-preserved c =

@@ -23,10 +23,6 @@ pub overflow_add-totals-2 : goal.overflow_add-totals-2
 overflow_add-totals-2 c =
     omega (arith, order_words_lem _ _ c.requires.ranged.0 c.requires.ranged.1, c.requires.table.1 (word c.args.book.now (order_place c.args.k + PERIOD)))
 
-pub offset_bounds-totals-p-2 : goal.offset_bounds-totals-p-2
-offset_bounds-totals-p-2 c =
-    omega (arith, order_words_lem _ _ c.requires.ranged.0 c.requires.ranged.1)
-
 pub bounds-totals-p-2 : goal.bounds-totals-p-2
 bounds-totals-p-2 c =
     omega (arith, order_words_lem _ _ c.requires.ranged.0 c.requires.ranged.1)

@@ -1,5 +1,5 @@
 -- `lacks_place`: a place is free, the call phase, or what would be left.
-use Rattle.std.proofs.Common.{not, ap, ◌∙◌, arith}
+use Rattle.std.proofs.Common.{◌≡◌, not, eqb, ap, ◌∙◌, arith, rules}
 use Rattle.matching.specs.Answers.{left_over}
 use Rattle.book.proofs.Laws.Order.PlaceNeedLaws.{place_free, full_in_call, full_rolling}
 use Rattle.book.proofs.ordering.lacks_place.Goals as goal
@@ -12,5 +12,5 @@ returns-then-book-eq0 c = full_in_call _ _ _ _ _ _ (omega arith) (omega arith)
 
 pub returns : goal.returns
 returns c =
-    ap not c.is_zero.ensures
-    ∙ full_rolling _ _ _ _ _ _ (omega arith) c.requires (omega arith) _ (c.left_over-left.ensures ∙ ap (left_over _ _) c.fresh-o.ensures)
+    let e : c.ne.result ≡ not (eqb c.left_over-left.result.0 0) = search rules in
+    e ∙ full_rolling _ _ _ _ _ _ (omega arith) c.requires (omega arith) _ (c.left_over-left.ensures ∙ ap (left_over _ _) c.numbered-o.ensures)

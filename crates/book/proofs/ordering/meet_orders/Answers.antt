@@ -1,6 +1,7 @@
 -- `meet_orders`: the part comes back as matching leaves it, and the count is of what stands.
 use Rattle.std.proofs.Common.{ap, ◌∙◌, arith}
 use borrow.Rule.Slice.PartMut.{mid_len}
+use Rattle.std.specs.Prelude.{Option}
 use Rattle.matching.specs.declared.orders.Matched.{Matched}
 use Rattle.matching.specs.Memory.{as_order}
 use Rattle.matching.specs.Answers.{answer_of}
@@ -16,18 +17,18 @@ bounds-book-7 c = let r = sound_readable _ c.requires.0 in omega arith
 pub slice_bounds-meet-end : goal.slice_bounds-meet-end
 slice_bounds-meet-end c = let r = sound_readable _ c.requires.0 in omega arith
 
-pub bounds-book-7-in-Done : goal.bounds-book-7-in-Done
-bounds-book-7-in-Done c =
+pub bounds-book-7-in-Some : goal.bounds-book-7-in-Some
+bounds-book-7-in-Some c =
     let r = sound_readable _ c.requires.0 in omega arith
 
-pub returns-in-Unfit : goal.returns-in-Unfit
-returns-in-Unfit c =
+pub returns-in-None : goal.returns-in-None
+returns-in-None c =
     absurd (met_unfit c.args.book.now c.meet-met.new.orders c.args.rows.now c.meet-met.new.rows (as_order c.args.o) c.meet-met.result
-    c.requires.0 c.requires.1 c.meet-met.ensures (ap (λ (x : Matched). (answer_of x).fits) c.in-Unfit.is))
+    c.requires.0 c.requires.1 c.meet-met.ensures (ap (λ (x : Option Matched). (answer_of x).fits) c.in-None.is))
 
-pub returns-in-Done : goal.returns-in-Done
-returns-in-Done c =
+pub returns-in-Some : goal.returns-in-Some
+returns-in-Some c =
     let r = sound_readable _ c.requires.0 in
     met_rolled c.args.book.now c.meet-met.new.orders c.args.rows.now c.meet-met.new.rows (as_order c.args.o) c.meet-met.result
     c.requires.0 c.requires.1 c.meet-met.ensures _ _ _
-    (ap answer_of c.in-Done.is) (c.meet-met.auto.orders ∙ mid_len orders_start amounts_start c.args.book.now (omega arith))
+    (ap answer_of c.in-Some.is) (c.meet-met.auto.orders ∙ mid_len orders_start amounts_start c.args.book.now (omega arith))

@@ -25,7 +25,7 @@ next_number-requires c =
 pub returns : goal.returns
 returns c =
     let r = sound_readable _ c.requires.0 in
-    let h = put_same _ _ c.fresh-o.ensures _ _ c.append.ensures in
+    let h = put_same _ _ c.numbered-o.ensures _ _ c.append.ensures in
     let n = c.next_number.ensures in (
       called c.args.book.now _ _ _ _ _ _ _ r.units_to r.offers_to h n.0,
       aside_then _ _ _ (h.low DAYS (omega arith) (omega arith)) (put_aside _ _ _ h) n.1,

@@ -38,12 +38,12 @@ pub rest_waits-requires : goal.rest_waits-requires
 rest_waits-requires c =
     rest_room c.args.book.now c.args.rows.now c.args.wanted.unit c.args.wanted.direction c.args.wanted.period
     c.args.wanted.price.0 c.args.wanted.quantity.0
-    c.requires.0 c.requires.1 _ _ _ _ (rolled_same _ _ c.fresh-o.ensures _ _ _ _ _ _ c.meet_orders-rest.ensures)
+    c.requires.0 c.requires.1 _ _ _ _ (rolled_same _ _ c.numbered-o.ensures _ _ _ _ _ _ c.meet_orders-rest.ensures)
 
 pub book_rows-requires : goal.book_rows-requires
 book_rows-requires c =
-    let h = rolled_same _ _ c.fresh-o.ensures _ _ _ _ _ _ c.meet_orders-rest.ensures in
-    let w = waits_same _ _ c.fresh-o.ensures _ _ c.meet_orders-rest.result.left.0 c.rest_waits.ensures in
+    let h = rolled_same _ _ c.numbered-o.ensures _ _ _ _ _ _ c.meet_orders-rest.ensures in
+    let w = waits_same _ _ c.numbered-o.ensures _ _ c.meet_orders-rest.result.left.0 c.rest_waits.ensures in
     let t = rows_room c.args.book.now c.args.rows.now c.args.wanted.unit c.args.wanted.direction c.args.wanted.period
     c.args.wanted.price.0 c.args.wanted.quantity.0
     c.requires.0 c.requires.1 _ _ _ _ h _ w in (
@@ -65,14 +65,14 @@ next_number-requires c =
     number_room c.args.book.now c.args.rows.now c.args.wanted.unit c.args.wanted.direction c.args.wanted.period
     c.args.wanted.price.0 c.args.wanted.quantity.0
     c.requires.0 c.requires.1
-    _ _ _ _ (rolled_same _ _ c.fresh-o.ensures _ _ _ _ _ _ c.meet_orders-rest.ensures) _
-    (waits_same _ _ c.fresh-o.ensures _ _ c.meet_orders-rest.result.left.0 c.rest_waits.ensures) _ c.book_rows.ensures
+    _ _ _ _ (rolled_same _ _ c.numbered-o.ensures _ _ _ _ _ _ c.meet_orders-rest.ensures) _
+    (waits_same _ _ c.numbered-o.ensures _ _ c.meet_orders-rest.result.left.0 c.rest_waits.ensures) _ c.book_rows.ensures
 
 pub returns : goal.returns
 returns c =
     rolled_on c.args.book.now c.args.rows.now c.args.wanted.unit c.args.wanted.direction c.args.wanted.period
     c.args.wanted.price.0 c.args.wanted.quantity.0
     c.requires.0 c.requires.1
-    _ _ _ _ (rolled_same _ _ c.fresh-o.ensures _ _ _ _ _ _ c.meet_orders-rest.ensures) _
-    (waits_same _ _ c.fresh-o.ensures _ _ c.meet_orders-rest.result.left.0 c.rest_waits.ensures) _ c.book_rows.ensures _
+    _ _ _ _ (rolled_same _ _ c.numbered-o.ensures _ _ _ _ _ _ c.meet_orders-rest.ensures) _
+    (waits_same _ _ c.numbered-o.ensures _ _ c.meet_orders-rest.result.left.0 c.rest_waits.ensures) _ c.book_rows.ensures _
     c.next_number.ensures.0 c.next_number.ensures.1

@@ -1,12 +1,8 @@
-use Rattle.std.proofs.Common.{◌≡◌, ◌-◌, ◌≤◌}
+use Rattle.std.proofs.Common.{◌≡◌, ◌≤◌}
 use Rattle.measures.specs.Lists.{sum}
-use Rattle.book.specs.Layout.{ORDERS, word}
 use Rattle.book.specs.Inner.Ordering.{of_unit_at, against_at}
 use Rattle.book.proofs.ordering.unit_orders.Given as goal
 
 abbrev pub invariant-loop-k : goal.invariant-loop-k
-invariant-loop-k l = (l.k ≤ word l.book ORDERS) × (l.stand ≤ l.k) × (l.against ≤ l.k)
+invariant-loop-k l = (l.stand ≤ l.k) × (l.against ≤ l.k)
     × (l.stand ≡ sum l.k (of_unit_at l.book l.unit l.period)) × (l.against ≡ sum l.k (against_at l.book l.unit l.direction l.period))
-
-abbrev pub decreases-loop-k : goal.decreases-loop-k
-decreases-loop-k l = word l.book ORDERS - l.k

@@ -3,14 +3,14 @@ use Rattle.std.proofs.Common.{arith}
 use Rattle.book.proofs.Laws.Check.TogetherLaws.{direction_alone, direction_tested}
 use Rattle.book.proofs.pairs.one_direction.Goals as goal
 
-pub returns-then-t-eq0 : goal.returns-then-t-eq0
-returns-then-t-eq0 c =
+pub returns-in_default : goal.returns-in_default
+returns-in_default c =
     let g = c.requires in
     let n = g.0.readable.orders_to in
-    direction_alone _ _ (omega arith) _ c.if-t-eq0.true c.find_alike-t.ensures
+    direction_alone _ _ (omega arith) c.in_default.ensures
 
 pub returns : goal.returns
 returns c =
     let g = c.requires in
     let n = g.0.readable.orders_to in
-    direction_tested _ _ (omega arith) _ c.if-t-eq0.false c.find_alike-t.ensures g.3
+    direction_tested _ _ (omega arith) _ c.in-Some.ensures g.3

@@ -8,12 +8,6 @@ returns-then-not-one_direction c = stands_not _ _ _ _ _ c.one_direction.ensures 
 pub returns-then-book-ne1 : goal.returns-then-book-ne1
 returns-then-book-ne1 c = stands_called _ _ _ _ _ c.one_direction.ensures c.if-not-one_direction.false c.if-book-ne1.true
 
-pub stands_apart-requires : goal.stands_apart-requires
-stands_apart-requires c =
-    let g = c.requires in
-    let e = c.if-book-ne1.false in
-    (g.0, g.1, g.2, g.5.high_long e, g.5.low_long e, g.5.prices e)
-
 pub returns : goal.returns
 returns c =
     stands_rolling _ _ _ _ _ _ c.one_direction.ensures c.if-not-one_direction.false c.if-book-ne1.false c.stands_apart.ensures

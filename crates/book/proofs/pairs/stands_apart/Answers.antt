@@ -1,11 +1,6 @@
 -- `stands_apart`: no order before it is crossed, and its price is entered.
-use Rattle.std.proofs.Common.{sym, ◌∙◌}
-use borrow.Author.Tests.{not-true}
-use Rattle.book.proofs.Laws.Check.TogetherLaws.{not_priced, priced}
+use Rattle.book.proofs.Laws.Check.TogetherLaws.{priced}
 use Rattle.book.proofs.pairs.stands_apart.Goals as goal
-
-pub returns-then-crosses : goal.returns-then-crosses
-returns-then-crosses c = not_priced _ _ _ _ (sym (not-true _ (sym c.crosses.ensures ∙ c.if-crosses.true)))
 
 pub returns : goal.returns
 returns c =

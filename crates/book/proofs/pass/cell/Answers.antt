@@ -1,12 +1,15 @@
 -- `cell`: the word stays low just where each word joined does, and then no sum wrapped.
-use Rattle.std.proofs.Common.{arith}
+use Rattle.std.proofs.Common.{ℕ, ◌+◌, ◌-◌, ◌%◌, refl, arith}
 use Rattle.book.proofs.Laws.Check.CellLaws.{cell_same}
 use Rattle.book.proofs.pass.cell.Goals as goal
 
 pub returns : goal.returns
 returns c =
-    cell_same _ _ _ _ _ _ _ _ _ _ _ _ _ _ _ _ _ _
-    c.wrapping_add_u64-declared.ensures.value c.wrapping_add_u64-up.ensures.value c.wrapping_add_u64-down.ensures.value
-    c.wrapping_sub_u64-over.ensures.value c.wrapping_sub_u64-under.ensures.value
+    let a = c.args in
+    let w : ℕ = 18446744073709551616 in
+    let up = (a.held + (a.raised + a.x) % w) % w in
+    let down = (a.lowered + a.y) % w in
+    cell_same a.bad a.held a.raised a.lowered a.volume a.limit a.x a.y _ up down ((a.limit + (w - up)) % w) ((a.held + (w - down)) % w) _ _ _ _ _
+    refl refl refl (omega arith) (omega arith)
     c.joined-a.ensures c.joined-b.ensures c.joined-c.ensures c.joined-d.ensures c.joined.ensures
     (omega arith) (omega arith) (omega arith) (omega arith) (omega arith)

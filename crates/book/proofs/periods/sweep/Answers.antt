@@ -1,6 +1,7 @@
 -- `sweep`: the orders' part is cleared and comes back, and the rest of the book stays.
 use borrow.Rule.Slice.PartMut.{mid_len}
 use Rattle.std.proofs.Common.{ap, ◌∙◌, arith}
+use Rattle.std.specs.Prelude.{Option}
 use Rattle.matching.specs.declared.orders.Matched.{Matched}
 use Rattle.matching.specs.Answers.{answer_of}
 use Rattle.matching.proofs.Laws.Periods.PassingLaws.{all_gives, all_fit}
@@ -22,19 +23,19 @@ overflow_mul-end c = let r = sound_readable _ c.requires.0 in omega arith
 pub slice_bounds-clear_periods-end : goal.slice_bounds-clear_periods-end
 slice_bounds-clear_periods-end c = let r = sound_readable _ c.requires.0 in omega arith
 
-pub bounds-book-7-in-Done : goal.bounds-book-7-in-Done
-bounds-book-7-in-Done c =
+pub bounds-book-7-in-Some : goal.bounds-book-7-in-Some
+bounds-book-7-in-Some c =
     let r = sound_readable _ c.requires.0 in omega arith
 
-pub returns-in-Unfit : goal.returns-in-Unfit
-returns-in-Unfit c =
+pub returns-in-None : goal.returns-in-None
+returns-in-None c =
     all_fit _ _ _ _ _ _ _ (clear_fits _ _ c.requires.0 c.requires.1) c.clear_periods-t.ensures
-    (ap (λ (a : Matched). (answer_of a).fits) c.in-Unfit.is)
+    (ap (λ (a : Option Matched). (answer_of a).fits) c.in-None.is)
 
-pub returns-in-Done : goal.returns-in-Done
-returns-in-Done c =
+pub returns-in-Some : goal.returns-in-Some
+returns-in-Some c =
     let r = sound_readable _ c.requires.0 in
     let t = c.clear_periods-t in
     swept _ _ _ _ _ _ c.requires.0 (t.auto.orders ∙ mid_len orders_start amounts_start c.args.book.now (omega arith))
-    (all_gives _ _ _ _ _ _ _ _ _ (clear_fits _ _ c.requires.0 c.requires.1) t.ensures (ap (λ (a : Matched). (answer_of a).count) c.in-Done.is)
-    (ap (λ (a : Matched). (answer_of a).standing) c.in-Done.is))
+    (all_gives _ _ _ _ _ _ _ _ _ (clear_fits _ _ c.requires.0 c.requires.1) t.ensures (ap (λ (a : Option Matched). (answer_of a).count) c.in-Some.is)
+    (ap (λ (a : Option Matched). (answer_of a).standing) c.in-Some.is))

@@ -1,49 +1,38 @@
 -- `offer_in`: a test that fails contradicts one of the offer's facts; the sides decide the rest.
-use Rattle.std.proofs.Common.{◌≡◌, ◌<◌, ◌≤◌, ◌∙◌, arith}
-use Rattle.book.proofs.Laws.Memory.RangeFacts.{offer_fails, offer_by_sides}
+use Rattle.std.proofs.Common.{◌∙◌, arith}
 use Rattle.measures.specs.Ranges.{most_energy}
-use Rattle.book.proofs.Laws.Memory.TestLaws.{not_below_lem, within_most, over_most, is_none, is_some, deny_below}
+use Rattle.measures.proofs.RangeLaws.{In}
+use Rattle.book.proofs.Laws.Memory.RangeFacts.{unit_test, offer_fails, offer_by_sides}
+use Rattle.book.proofs.Laws.Memory.TestLaws.{is_in, not_in}
 use Rattle.book.proofs.ranges.offer_in.Goals as goal
 
-pub returns-then-number-lt1 : goal.returns-then-number-lt1
-returns-then-number-lt1 c = offer_fails _ _ (λ h. omega (arith, h.number, c.if-number-lt1.true))
+pub returns-then-not-number_given : goal.returns-then-not-number_given
+returns-then-not-number_given c = offer_fails _ _ (λ h. not_in c.number_given.ensures c.if-not-number_given.true h.number)
 
-pub returns-then-book-number : goal.returns-then-book-number
-returns-then-book-number c = offer_fails _ _ (λ h. omega (arith, h.number, c.if-book-number.true))
+pub returns-then-not-unit_known : goal.returns-then-not-unit_known
+returns-then-not-unit_known c = offer_fails _ _ (λ h. not_in (unit_test _ _ c.unit_known.ensures) c.if-not-unit_known.true h.unit)
 
-pub returns-then-unit-lt1 : goal.returns-then-unit-lt1
-returns-then-unit-lt1 c = offer_fails _ _ (λ h. omega (arith, h.unit, c.if-unit-lt1.true))
-
-pub returns-then-book-unit : goal.returns-then-book-unit
-returns-then-book-unit c = offer_fails _ _ (λ h. omega (arith, h.unit, c.if-book-unit.true))
-
-pub returns-then-below : goal.returns-then-below
-returns-then-below c = offer_fails _ _ (λ h. deny_below h.price.0 c.below.ensures c.if-below.true)
-
-pub returns-then-below-2 : goal.returns-then-below-2
-returns-then-below-2 c = offer_fails _ _ (λ h. deny_below h.price.1 c.below-2.ensures c.if-below-2.true)
+pub returns-then-not-price_in : goal.returns-then-not-price_in
+returns-then-not-price_in c = offer_fails _ _ (λ h. not_in c.price_in.ensures c.if-not-price_in.true h.price)
 
 pub returns-then-book-at-gt1 : goal.returns-then-book-at-gt1
 returns-then-book-at-gt1 c = offer_fails _ _ (λ h. omega (arith, h.taken, c.if-book-at-gt1.true))
 
-pub returns-then-is_zero : goal.returns-then-is_zero
-returns-then-is_zero c =
-    let w = c.offer_total-whole in
-    let none : w.result.0 ≡ 0 = is_none c.is_zero.ensures c.if-is_zero.true in
-    offer_fails _ _ (λ h. omega (arith, h.whole, none, w.ensures))
+pub returns-then-not-energy_in : goal.returns-then-not-energy_in
+returns-then-not-energy_in c =
+    let w = c.offer_total.ensures in
+    let n : In 1 most_energy c.offer_total.result.0 → ⊥ = not_in c.energy_in.ensures c.if-not-energy_in.true in
+    offer_fails _ _ (λ h. let g = h.whole in n (omega arith, omega arith))
 
-pub returns-then-not-in_range : goal.returns-then-not-in_range
-returns-then-not-in_range c =
-    let w = c.offer_total-whole in
-    let over : most_energy < w.result.0 = over_most c.in_range.ensures c.if-not-in_range.true in
-    offer_fails _ _ (λ h. omega (arith, h.whole, over, w.ensures))
+pub sides_fit-requires : goal.sides_fit-requires
+sides_fit-requires c =
+    let u = is_in (unit_test _ _ c.unit_known.ensures) c.if-not-unit_known.false in
+    (c.requires.0, u.0, u.1)
 
 pub returns : goal.returns
 returns c =
-    let w = c.offer_total-whole in
-    let some : 1 ≤ w.result.0 = is_some c.is_zero.ensures c.if-is_zero.false in
-    let most : w.result.0 ≤ most_energy = within_most c.in_range.ensures c.if-not-in_range.false in
+    let w = c.offer_total.ensures in
+    let t : In 1 most_energy c.offer_total.result.0 = is_in c.energy_in.ensures c.if-not-energy_in.false in
     c.sides_fit.ensures
-    ∙ offer_by_sides _ _ (omega (arith, c.if-number-lt1.false, c.if-book-number.false)) (omega (arith, c.if-unit-lt1.false, c.if-book-unit.false))
-    (not_below_lem c.below.ensures c.if-below.false, not_below_lem c.below-2.ensures c.if-below-2.false)
-    (omega (arith, c.if-book-at-gt1.false)) (omega (arith, some, most, w.ensures))
+    ∙ offer_by_sides _ _ (is_in c.number_given.ensures c.if-not-number_given.false) (is_in (unit_test _ _ c.unit_known.ensures) c.if-not-unit_known.false)
+    (is_in c.price_in.ensures c.if-not-price_in.false) (omega arith) (omega arith, omega arith)

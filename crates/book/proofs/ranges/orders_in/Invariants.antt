@@ -1,12 +1,9 @@
-use Rattle.std.proofs.Common.{◌≡◌, ◌-◌, ◌≤◌, true}
+use Rattle.std.proofs.Common.{◌≡◌, true}
 use Rattle.measures.specs.Lists.{all}
 use Rattle.matching.specs.Memory.{order_at}
 use Rattle.book.specs.Sound.{order_in}
-use Rattle.book.specs.Layout.{ORDERS, word, orders_part, decode}
+use Rattle.book.specs.Layout.{orders_part, decode}
 use Rattle.book.proofs.ranges.orders_in.Given as goal
 
 abbrev pub invariant-loop-k : goal.invariant-loop-k
-invariant-loop-k l = (l.k ≤ word l.book ORDERS) × (all l.k (λ i. order_in (decode l.book) (order_at (orders_part l.book) i)) ≡ true)
-
-abbrev pub decreases-loop-k : goal.decreases-loop-k
-decreases-loop-k l = word l.book ORDERS - l.k
+invariant-loop-k l = all l.k (λ i. order_in (decode l.book) (order_at (orders_part l.book) i)) ≡ true

@@ -1,20 +1,13 @@
 -- `units_in`: every unit passed is in range.
-use Rattle.book.specs.Layout.{UNITS, word}
-use Rattle.std.proofs.Common.{◌≡◌, sym, ◌∙◌, arith, rules}
+use Rattle.std.proofs.Common.{sym, ◌∙◌, arith}
 use Rattle.measures.proofs.ListLaws.{all_none, all_more, all_fails}
 use Rattle.book.proofs.ranges.units_in.Goals as goal
 
 pub loop-k-init : goal.loop-k-init
-loop-k-init c = (search rules, all_none _)
+loop-k-init c = all_none _
 
 pub returns-then-not-unit_in : goal.returns-then-not-unit_in
 returns-then-not-unit_in c = sym (all_fails _ _ c.loop-k.k (omega arith) (sym c.unit_in.ensures ∙ c.if-not-unit_in.true))
 
 pub loop-k-preserved : goal.loop-k-preserved
-loop-k-preserved c =
-    (search rules, all_more c.loop-k.k _ c.loop-k.invariant.1 (sym c.unit_in.ensures ∙ c.if-not-unit_in.false))
-
-pub returns : goal.returns
-returns c =
-    let e : c.loop-k.k ≡ word c.args.book.now UNITS = omega arith in
-    sym (rw e at c.loop-k.invariant.1)
+loop-k-preserved c = all_more c.loop-k.k _ c.loop-k.invariant (sym c.unit_in.ensures ∙ c.if-not-unit_in.false)

@@ -1,8 +1,9 @@
+use Rattle.book.specs.Inner.Whole.{link_of}
 use Rattle.book.proofs.Laws.Check.OpenDayLaws.{Walking}
 use Rattle.book.proofs.standing.add_day_orders.Given as goal
 
-abbrev pub invariant-loop-at : goal.invariant-loop-at
-invariant-loop-at l = Walking l.book l.k l.d l.direction l.initial.raising l.initial.lowering l.raising l.lowering l.at
+abbrev pub invariant-loop-next : goal.invariant-loop-next
+invariant-loop-next l = Walking l.book l.k l.d l.direction l.initial.amounts.raising l.initial.amounts.lowering l.amounts.raising l.amounts.lowering (link_of l.next)
 
-abbrev pub decreases-loop-at : goal.decreases-loop-at
-decreases-loop-at l = l.at
+abbrev pub decreases-loop-next : goal.decreases-loop-next
+decreases-loop-next l = link_of l.next

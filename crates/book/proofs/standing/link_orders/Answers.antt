@@ -2,12 +2,9 @@
 use Rattle.std.proofs.Common.{refl, arith}
 use Rattle.book.specs.Inner.Whole.{by_day, by_period}
 use Rattle.book.proofs.Laws.Check.ShareLaws.{order_words_lem}
-use Rattle.book.proofs.Laws.Check.LinkedLaws.{linking_none, linking_more, linking_ends, period_key, day_key}
+use Rattle.book.proofs.Laws.Check.LinkedLaws.{linking_more, period_key, day_key}
 use Rattle.book.proofs.standing.link_orders.Goals as goal
 use Rattle.book.proofs.standing.link_orders.Goals.{In-loop-k, Start}
-
-pub loop-k-init : goal.loop-k-init
-loop-k-init c = let g = c.requires in (linking_none _ _ _ _ g.3, linking_none _ _ _ _ g.6)
 
 pub overflow_mul-v : goal.overflow_mul-v
 overflow_mul-v c = omega (arith, (order_words_lem _ _ c.requires.0 c.loop-k-test.true).period, c.requires.0.readable.days_to)
@@ -27,10 +24,6 @@ pub bounds-last-v : goal.bounds-last-v
 unfolding by_day
 bounds-last-v c = omega (arith, day_key c.args.book.now c.loop-k.k c.requires.0 c.loop-k-test.true, c.loop-k.invariant.0.lasts)
 
-pub bounds-own-k : goal.bounds-own-k
-bounds-own-k c =
-    let g = c.requires.2 in let l = c.loop-k.invariant.0.befores in omega arith
-
 pub offset_bounds-last-v-in-loop-k : goal.offset_bounds-last-v-in-loop-k
 unfolding by_day
 offset_bounds-last-v-in-loop-k c = omega (arith, day_key c.args.book.now c.loop-k.k c.requires.0 c.loop-k-test.true)
@@ -46,10 +39,6 @@ offset_bounds-firsts-p c = omega (arith, period_key c.args.book.now c.loop-k.k c
 pub bounds-firsts-p : goal.bounds-firsts-p
 unfolding by_period
 bounds-firsts-p c = omega (arith, period_key c.args.book.now c.loop-k.k c.requires.0 c.loop-k-test.true, c.loop-k.invariant.1.lasts)
-
-pub bounds-peers-k : goal.bounds-peers-k
-bounds-peers-k c =
-    let g = c.requires.5 in let l = c.loop-k.invariant.1.befores in omega arith
 
 pub offset_bounds-firsts-p-in-loop-k : goal.offset_bounds-firsts-p-in-loop-k
 unfolding by_period
@@ -68,18 +57,3 @@ loop-k-preserved c =
       linking_more _ _ _ _ _ _ _ i.0 _ refl t (omega (arith, day_key c.args.book.now c.loop-k.k c.requires.0 t)) (omega (arith, t, g.2)),
       linking_more _ _ _ _ _ _ _ i.1 _ refl t (omega (arith, period_key c.args.book.now c.loop-k.k c.requires.0 t)) (omega (arith, t, g.5)),
     )
-
-pub shape_of-last : goal.shape_of-last
-shape_of-last c = c.loop-k.invariant.0.lasts
-
-pub shape_of-own : goal.shape_of-own
-shape_of-own c = c.loop-k.invariant.0.befores
-
-pub shape_of-firsts : goal.shape_of-firsts
-shape_of-firsts c = c.loop-k.invariant.1.lasts
-
-pub shape_of-peers : goal.shape_of-peers
-shape_of-peers c = c.loop-k.invariant.1.befores
-
-pub returns : goal.returns
-returns c = let i = c.loop-k.invariant in (linking_ends _ _ _ _ _ _ _ i.0 (omega arith), linking_ends _ _ _ _ _ _ _ i.1 (omega arith))

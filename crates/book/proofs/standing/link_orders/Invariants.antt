@@ -1,4 +1,3 @@
-use Rattle.std.proofs.Common.{◌-◌}
 use Rattle.book.specs.Layout.{ORDERS, word}
 use Rattle.book.specs.Inner.Whole.{by_day, by_period}
 use Rattle.book.proofs.Laws.Check.LinkedLaws.{Linking}
@@ -8,6 +7,3 @@ abbrev pub invariant-loop-k : goal.invariant-loop-k
 invariant-loop-k l =
     (Linking (by_day l.book) (word l.book ORDERS) l.initial.last l.initial.own l.last l.own l.k)
     × (Linking (by_period l.book) (word l.book ORDERS) l.initial.firsts l.initial.peers l.firsts l.peers l.k)
-
-abbrev pub decreases-loop-k : goal.decreases-loop-k
-decreases-loop-k l = word l.book ORDERS - l.k

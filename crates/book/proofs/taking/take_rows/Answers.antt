@@ -2,13 +2,13 @@
 use Rattle.std.proofs.Common.{sym, ◌∙◌}
 use Rattle.book.proofs.Laws.Take.TakenLaws.{rows-sold, rows-bought}
 use Rattle.book.proofs.taking.take_rows.Goals as goal
-
-pub returns-then-is_generator : goal.returns-then-is_generator
-returns-then-is_generator c =
-    rows-sold _ _ _ _ _ _ _ _ c.way_of-way.ensures (sym c.is_generator.ensures ∙ c.if-is_generator.true)
-    c.write_rows.ensures
+use Rattle.book.proofs.taking.take_rows.Goals.{then-is_generator, else-is_generator}
 
 pub returns : goal.returns
 returns c =
-    rows-bought _ _ _ _ _ _ _ _ c.way_of-way.ensures (sym c.is_generator.ensures ∙ c.if-is_generator.false)
-    c.write_rows-2.ensures
+    elim c.if-is_generator.branch [
+      | then-is_generator w ↦
+          rows-sold _ _ _ _ _ _ _ _ c.way_of-way.ensures (sym c.is_generator.ensures ∙ w.if-is_generator.true) (rw w.seller-is at c.write_rows.ensures)
+      | else-is_generator w ↦
+          rows-bought _ _ _ _ _ _ _ _ c.way_of-way.ensures (sym c.is_generator.ensures ∙ w.if-is_generator.false) (rw w.seller-is at c.write_rows.ensures)
+    ]

@@ -1,9 +1,5 @@
-use Rattle.std.proofs.Common.{◌-◌, ◌≤◌, take}
 use Rattle.book.proofs.Laws.Take.WritingLaws.{Writing}
 use Rattle.book.proofs.taking.write_rows.Given as goal
 
 abbrev pub invariant-loop-p : goal.invariant-loop-p
-invariant-loop-p l = (l.p ≤ l.top) × (Writing l.deal.way l.deal.seller l.deal.buyer l.deal.price.0 (take l.top l.parts) l.initial.rows l.rows l.p l.k)
-
-abbrev pub decreases-loop-p : goal.decreases-loop-p
-decreases-loop-p l = l.top - l.p
+invariant-loop-p l = Writing l.deal.way l.deal.seller l.deal.buyer l.deal.price.0 l.parts l.initial.rows l.rows l.p l.k

@@ -12,7 +12,6 @@ use Rattle.measures.proofs.RangeLaws.{In}
 use Rattle.measures.proofs.ListLaws.{cond-true, cond-false, and_true, and_left, and_right}
 use Rattle.matching.specs.Orders.{Row}
 use Rattle.matching.specs.Memory.{written, rows_in}
-use Rattle.book.specs.declared.Answer.{Answer}
 use Rattle.book.specs.Book.{Book}
 use Rattle.book.specs.Sound.{sound}
 use Rattle.book.specs.Refusals.{Outcome, first_refusal}
@@ -21,7 +20,7 @@ use Rattle.book.specs.Curve.{Drawn, curve, curve_refusal, curve_checks, points, 
 use Rattle.book.specs.Layout.{DAYS, UNITS, LAYOUT, layout_number, book_words, word, decode, laid_out}
 use Rattle.book.specs.Calls.{Call, call_enrol, call_offer, call_take, call_withdraw, call_order, call_cancel, call_clear, call_close, outcome, answered}
 use Rattle.book.specs.Calls.{Heard}
-use Rattle.book.specs.Contract.{Told, told_by, sound_in, outcome_on, Made, curve_on, Curved}
+use Rattle.book.specs.Contract.{Answer, Told, told_by, sound_in, outcome_on, Made, curve_on, Curved}
 use Rattle.demands.specs.Tally.{Tally, opened, tallied, accounted}
 use Rattle.demands.specs.Demand3.{Demand3, is_member, net_of}
 use Rattle.demands.specs.Trace.{Trace, none, next, heard, tally_of, Claimed, OverEveryTrace}

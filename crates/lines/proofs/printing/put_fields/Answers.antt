@@ -1,14 +1,13 @@
--- `put_fields`: after i turns the fields from i on are still to come.
+-- `put_fields`: one field more.
 use native.Mathlib.Omega.{arith}
-use Rattle.lines.proofs.PuttingLaws.{fielded_none, fielded_more, fielded_all}
+use Rattle.lines.proofs.PuttingLaws.{fields_none, fields_more}
 use Rattle.lines.proofs.printing.put_fields.Goals as goal
 
-pub loop-i-init : goal.loop-i-init
-loop-i-init c = fielded_none _ _ _
+pub loop-n-init : goal.loop-n-init
+loop-n-init c = (fields_none _ c.args.numbers.now, omega arith)
 
-pub loop-i-preserved : goal.loop-i-preserved
-loop-i-preserved c =
-    fielded_more _ _ _ _ _ _ _ _ c.loop-i-test.true c.loop-i.invariant c.put_field-end.ensures
-
-pub returns : goal.returns
-returns c = fielded_all _ _ _ _ _ _ (omega arith) c.loop-i.invariant
+pub loop-n-preserved : goal.loop-n-preserved
+loop-n-preserved c =
+    let p = c.put_field.ensures in
+    let i = c.loop-n.invariant in
+    (fields_more _ c.args.numbers.now _ _ _ c.loop-n-test.true i.0 p.puts, omega arith)

@@ -1,10 +1,8 @@
-use Prim.Native.Nat.{◌-◌}
-use lib.ListN.{length}
-use Rattle.lines.proofs.PuttingLaws.{Fielded}
+use Rattle.std.proofs.Common.{◌≡◌, ◌+◌, ◌*◌, ◌≤◌, ◌++◌, length, take}
+use Rattle.lines.specs.Printed.{spaced}
 use Rattle.lines.proofs.printing.put_fields.Given as goal
 
-abbrev pub invariant-loop-i : goal.invariant-loop-i
-invariant-loop-i l = Fielded l.initial.out l.at l.numbers l.out l.end l.i
-
-abbrev pub decreases-loop-i : goal.decreases-loop-i
-decreases-loop-i l = length l.numbers - l.i
+abbrev pub invariant-loop-n : goal.invariant-loop-n
+invariant-loop-n l =
+    (l.out.items ≡ l.initial.out.items ++ spaced (take l.n-index l.numbers))
+    × (length l.out.items ≤ length l.initial.out.items + 21 * l.n-index)

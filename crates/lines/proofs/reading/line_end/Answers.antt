@@ -1,16 +1,11 @@
--- `line_end`: no line end stands before i.
-use native.Mathlib.Omega.{arith}
-use Rattle.lines.proofs.ReadingLaws.{seeking_none, seeking_more, line_found, line_open}
+-- `line_end`: the place of the first line end is the length of what stands before it.
+use Rattle.std.proofs.Common.{rules, tests, eqb}
+use Rattle.std.proofs.lemmas.Iterator.{YieldsList-from_slice}
+use Rattle.std.proofs.lemmas.Iterator.Search.{position_from_yields_List}
+use Rattle.lines.proofs.StepLaws.{end_placed}
 use Rattle.lines.proofs.reading.line_end.Goals as goal
 
-pub loop-i-init : goal.loop-i-init
-loop-i-init c = seeking_none _
-
-pub returns-then-bytes-i-eq10 : goal.returns-then-bytes-i-eq10
-returns-then-bytes-i-eq10 c = line_found _ _ c.loop-i.invariant c.loop-i-test.true c.if-bytes-i-eq10.true
-
-pub loop-i-preserved : goal.loop-i-preserved
-loop-i-preserved c = seeking_more _ _ c.loop-i.invariant c.loop-i-test.true c.if-bytes-i-eq10.false
-
 pub returns : goal.returns
-returns c = line_open _ _ c.loop-i.invariant (omega arith)
+returns c =
+    let p = position_from_yields_List (λ b. eqb b 10) _ _ c.position.result c.position.ensures.ran (YieldsList-from_slice c.args.bytes.now cc) (λ x b q k. search (rules, tests)) in
+    end_placed c.args.bytes.now _ _ p c.unwrap_or.ensures

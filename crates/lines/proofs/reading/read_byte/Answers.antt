@@ -2,21 +2,17 @@
 use Rattle.lines.proofs.ReadingLaws.{lost_stays}
 use Rattle.lines.proofs.reading.read_byte.Goals as goal
 
-pub returns-then-byte-eq32 : goal.returns-then-byte-eq32
-returns-then-byte-eq32 c =
-    rw (c.in-Digits.is, c.if-byte-eq32.true) c.after_number.ensures
-
 pub returns-in-Start : goal.returns-in-Start
-returns-in-Start c = rw c.in-Start.is c.after_start.ensures
+returns-in-Start c = rw c.in-Start.is (c.after_start.ensures _)
 
 pub returns-in-Letter : goal.returns-in-Letter
-returns-in-Letter c = rw c.in-Letter.is c.after_letter.ensures
+returns-in-Letter c = rw c.in-Letter.is (c.after_letter.ensures _)
 
 pub returns-in-Space : goal.returns-in-Space
-returns-in-Space c = rw c.in-Space.is c.after_space.ensures
+returns-in-Space c = rw c.in-Space.is (c.after_space.ensures _)
 
 pub returns-else-byte-eq32 : goal.returns-else-byte-eq32
-returns-else-byte-eq32 c = rw c.in-Digits.is c.after_digit.ensures
+returns-else-byte-eq32 c = rw c.in-Digits.is (c.after_digit.ensures _)
 
 pub returns-in-Lost : goal.returns-in-Lost
 returns-in-Lost c = rw c.in-Lost.is (lost_stays _ _)

@@ -5,70 +5,54 @@ use mathlib.Core.Bool.{Bool, true, false, cond}
 use mathlib.Core.List.{List, [], ◌∷◌, ◌++◌, map, append_assoc, append-nil}
 use native.Mathlib.Omega.{arith}
 use native.Mathlib.Numerals.{add-one}
-use lib.Dec.{eqb, ltb}
-use borrow.Author.Tests.{eq-eqb, ne_eqb, ltb-true}
+use lib.Dec.{ltb}
+use borrow.Author.Tests.{ne_eqb, ltb-true}
 use borrow.Rule.Slice.PartMut.{post_of, put_mid, same_len_mid}
-use lib.ListN.{length, get_or, take, drop, set, length-append, length-set, length-take, length-drop, drop_of_length-le}
-use lib.Seq.{drop-cons, take-suc-set, get_or-take, length-take-le, take_at, drop_at, take-add}
+use lib.ListN.{length, get_or, take, drop, set, length-append, length-set, length-drop, drop_of_length-le}
+use lib.Seq.{drop-cons, take-suc-set, length-take-le, take_at, drop_at, take-add}
+use Rattle.std.specs.Prelude.{sum}
+use Rattle.std.specs.List.{fold}
 use Rattle.measures.specs.Lists.{every, keep}
 use Rattle.measures.specs.Ranges.{most_energy}
 use Rattle.measures.specs.Sharing.{total, parts, sharing, Is}
 use Rattle.measures.proofs.ListLaws.{cond-true, cond-false, and_left, and_right, and_true, both_ways}
-use Rattle.measures.proofs.SharingLaws.{total-drop, total_end, parts-length, parts-sum, is_shared}
+use Rattle.measures.proofs.SharingLaws.{parts-length, parts-sum, is_shared}
 use Rattle.matching.specs.Orders.{Order, quantities}
 use Rattle.matching.specs.Memory.{order_at}
 use Rattle.matching.specs.Clearing.{Fill, filled, fills_of}
+use Rattle.matching.specs.declared.orders.Direction.{Direction}
+use Rattle.matching.specs.declared.orders.Direction.TheVariants.{Sell, Buy}
+use Rattle.matching.specs.declared.fills.Which.{Which}
+use Rattle.matching.specs.declared.fills.Which.TheVariants.{Better, Margin}
 use Rattle.matching.specs.Inner.Places.{orders_at, chosen, picked, open_at, Picked, AtMargin, Stand, fills_at, Filling}
 use Rattle.matching.proofs.Laws.Laying.LayingLaws.{map_join, length_mapped}
 use Rattle.matching.proofs.Laws.Lists.RemainLaws.{every_append}
 
--- a price against the margin, by cases
-module _ (which margin : ℕ) (o : Order) where
-  pub chosen_at : which ≡ 2 → eqb o.price margin ≡ chosen which margin o
-  unfolding chosen
-  chosen_at e = simp (eq-eqb which 2 e)
-
-  pub chosen-dearer : (which ≡ 2 → ⊥) → which ≡ 1 → ltb margin o.price ≡ chosen which margin o
-  unfolding chosen
-  chosen-dearer n e = simp (ne_eqb which 2 n, eq-eqb which 1 e)
-
-  pub chosen-cheaper : (which ≡ 2 → ⊥) → (which ≡ 1 → ⊥) → ltb o.price margin ≡ chosen which margin o
-  unfolding chosen
-  chosen-cheaper n e = simp (ne_eqb which 2 n, ne_eqb which 1 e)
-
 -- picking: those picked, and those still to be picked
-pub record Picking (m : List ℕ) (which margin : ℕ) (ps : List ℕ) (c : ℕ) (to₀ am₀ : List ℕ) (first : ℕ) (to am : List ℕ) (r i : ℕ) : Type 0 where
-  pub at : i ≤ c
+pub record Picking (m : List ℕ) (which : Which) (margin : ℕ) (ps : List ℕ) (to₀ am₀ : List ℕ) (first : ℕ) (to am : List ℕ) (r i : ℕ) : Type 0 where
   pub long_to : length to ≡ length to₀
   pub long_am : length am ≡ length am₀
-  pub room : r + length (picked m which margin (drop i (take c ps))) ≡ first + length (picked m which margin (take c ps))
-  pub places : take r to ++ picked m which margin (drop i (take c ps)) ≡ take first to₀ ++ picked m which margin (take c ps)
-  pub amounts : take r am ++ open_at m (picked m which margin (drop i (take c ps))) ≡ take first am₀ ++ open_at m (picked m which margin (take c ps))
+  pub room : r + length (picked m which margin (drop i ps)) ≡ first + length (picked m which margin ps)
+  pub places : take r to ++ picked m which margin (drop i ps) ≡ take first to₀ ++ picked m which margin ps
+  pub amounts : take r am ++ open_at m (picked m which margin (drop i ps)) ≡ take first am₀ ++ open_at m (picked m which margin ps)
 
-pub picking_start : (m : List ℕ) (which margin : ℕ) (ps : List ℕ) (c : ℕ) (to am : List ℕ) (first : ℕ)
-    → Picking m which margin ps c to am first to am first 0
-picking_start m which margin ps c to am first = record { at = omega arith; long_to = refl; long_am = refl; room = refl; places = refl; amounts = refl }
-
-module _ (m : List ℕ) (which margin : ℕ) (ps : List ℕ) (c : ℕ) (to₀ am₀ : List ℕ) (first : ℕ) (to am : List ℕ) (r i : ℕ)
-    (lp : c ≤ length ps) (h : i < c) (o : Order) (eo : o ≡ order_at m (get_or ps i 0)) (g : Picking m which margin ps c to₀ am₀ first to am r i) where
+module _ (m : List ℕ) (which : Which) (margin : ℕ) (ps : List ℕ) (to₀ am₀ : List ℕ) (first : ℕ) (to am : List ℕ) (r i : ℕ)
+    (h : i < length ps) (o : Order) (eo : o ≡ order_at m (get_or ps i 0)) (g : Picking m which margin ps to₀ am₀ first to am r i) where
   abbrev later : List ℕ
-  later = picked m which margin (drop (i + 1) (take c ps))
+  later = picked m which margin (drop (i + 1) ps)
 
-  next : picked m which margin (drop i (take c ps)) ≡ cond (chosen which margin o) (get_or ps i 0 ∷ later) later
+  next : picked m which margin (drop i ps) ≡ cond (chosen which margin o) (get_or ps i 0 ∷ later) later
   unfolding picked
   next =
       rw (add-one i)
-      (ap (keep (λ p. chosen which margin (order_at m p))) (drop-cons (take c ps) i 0 (simp length-take (omega arith)))
-      ∙ ap (λ (p : ℕ). cond (chosen which margin (order_at m p)) (p ∷ keep (λ q. chosen which margin (order_at m q)) (drop (suc i) (take c ps)))
-      (keep (λ q. chosen which margin (order_at m q)) (drop (suc i) (take c ps)))) (get_or-take c ps i 0 h)
-      ∙ ap (λ (x : Order). cond (chosen which margin x) (get_or ps i 0 ∷ keep (λ q. chosen which margin (order_at m q)) (drop (suc i) (take c ps)))
-      (keep (λ q. chosen which margin (order_at m q)) (drop (suc i) (take c ps)))) (sym eo))
+      (ap (keep (λ p. chosen which margin (order_at m p))) (drop-cons ps i 0 h)
+      ∙ ap (λ (x : Order). cond (chosen which margin x) (get_or ps i 0 ∷ keep (λ q. chosen which margin (order_at m q)) (drop (suc i) ps))
+      (keep (λ q. chosen which margin (order_at m q)) (drop (suc i) ps))) (sym eo))
 
-  pub picking_skip : chosen which margin o ≡ false → Picking m which margin ps c to₀ am₀ first to am r (i + 1)
+  pub picking_skip : chosen which margin o ≡ false → Picking m which margin ps to₀ am₀ first to am r (i + 1)
   picking_skip e =
-      let n : picked m which margin (drop i (take c ps)) ≡ later = next ∙ cond-false _ _ _ e refl in
+      let n : picked m which margin (drop i ps) ≡ later = next ∙ cond-false _ _ _ e refl in
       record {
-        at = omega arith;
         long_to = g.long_to;
         long_am = g.long_am;
         room = rw n at g.room;
@@ -77,22 +61,21 @@ module _ (m : List ℕ) (which margin : ℕ) (ps : List ℕ) (c : ℕ) (to₀ am
       }
 
   module _ (e : chosen which margin o ≡ true) where
-    taken : picked m which margin (drop i (take c ps)) ≡ get_or ps i 0 ∷ later
+    taken : picked m which margin (drop i ps) ≡ get_or ps i 0 ∷ later
     taken = next ∙ cond-true _ _ _ e refl
 
-    pub picking_room : r < first + length (picked m which margin (take c ps))
+    pub picking_room : r < first + length (picked m which margin ps)
     picking_room = let s = ap length taken in let t = g.room in omega arith
 
     pub picking_put : (p q : ℕ) → p ≡ get_or ps i 0 → q ≡ o.quantity → r < length to → r < length am
-        → Picking m which margin ps c to₀ am₀ first (set to r p) (set am r q) (r + 1) (i + 1)
+        → Picking m which margin ps to₀ am₀ first (set to r p) (set am r q) (r + 1) (i + 1)
     picking_put p q ep eq lt la =
         let s = ap length taken in
         let t = g.room in
-        let x : p ∷ later ≡ picked m which margin (drop i (take c ps)) = ap (λ (y : ℕ). y ∷ later) ep ∙ sym taken in
-        let y : q ∷ open_at m later ≡ open_at m (picked m which margin (drop i (take c ps))) =
+        let x : p ∷ later ≡ picked m which margin (drop i ps) = ap (λ (y : ℕ). y ∷ later) ep ∙ sym taken in
+        let y : q ∷ open_at m later ≡ open_at m (picked m which margin (drop i ps)) =
         ap (λ (z : ℕ). z ∷ open_at m later) (eq ∙ ap (λ (z : Order). z.quantity) eo) ∙ ap (open_at m) (sym taken) in
         record {
-          at = omega arith;
           long_to = length-set to r p ∙ g.long_to;
           long_am = length-set am r q ∙ g.long_am;
           room = omega arith;
@@ -101,31 +84,26 @@ module _ (m : List ℕ) (which margin : ℕ) (ps : List ℕ) (c : ℕ) (to₀ am
               ∙ g.amounts);
         }
 
-pub picking_end : (m : List ℕ) (which margin : ℕ) (ps : List ℕ) (c : ℕ) (to₀ am₀ : List ℕ) (first : ℕ) (to am : List ℕ) (r i : ℕ) → c ≤ i
-    → Picking m which margin ps c to₀ am₀ first to am r i
-    → Picked m (picked m which margin (take c ps)) to₀ am₀ first r to am
+pub picking_end : (m : List ℕ) (which : Which) (margin : ℕ) (ps : List ℕ) (to₀ am₀ : List ℕ) (first : ℕ) (to am : List ℕ) (r i : ℕ) → length ps ≤ i
+    → Picking m which margin ps to₀ am₀ first to am r i
+    → Picked m (picked m which margin ps) to₀ am₀ first r to am
 unfolding picked
-picking_end m which margin ps c to₀ am₀ first to am r i h g =
-    let d : drop i (take c ps) ≡ [] = drop_of_length-le (take c ps) {i = i} (simp length-take (omega arith)) in
-    let room : r + 0 ≡ first + length (picked m which margin (take c ps)) = rw d at g.room in
+picking_end m which margin ps to₀ am₀ first to am r i h g =
+    let d : drop i ps ≡ [] = drop_of_length-le ps {i = i} h in
+    let room : r + 0 ≡ first + length (picked m which margin ps) = rw d at g.room in
     record {
       count = omega arith;
       places = sym (append-nil (take r to)) ∙ rw d at g.places;
       amounts = sym (append-nil (take r am)) ∙ rw d at g.amounts;
     }
 
--- a running sum
-pub record Adding (xs : List ℕ) (c sum i : ℕ) : Type 0 where
-  pub at : i ≤ c
-  pub left : sum + total (drop i (take c xs)) ≡ total (take c xs)
+-- the library's sum is the total
+fold_total : (a : ℕ) (xs : List ℕ) → fold ◌+◌ a xs ≡ a + total xs
+fold_total a [] = omega arith
+fold_total a (x ∷ xs) = let h = fold_total (a + x) xs in omega arith
 
-pub adding_next : (xs : List ℕ) (c sum i : ℕ) → c ≤ length xs → i < c → Adding xs c sum i → total (drop i (take c xs))
-    ≡ get_or xs i 0 + total (drop (i + 1) (take c xs))
-adding_next xs c sum i l h g = total-drop (take c xs) i (simp length-take (omega arith))
-    ∙ ap (λ (x : ℕ). x + total (drop (i + 1) (take c xs))) (get_or-take c xs i 0 h)
-
-pub adding_end : (xs : List ℕ) (c sum i : ℕ) → c ≤ i → Adding xs c sum i → sum ≡ total (take c xs)
-adding_end xs c sum i h g = let e = total_end (take c xs) i (simp length-take (omega arith)) in let l = g.left in omega arith
+pub sum_total : (xs : List ℕ) → sum xs ≡ total xs
+sum_total xs = let h = fold_total 0 xs in omega arith
 
 -- what is kept is no more, and two tests that exclude each other keep no more together
 module _ {A : Type 0} where
@@ -157,7 +135,7 @@ module _ {A : Type 0} where
       go false h = h
 
 -- the orders picked, and what they have open
-picked_orders : (m : List ℕ) (which margin : ℕ) (ps : List ℕ) → orders_at m (picked m which margin ps) ≡ keep (chosen which margin) (orders_at m ps)
+picked_orders : (m : List ℕ) (which : Which) (margin : ℕ) (ps : List ℕ) → orders_at m (picked m which margin ps) ≡ keep (chosen which margin) (orders_at m ps)
 unfolding picked
 picked_orders m which margin [] = refl
 picked_orders m which margin (p ∷ ps) = go (chosen which margin (order_at m p)) (picked_orders m which margin ps)
@@ -187,17 +165,9 @@ filled_join [] ps (x ∷ xs) ys e = absurd (omega arith)
 filled_join (o ∷ os) ps [] ys e = absurd (omega arith)
 filled_join (o ∷ os) ps (x ∷ xs) ys e = ap (λ (l : List Fill). record { order = o; amount = x } ∷ l) (filled_join os ps xs ys (omega arith))
 
-apart : (d margin : ℕ) (o : Order) → d < 2 → chosen d margin o ≡ true → chosen 2 margin o ≡ false
-unfolding chosen
-apart d margin o h e = go (eqb d 1) refl
-  where
-    go : (b : Bool) → eqb d 1 ≡ b → eqb o.price margin ≡ false
-    go true k =
-        let l : ltb margin o.price ≡ true = simp (ne_eqb d 2 (omega arith), k) at e in
-        ne_eqb o.price margin (omega (arith, ltb-true margin o.price l))
-    go false k =
-        let l : ltb o.price margin ≡ true = simp (ne_eqb d 2 (omega arith), k) at e in
-        ne_eqb o.price margin (omega (arith, ltb-true o.price margin l))
+apart : (d : Direction) (margin : ℕ) (o : Order) → chosen (Better d) margin o ≡ true → chosen Margin margin o ≡ false
+apart Buy margin o e = ne_eqb o.price margin (omega (arith, ltb-true margin o.price e))
+apart Sell margin o e = ne_eqb o.price margin (omega (arith, ltb-true o.price margin e))
 
 mid_of : (l a r : List ℕ) (i e : ℕ) → i ≤ e → i ≤ length l → take e l ≡ a ++ r → length a ≡ i → take (e - i) (drop i l) ≡ r
 mid_of l a r i e h k w ea =
@@ -206,48 +176,47 @@ mid_of l a r i e h k w ea =
     ∙ ap (drop i) (sym (take-add i (e - i) l) ∙ ap (λ (x : ℕ). take x l) j ∙ w) ∙ drop_at a r i ea
 
 -- one side's fills
-module _ (m ps : List ℕ) (n c d margin v : ℕ) (s : Stand m ps n c (orders_at m (take c ps))) (hd : d < 2)
-    (a : AtMargin v (keep (chosen d margin) (orders_at m (take c ps))) (keep (chosen 2 margin) (orders_at m (take c ps)))) where
+module _ (m ps : List ℕ) (n : ℕ) (d : Direction) (margin v : ℕ) (s : Stand m ps n (orders_at m ps))
+    (a : AtMargin v (keep (chosen (Better d) margin) (orders_at m ps)) (keep (chosen Margin margin) (orders_at m ps))) where
   abbrev K : List ℕ
-  K = picked m d margin (take c ps)
+  K = picked m (Better d) margin ps
 
   abbrev M : List ℕ
-  M = picked m 2 margin (take c ps)
+  M = picked m Margin margin ps
 
-  both_within : length K + length M ≤ c
+  both_within : length K + length M ≤ length ps
   unfolding picked
   both_within =
-      let k = keep_apart (λ p. chosen d margin (order_at m p)) (λ p. chosen 2 margin (order_at m p)) (take c ps) (λ p e. apart d margin (order_at m p) hd e) in
-      let l = length-take c ps in
+      let k = keep_apart (λ p. chosen (Better d) margin (order_at m p)) (λ p. chosen Margin margin (order_at m p)) ps (λ p e. apart d margin (order_at m p) e) in
       omega arith
 
   pub both_few : length K + length M ≤ n
   both_few = let f = s.few in omega (arith, both_within)
 
-  better_is : total (open_at m K) ≡ quantities (keep (chosen d margin) (orders_at m (take c ps)))
-  better_is = open_total m K ∙ ap quantities (picked_orders m d margin (take c ps))
+  better_is : total (open_at m K) ≡ quantities (keep (chosen (Better d) margin) (orders_at m ps))
+  better_is = open_total m K ∙ ap quantities (picked_orders m (Better d) margin ps)
 
-  margin_is : total (open_at m M) ≡ quantities (keep (chosen 2 margin) (orders_at m (take c ps)))
-  margin_is = open_total m M ∙ ap quantities (picked_orders m 2 margin (take c ps))
+  margin_is : total (open_at m M) ≡ quantities (keep (chosen Margin margin) (orders_at m ps))
+  margin_is = open_total m M ∙ ap quantities (picked_orders m Margin margin ps)
 
   below : every (λ p. ltb p n) (K ++ M) ≡ true
   unfolding picked
   below =
-      every_append (λ p. ltb p n) K M (keep-every (λ p. ltb p n) (λ p. chosen d margin (order_at m p)) (take c ps) s.below)
-      (keep-every (λ p. ltb p n) (λ p. chosen 2 margin (order_at m p)) (take c ps) s.below)
+      every_append (λ p. ltb p n) K M (keep-every (λ p. ltb p n) (λ p. chosen (Better d) margin (order_at m p)) ps s.below)
+      (keep-every (λ p. ltb p n) (λ p. chosen Margin margin (order_at m p)) ps s.below)
 
   module _ (to am to₁ am₁ : List ℕ) (better : ℕ) (p : Picked m K to am 0 better to₁ am₁) where
     better_count : better ≡ length K
     better_count = let e = p.count in omega arith
 
-    pub better_sum : total (take better am₁) ≡ quantities (keep (chosen d margin) (orders_at m (take c ps)))
+    pub better_sum : total (take better am₁) ≡ quantities (keep (chosen (Better d) margin) (orders_at m ps))
     better_sum = ap total p.amounts ∙ better_is
 
     module _ (op₀ to₂ op : List ℕ) (all : ℕ) (q : Picked m M to₁ op₀ better all to₂ op) where
       pub all-count : all ≡ better + length M
       all-count = q.count
 
-      all_within : all ≤ c
+      all_within : all ≤ length ps
       all_within = omega (arith, both_within, better_count, all-count)
 
       pub all_few : all ≤ n
@@ -273,7 +242,7 @@ module _ (m ps : List ℕ) (n c d margin v : ℕ) (s : Stand m ps n c (orders_at
         D = v - total (take better am₁)
 
         B : ℕ
-        B = quantities (keep (chosen d margin) (orders_at m (take c ps)))
+        B = quantities (keep (chosen (Better d) margin) (orders_at m ps))
 
         least : 0 < D
         least = let o = a.over in omega (arith, better_sum)
@@ -309,28 +278,32 @@ module _ (m ps : List ℕ) (n c d margin v : ℕ) (s : Stand m ps n c (orders_at
             ∙ take_at (take better am₁ ++ ys) (post_of better (all - better) am₁) all l
             ∙ ap₂ (λ (f g : List ℕ). f ++ g) p.amounts shares
 
-        filling : Filling to₂ (put_mid better (all - better) am₁ ys) n all
+        lt : length (take all to₂) ≡ all
+        lt = length-take-le all to₂ (omega (arith, room_to, all_few))
+
+        filling : Filling (take all to₂) (take all (put_mid better (all - better) am₁ ys)) n
         filling =
             let t : total (open_at m K ++ parts D R) ≡ v = total_join (open_at m K) (parts D R)
             ∙ (let o = a.over in omega (arith, better_sum, better_is, parts-sum D R (omega (arith, least, most)))) in
             record {
-              few = all_few;
-              places = room_to;
-              amounts = rw (same_len_mid better (all - better) am₁ ys (ly ∙ sym l_p)) room_am;
+              few = omega (arith, lt, all_few);
+              along = ap length whole_am ∙ length-append (open_at m K) (parts D R)
+                  ∙ omega (arith, lt, l_k, l_r, all-count, better_count, parts-length D R);
               below = rw whole_to below;
               small = rw (whole_am, t) (let o = a.within in let k = a.small in omega arith);
             }
 
-        fills_are : fills_at m to₂ (put_mid better (all - better) am₁ ys) all
-            ≡ fills_of v (keep (chosen d margin) (orders_at m (take c ps))) (keep (chosen 2 margin) (orders_at m (take c ps)))
+        fills_are : fills_at m (take all to₂) (take all (put_mid better (all - better) am₁ ys))
+            ≡ fills_of v (keep (chosen (Better d) margin) (orders_at m ps)) (keep (chosen Margin margin) (orders_at m ps))
         unfolding fills_at fills_of
         fills_are =
-            let e_d : D ≡ v - quantities (keep (chosen d margin) (orders_at m (take c ps))) = ap (λ (y : ℕ). v - y) better_sum in
+            let e_d : D ≡ v - quantities (keep (chosen (Better d) margin) (orders_at m ps)) = ap (λ (y : ℕ). v - y) better_sum in
             rw (whole_to, whole_am, map_join (order_at m) K M)
             (filled_join (orders_at m K) (orders_at m M) (open_at m K) (parts D R) (length_mapped (order_at m) K ∙ sym l_k)
-            ∙ rw (open_orders_lem m K, open_orders_lem m M, picked_orders m d margin (take c ps), picked_orders m 2 margin (take c ps), e_d) refl)
+            ∙ rw (open_orders_lem m K, open_orders_lem m M, picked_orders m (Better d) margin ps, picked_orders m Margin margin ps, e_d) refl)
 
-        pub side-filled : (all ≤ c) × Filling to₂ (put_mid better (all - better) am₁ ys) n all
-            × (fills_at m to₂ (put_mid better (all - better) am₁ ys) all
-            ≡ fills_of v (keep (chosen d margin) (orders_at m (take c ps))) (keep (chosen 2 margin) (orders_at m (take c ps))))
-        side-filled = (all_within, filling, fills_are)
+        pub side-filled : (all ≤ length ps) × (all ≤ length to₂) × (all ≤ length (put_mid better (all - better) am₁ ys)) × Filling (take all to₂) (take all (put_mid better (all - better) am₁ ys)) n
+            × (fills_at m (take all to₂) (take all (put_mid better (all - better) am₁ ys))
+            ≡ fills_of v (keep (chosen (Better d) margin) (orders_at m ps)) (keep (chosen Margin margin) (orders_at m ps)))
+        side-filled =
+            (all_within, omega (arith, all_few, room_to), omega (arith, all_few, room_am, same_len_mid better (all - better) am₁ ys (ly ∙ sym l_p)), filling, fills_are)

@@ -8,8 +8,7 @@ use native.Mathlib.Nat.{not-suc-le-zero}
 use native.Mathlib.Decide.{dec_le}
 use lib.Dec.{eqb, leb}
 use borrow.Author.Tests.{eq-eqb, eqb-true, eqb-false, le-leb, lt-leb}
-use lib.ListN.{length, get_or, take, length-take, get_or-eq_default}
-use lib.Seq.{get_or-take}
+use lib.ListN.{length, get_or, take}
 use Rattle.measures.specs.Lists.{Each, keep}
 use Rattle.measures.specs.Ranges.{most_energy, most_number}
 use Rattle.measures.proofs.ListLaws.{both_ways}
@@ -20,62 +19,34 @@ use Rattle.matching.specs.Inner.Places.{orders_at, ahead_on, belongs, Stand, Sid
 use Rattle.matching.proofs.Laws.Orders.LaidLaws.{laid-quantities}
 use Rattle.matching.proofs.Laws.Orders.AheadLaws.{Strict, Ordered, Falling, Rising, bids_fall, asks_rise}
 use Rattle.matching.proofs.Laws.Clearing.VolumeLaws.{keep_some, keep_none}
-use Rattle.matching.proofs.Laws.Clearing.WalkLaws.{
-  price_at,
-  quantity_at,
-  Walking,
-  walking_start,
-  walking_takes,
-  walking_next_bid,
-  walking_next_ask,
-  walking_bids_end,
-  walking_asks_end,
-  walking_apart,
-}
+use Rattle.matching.proofs.Laws.Clearing.WalkLaws.{price_at, quantity_at, Walking, walking_takes, walking_next_bid, walking_next_ask, walking_bids_end, walking_asks_end, walking_apart}
 use Rattle.matching.proofs.Laws.Laying.LayingLaws.{length_mapped}
 
 -- places of laid orders are places
-pub stand_here : (m ps : List ℕ) (n c : ℕ) (l : List Order) → Stand m ps n c l → Stand m ps n c (orders_at m (take c ps))
-stand_here m ps n c l s = record { few = s.few; room = s.room; below = s.below; orders = refl }
+pub stand_here : (m ps : List ℕ) (n : ℕ) (l : List Order) → Stand m ps n l → Stand m ps n (orders_at m ps)
+stand_here m ps n l s = record { few = s.few; below = s.below; orders = refl }
 
-mapped_at : (m ps : List ℕ) (i : ℕ) → i < length ps → get_or (orders_at m ps) i no_order ≡ order_at m (get_or ps i 0)
+pub mapped_at : (m ps : List ℕ) (i : ℕ) → i < length ps → get_or (orders_at m ps) i no_order ≡ order_at m (get_or ps i 0)
 mapped_at m [] i h = absurd (not-suc-le-zero h)
 mapped_at m (p ∷ ps) zero h = refl
 mapped_at m (p ∷ ps) (suc i) h = mapped_at m ps i (omega arith)
 
-module _ (m ps : List ℕ) (n c : ℕ) (l : List Order) (s : Stand m ps n c l) where
-  lc : length (take c ps) ≡ c
-  lc = let f = s.few in let r = s.room in simp length-take (omega arith)
-
-  pub here-length : length (orders_at m (take c ps)) ≡ c
-  here-length = length_mapped (order_at m) (take c ps) ∙ lc
-
-  pub here_at : (i : ℕ) → i < c → get_or (orders_at m (take c ps)) i no_order ≡ order_at m (get_or ps i 0)
-  here_at i h = mapped_at m (take c ps) i (omega (arith, lc)) ∙ ap (order_at m) (get_or-take c ps i 0 h)
-
-  pub here_past : (i : ℕ) → c ≤ i → 0 ≡ (get_or (orders_at m (take c ps)) i no_order).quantity
-  here_past i h = sym (ap (λ (o : Order). o.quantity) (get_or-eq_default (orders_at m (take c ps)) no_order {n = i} (omega (arith, here-length))))
-
 -- what the walk needs of the two sides
-pub record Sorted (bl al : List Order) (nb na : ℕ) : Type 0 where
+pub record Sorted (bl al : List Order) : Type 0 where
   pub falls : Falling bl
   pub rises : Rising al
-  pub many_bids : length bl ≡ nb
-  pub many_asks : length al ≡ na
   pub small : quantities bl ≤ most_energy
 
-pub sorted : (m bs ks : List ℕ) (n nb na : ℕ) → Sides m bs ks n nb na → Sorted (orders_at m (take nb bs)) (orders_at m (take na ks)) nb na
+pub sorted : (m bs ks : List ℕ) (n : ℕ) → Sides m bs ks n → Sorted (orders_at m bs) (orders_at m ks)
 unfolding ahead_on
-sorted m bs ks n nb na s =
+sorted m bs ks n s =
     let kept = keep (belongs 1 s.period) (orders_in m n) in
-    let q : quantities (orders_at m (take nb bs)) ≡ quantities kept = ap quantities s.bids_stand.orders ∙ laid-quantities (ahead_on 1) kept in
+    let q : quantities (orders_at m bs) ≡ quantities kept = ap quantities s.bids_stand.orders ∙ laid-quantities (ahead_on 1) kept in
     let k = keep_some (belongs 1 s.period) (orders_in m n) in
     let l = s.small in
     record {
       falls = rw s.bids_stand.orders (bids_fall s.period (orders_in m n));
       rises = rw s.asks_stand.orders (asks_rise s.period (orders_in m n));
-      many_bids = here-length m bs n nb _ s.bids_stand;
-      many_asks = here-length m ks n na _ s.asks_stand;
       small = omega arith;
     }
 
@@ -98,62 +69,63 @@ pub margins_found : (bl al : List Order) (i j rb ra v b s : ℕ) → Walking bl 
 margins_found bl al i j rb ra v b s w e = record { cleared = sym e; of_bids = λ h. sym (w.walk.margin_bid h); of_asks = λ h. sym (w.walk.margin_ask h) }
 
 -- the walk by places
-pub record WalkAt (m bs ks : List ℕ) (nb na i j rb ra v b s : ℕ) : Type 0 where
-  pub bids_in : i ≤ nb
-  pub asks_in : j ≤ na
-  pub walking : Walking (orders_at m (take nb bs)) (orders_at m (take na ks)) i j rb ra v b s
+pub record WalkAt (m bs ks : List ℕ) (i j rb ra v b s : ℕ) : Type 0 where
+  pub bids_in : i ≤ length bs
+  pub asks_in : j ≤ length ks
+  pub walking : Walking (orders_at m bs) (orders_at m ks) i j rb ra v b s
 
-pub walk_at_start : (m bs ks : List ℕ) (nb na rb ra : ℕ) → rb ≡ (get_or (orders_at m (take nb bs)) 0 no_order).quantity → ra
-    ≡ (get_or (orders_at m (take na ks)) 0 no_order).quantity → WalkAt m bs ks nb na 0 0 rb ra 0 0 0
-walk_at_start m bs ks nb na rb ra eb ea =
-    record { bids_in = omega arith; asks_in = omega arith; walking = rw (eb, ea) (walking_start (orders_at m (take nb bs)) (orders_at m (take na ks))) }
-
-module _ (m bs ks : List ℕ) (n nb na i j rb ra v b s : ℕ) (sd : Sides m bs ks n nb na) (g : WalkAt m bs ks nb na i j rb ra v b s) where
+module _ (m bs ks : List ℕ) (n i j rb ra v b s : ℕ) (sd : Sides m bs ks n) (g : WalkAt m bs ks i j rb ra v b s) where
   abbrev bl : List Order
-  bl = orders_at m (take nb bs)
+  bl = orders_at m bs
 
   abbrev al : List Order
-  al = orders_at m (take na ks)
+  al = orders_at m ks
 
-  so : Sorted bl al nb na
-  so = sorted m bs ks n nb na sd
+  so : Sorted bl al
+  so = sorted m bs ks n sd
 
-  pub walk_at_bid : (q : ℕ) → i < nb → rb ≡ 0 → q ≡ (get_or bl (i + 1) no_order).quantity → WalkAt m bs ks nb na (i + 1) j q ra v b s
+  many_bids : length bl ≡ length bs
+  many_bids = length_mapped (order_at m) bs
+
+  many_asks : length al ≡ length ks
+  many_asks = length_mapped (order_at m) ks
+
+  pub walk_at_bid : (q : ℕ) → i < length bs → rb ≡ 0 → q ≡ (get_or bl (i + 1) no_order).quantity → WalkAt m bs ks (i + 1) j q ra v b s
   walk_at_bid q h e eq =
       record {
         bids_in = omega arith;
         asks_in = g.asks_in;
         walking = rw eq
-            (walking_next_bid bl al i j rb ra v b s g.walking (omega (arith, so.many_bids)) e);
+            (walking_next_bid bl al i j rb ra v b s g.walking (omega (arith, many_bids)) e);
       }
 
-  pub walk_at_ask : (q : ℕ) → j < na → ra ≡ 0 → q ≡ (get_or al (j + 1) no_order).quantity → WalkAt m bs ks nb na i (j + 1) rb q v b s
+  pub walk_at_ask : (q : ℕ) → j < length ks → ra ≡ 0 → q ≡ (get_or al (j + 1) no_order).quantity → WalkAt m bs ks i (j + 1) rb q v b s
   walk_at_ask q h e eq =
       record {
         bids_in = g.bids_in;
         asks_in = omega arith;
         walking = rw eq
-            (walking_next_ask bl al i j rb ra v b s g.walking (omega (arith, so.many_asks)) e);
+            (walking_next_ask bl al i j rb ra v b s g.walking (omega (arith, many_asks)) e);
       }
 
   pub walk_at_small : v + rb ≤ most_energy
   walk_at_small = let w = walking_small bl al i j rb ra v b s g.walking in omega (arith, so.small)
 
-  pub walk_at_bids_end : nb ≤ i → AreMargins bl al v b s
-  walk_at_bids_end h = margins_found bl al i j rb ra v b s g.walking (walking_bids_end bl al i j rb ra v b s g.walking (omega (arith, so.many_bids)))
+  pub walk_at_bids_end : length bs ≤ i → AreMargins bl al v b s
+  walk_at_bids_end h = margins_found bl al i j rb ra v b s g.walking (walking_bids_end bl al i j rb ra v b s g.walking (omega (arith, many_bids)))
 
-  pub walk_at_asks_end : na ≤ j → AreMargins bl al v b s
-  walk_at_asks_end h = margins_found bl al i j rb ra v b s g.walking (walking_asks_end bl al i j rb ra v b s g.walking (omega (arith, so.many_asks)))
+  pub walk_at_asks_end : length ks ≤ j → AreMargins bl al v b s
+  walk_at_asks_end h = margins_found bl al i j rb ra v b s g.walking (walking_asks_end bl al i j rb ra v b s g.walking (omega (arith, many_asks)))
 
-  module _ (x y : Order) (hi : i < nb) (hj : j < na) (ex : x ≡ order_at m (get_or bs i 0)) (ey : y ≡ order_at m (get_or ks j 0)) where
+  module _ (x y : Order) (hi : i < length bs) (hj : j < length ks) (ex : x ≡ order_at m (get_or bs i 0)) (ey : y ≡ order_at m (get_or ks j 0)) where
     bid_is : price_at bl i ≡ x.price
-    bid_is = ap (λ (o : Order). o.price) (here_at m bs n nb _ sd.bids_stand i hi ∙ sym ex)
+    bid_is = ap (λ (o : Order). o.price) (mapped_at m bs i hi ∙ sym ex)
 
     ask_is : price_at al j ≡ y.price
-    ask_is = ap (λ (o : Order). o.price) (here_at m ks n na _ sd.asks_stand j hj ∙ sym ey)
+    ask_is = ap (λ (o : Order). o.price) (mapped_at m ks j hj ∙ sym ey)
 
     pub walk_at_takes : (t d u w : ℕ) → y.price ≤ x.price → (rb ≡ 0 → ⊥) → (ra ≡ 0 → ⊥) → t ≡ min rb ra → d ≡ rb - t → u ≡ ra - t
-        → w ≡ min (v + t) most_number → WalkAt m bs ks nb na i j d u w x.price y.price
+        → w ≡ min (v + t) most_number → WalkAt m bs ks i j d u w x.price y.price
     walk_at_takes t d u w le nb0 na0 et ed eu ew =
         let ev : w ≡ v + t = omega (arith, walk_at_small) in
         record {
@@ -161,35 +133,19 @@ module _ (m bs ks : List ℕ) (n nb na i j rb ra v b s : ℕ) (sd : Sides m bs k
           asks_in = g.asks_in;
           walking =
               rw (ed, eu, ev, ← bid_is, ← ask_is)
-              (walking_takes bl al i j rb ra v b s g.walking so.falls so.rises (omega (arith, so.many_bids)) (omega (arith, so.many_asks))
+              (walking_takes bl al i j rb ra v b s g.walking so.falls so.rises (omega (arith, many_bids)) (omega (arith, many_asks))
               (omega (arith, bid_is, ask_is)) t et (omega arith));
         }
 
     pub walk_at_apart : x.price < y.price → AreMargins bl al v b s
     walk_at_apart lt =
         margins_found bl al i j rb ra v b s g.walking
-        (walking_apart bl al i j rb ra v b s g.walking so.falls so.rises (omega (arith, so.many_bids)) (omega (arith, so.many_asks))
+        (walking_apart bl al i j rb ra v b s g.walking so.falls so.rises (omega (arith, many_bids)) (omega (arith, many_asks))
         (omega (arith, bid_is, ask_is)))
 
 -- turns to come, at most
 abbrev pub turns : ℕ → ℕ → ℕ → ℕ → ℕ → ℕ → ℕ
 turns nb na i j rb ra = 2 * (nb - i + (na - j)) + min 1 (min rb ra)
-
-fewer : (a b x y : ℕ) → a < b → 2 * a + min 1 x < 2 * b + min 1 y
-fewer a b x y h = omega arith
-
-last_one : (a x y : ℕ) → x ≡ 0 → 0 < y → a + min 1 x < a + min 1 y
-last_one a x y h k = omega arith
-
-pub turns_bid : (nb na i j rb ra q : ℕ) → i < nb → turns nb na (i + 1) j q ra < turns nb na i j rb ra
-turns_bid nb na i j rb ra q h = fewer (nb - (i + 1) + (na - j)) (nb - i + (na - j)) (min q ra) (min rb ra) (omega arith)
-
-pub turns_ask : (nb na i j rb ra q : ℕ) → j < na → turns nb na i (j + 1) rb q < turns nb na i j rb ra
-turns_ask nb na i j rb ra q h = fewer (nb - i + (na - (j + 1))) (nb - i + (na - j)) (min rb q) (min rb ra) (omega arith)
-
-pub turns-take : (nb na i j rb ra t d u : ℕ) → (rb ≡ 0 → ⊥) → (ra ≡ 0 → ⊥) → t ≡ min rb ra → d ≡ rb - t → u ≡ ra - t
-    → turns nb na i j d u < turns nb na i j rb ra
-turns-take nb na i j rb ra t d u hb ha e ed eu = last_one (2 * (nb - i + (na - j))) (min d u) (min rb ra) (omega arith) (omega arith)
 
 -- the margin's price is one of the prices
 priced : (P : ℕ → Type 0) (v : ℕ) (os : List Order) → Each (λ o. P o.price) os → 0 < v → v ≤ quantities os → P (marginal v os)

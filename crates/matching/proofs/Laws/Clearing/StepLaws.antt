@@ -6,12 +6,12 @@ use mathlib.Core.List.{List, []}
 use native.Mathlib.Omega.{arith}
 use lib.Dec.{eqb}
 use borrow.Author.Tests.{eq-eqb, ne_eqb, eqb-true}
-use lib.ListN.{length, take, drop}
+use lib.ListN.{length, drop}
 use Rattle.measures.specs.Lists.{keep}
 use Rattle.measures.specs.Ranges.{most_energy}
-use Rattle.measures.specs.declared.Energy.{Energy}
 use Rattle.measures.proofs.ListLaws.{cond-true, cond-false, both_ways, and_left}
-use Rattle.matching.specs.declared.orders.Matched.TheVariants.{Unfit, Done}
+use Rattle.std.specs.Prelude.{Some}
+use Rattle.matching.specs.declared.orders.Matched.{Matched}
 use Rattle.matching.specs.Orders.{Order, quantities, bid_ahead, ask_ahead, laid, bids, asks}
 use Rattle.matching.specs.Memory.{orders_in, written}
 use Rattle.matching.specs.Clearing.{
@@ -29,6 +29,8 @@ use Rattle.matching.specs.Clearing.{
   clear_period,
 }
 use Rattle.matching.specs.Answers.{fit, Clears}
+use Rattle.matching.specs.declared.orders.Direction.TheVariants.{Sell, Buy}
+use Rattle.matching.specs.declared.fills.Which.TheVariants.{Better, Margin}
 use Rattle.matching.specs.Inner.Places.{orders_at, ahead_on, belongs, chosen, Stand, AreMargins, AtMargin}
 use Rattle.matching.proofs.Laws.Orders.OrderLaws.{orders_length}
 use Rattle.matching.proofs.Laws.Orders.RowLaws.{written_none}
@@ -40,19 +42,6 @@ use Rattle.matching.proofs.Laws.Laying.LayingLaws.{stand_length}
 use Rattle.matching.proofs.Laws.Clearing.PickLaws.{keep_apart}
 use Rattle.matching.proofs.Laws.Clearing.PlaceLaws.{at_margin}
 use Rattle.matching.proofs.Laws.Clearing.MarginLaws.{volume-bids, volume-asks}
-
--- orders that do not fit
-pub clears_unfit : (m rows : List ℕ) (n period : ℕ) → fit m n rows ≡ false → Clears m rows n period Unfit m rows
-clears_unfit m rows n period e =
-    record {
-      fits = sym e;
-      stay = λ _. (refl, refl);
-      left = λ t. both_ways (sym t ∙ e);
-      count = λ t. both_ways (sym t ∙ e);
-      orders = λ t. both_ways (sym t ∙ e);
-      handed = λ t. both_ways (sym t ∙ e);
-      past = refl;
-    }
 
 -- the definition, where nothing trades and where something does
 none_trades : (period : ℕ) (os : List Order) → cleared_volume (bids period os) (asks period os) ≡ 0 → clear_period period os
@@ -73,14 +62,14 @@ some_trades period os v b s fb fa ev pos eb es efb efa =
     let n : (cleared_volume (bids period os) (asks period os) ≡ 0 → ⊥) = λ z. (let y : v ≡ 0 = ev ∙ z in omega arith) in
     rw (efb, efa, eb, es, ev) (cond-false _ _ _ (ne_eqb _ 0 n) refl)
 
-pub clears_none : (m rows : List ℕ) (n period v b s : ℕ) (bs ks : List ℕ) (nb na : ℕ) (z : Energy)
-    → fit m n rows ≡ true → z.0 ≡ 0
-    → Stand m bs n nb (laid (ahead_on 1) (keep (belongs 1 period) (orders_in m n)))
-    → Stand m ks n na (laid (ahead_on 0) (keep (belongs 0 period) (orders_in m n)))
-    → AreMargins (orders_at m (take nb bs)) (orders_at m (take na ks)) v b s → v ≡ 0
-    → Clears m rows n period (Done z 0 n) m rows
+pub clears_none : (m rows : List ℕ) (n period v b s : ℕ) (bs ks : List ℕ) (a : Matched)
+    → fit m n rows ≡ true → a.left.0 ≡ 0 → a.count ≡ 0 → a.standing ≡ n
+    → Stand m bs n (laid (ahead_on 1) (keep (belongs 1 period) (orders_in m n)))
+    → Stand m ks n (laid (ahead_on 0) (keep (belongs 0 period) (orders_in m n)))
+    → AreMargins (orders_at m bs) (orders_at m ks) v b s → v ≡ 0
+    → Clears m rows n period (Some a) m rows
 unfolding ahead_on
-clears_none m rows n period v b s bs ks nb na z e ez sb sa g ev =
+clears_none m rows n period v b s bs ks a e ez ec en sb sa g ev =
     let c : cleared_volume (bids period (orders_in m n)) (asks period (orders_in m n)) ≡ 0 = ap₂ cleared_volume (sym sb.orders) (sym sa.orders)
     ∙ sym g.cleared ∙ ev in
     let k = none_trades period (orders_in m n) c in
@@ -88,20 +77,20 @@ clears_none m rows n period v b s bs ks nb na z e ez sb sa g ev =
       fits = sym e;
       stay = λ t. both_ways (sym e ∙ t);
       left = λ _. ez;
-      count = λ _. ap (λ (x : Cleared). length x.rows) (sym k);
-      orders = λ _. ap (λ (x : Cleared). x.orders) (sym k);
+      count = λ _. ec ∙ ap (λ (x : Cleared). length x.rows) (sym k);
+      orders = λ _. ap (λ (x : ℕ). orders_in m x) en ∙ ap (λ (x : Cleared). x.orders) (sym k);
       handed = λ _. written_none rows ∙ ap (λ (x : Cleared). written rows x.rows) (sym k);
       past = refl;
     }
 
 -- both sides together are no more than the orders
-pub sides_few : (m bs ks : List ℕ) (n period nb na : ℕ) → Stand m bs n nb (laid (ahead_on 1) (keep (belongs 1 period) (orders_in m n)))
-    → Stand m ks n na (laid (ahead_on 0) (keep (belongs 0 period) (orders_in m n))) → nb + na ≤ n
-sides_few m bs ks n period nb na sb sa =
-    let a = stand_length m bs n nb _ sb in
+pub sides_few : (m bs ks : List ℕ) (n period : ℕ) → Stand m bs n (laid (ahead_on 1) (keep (belongs 1 period) (orders_in m n)))
+    → Stand m ks n (laid (ahead_on 0) (keep (belongs 0 period) (orders_in m n))) → length bs + length ks ≤ n
+sides_few m bs ks n period sb sa =
+    let a = stand_length m bs n _ sb in
     let lb = laid-length (ahead_on 1) (keep (belongs 1 period) (orders_in m n)) in
     let la = laid-length (ahead_on 0) (keep (belongs 0 period) (orders_in m n)) in
-    let b = stand_length m ks n na _ sa in
+    let b = stand_length m ks n _ sa in
     let k = keep_apart (belongs 1 period) (belongs 0 period) (orders_in m n) (λ o e. other o e) in
     omega (arith, orders_length m n)
   where
@@ -112,15 +101,15 @@ sides_few m bs ks n period nb na sb sa =
         rw z
 
 -- the volume lies at the margin of each side
-module _ (m rows bs ks : List ℕ) (n period nb na v b s : ℕ) (e : fit m n rows ≡ true) (pos : 0 < v)
-    (sb : Stand m bs n nb (laid (ahead_on 1) (keep (belongs 1 period) (orders_in m n))))
-    (sa : Stand m ks n na (laid (ahead_on 0) (keep (belongs 0 period) (orders_in m n))))
-    (g : AreMargins (orders_at m (take nb bs)) (orders_at m (take na ks)) v b s) where
-  bids_are : orders_at m (take nb bs) ≡ bids period (orders_in m n)
+module _ (m rows bs ks : List ℕ) (n period v b s : ℕ) (e : fit m n rows ≡ true) (pos : 0 < v)
+    (sb : Stand m bs n (laid (ahead_on 1) (keep (belongs 1 period) (orders_in m n))))
+    (sa : Stand m ks n (laid (ahead_on 0) (keep (belongs 0 period) (orders_in m n))))
+    (g : AreMargins (orders_at m bs) (orders_at m ks) v b s) where
+  bids_are : orders_at m bs ≡ bids period (orders_in m n)
   unfolding ahead_on
   bids_are = sb.orders
 
-  asks_are : orders_at m (take na ks) ≡ asks period (orders_in m n)
+  asks_are : orders_at m ks ≡ asks period (orders_in m n)
   unfolding ahead_on
   asks_are = sa.orders
 
@@ -140,28 +129,25 @@ module _ (m rows bs ks : List ℕ) (n period nb na v b s : ℕ) (e : fit m n row
       let l = laid-quantities ask_ahead (keep (belongs 0 period) (orders_in m n)) in
       omega (arith, small, keep_some (belongs 0 period) (orders_in m n))
 
-  pub bids_at_margin : AtMargin v (keep (chosen 1 b) (orders_at m (take nb bs))) (keep (chosen 2 b) (orders_at m (take nb bs)))
-  unfolding chosen
+  pub bids_at_margin : AtMargin v (keep (chosen (Better Buy) b) (orders_at m bs)) (keep (chosen Margin b) (orders_at m bs))
   bids_at_margin =
       let w = volume-bids (bids period (orders_in m n)) (asks period (orders_in m n)) in
       rw (g.of_bids pos, bids_are) (at_margin dearer dearer_strict v (bids period (orders_in m n)) (bids-ordered period (orders_in m n)) pos
       (omega (arith, volume_is)) bids-small)
 
-  pub asks_at_margin : AtMargin v (keep (chosen 0 s) (orders_at m (take na ks))) (keep (chosen 2 s) (orders_at m (take na ks)))
-  unfolding chosen
+  pub asks_at_margin : AtMargin v (keep (chosen (Better Sell) s) (orders_at m ks)) (keep (chosen Margin s) (orders_at m ks))
   asks_at_margin =
       let w = volume-asks (bids period (orders_in m n)) (asks period (orders_in m n)) in
       rw (g.of_asks pos, asks_are) (at_margin cheaper cheaper_strict v (asks period (orders_in m n)) (asks-ordered period (orders_in m n)) pos
       (omega (arith, volume_is)) asks-small)
 
-  pub clears_some : (fb fa : List Fill) (p count standing : ℕ) (z : Energy) (m' rows' : List ℕ) → z.0 ≡ 0 → p ≡ clearing_price b s
-      → fb ≡ fills_of v (keep (chosen 1 b) (orders_at m (take nb bs))) (keep (chosen 2 b) (orders_at m (take nb bs)))
-      → fa ≡ fills_of v (keep (chosen 0 s) (orders_at m (take na ks))) (keep (chosen 2 s) (orders_at m (take na ks)))
-      → rows' ≡ written rows (overlap_rows period p (end_to_end 0 fb) (end_to_end 0 fa)) → count ≡ length (overlap_rows period p (end_to_end 0 fb) (end_to_end 0 fa))
-      → orders_in m' standing ≡ after_fills fa (after_fills fb (orders_in m n)) → drop (6 * n) m' ≡ drop (6 * n) m
-      → Clears m rows n period (Done z count standing) m' rows'
-  unfolding chosen
-  clears_some fb fa p count standing z m' rows' ez ep efb efa er ec eo past =
+  pub clears_some : (fb fa : List Fill) (p : ℕ) (a : Matched) (m' rows' : List ℕ) → a.left.0 ≡ 0 → p ≡ clearing_price b s
+      → fb ≡ fills_of v (keep (chosen (Better Buy) b) (orders_at m bs)) (keep (chosen Margin b) (orders_at m bs))
+      → fa ≡ fills_of v (keep (chosen (Better Sell) s) (orders_at m ks)) (keep (chosen Margin s) (orders_at m ks))
+      → rows' ≡ written rows (overlap_rows period p (end_to_end 0 fb) (end_to_end 0 fa)) → a.count ≡ length (overlap_rows period p (end_to_end 0 fb) (end_to_end 0 fa))
+      → orders_in m' a.standing ≡ after_fills fa (after_fills fb (orders_in m n)) → drop (6 * n) m' ≡ drop (6 * n) m
+      → Clears m rows n period (Some a) m' rows'
+  clears_some fb fa p a m' rows' ez ep efb efa er ec eo past =
       let k = some_trades period (orders_in m n) v b s fb fa volume_is pos (g.of_bids pos ∙ ap (marginal v) bids_are) (g.of_asks pos
       ∙ ap (marginal v) asks_are)
       (rw bids_are at efb) (rw asks_are at efa) in

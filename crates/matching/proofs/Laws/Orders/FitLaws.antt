@@ -1,11 +1,11 @@
 -- Laws of orders that fit: numbers that rise by neighbours, a sum along the orders, and the five tests.
 use Prim.Native.Nat.{ℕ, zero, suc, ◌+◌, ◌*◌, ◌-◌, ◌<◌, ◌≤◌, min}
-use mathlib.Core.Path.{◌≡◌, refl, ap, ◌∙◌}
+use mathlib.Core.Path.{◌≡◌, refl, sym, ap, ◌∙◌}
 use mathlib.Core.Bool.{Bool, true, false, ◌&&◌}
 use mathlib.Core.List.{List, [], ◌∷◌}
 use native.Mathlib.Omega.{arith}
 use native.Mathlib.Nat.{not-suc-le-zero}
-use native.Mathlib.Decide.{dec_lt}
+use native.Mathlib.Decide.{dec_lt, dec_le}
 use borrow.Author.Tests.{lt-ltb, ltb-true, le-leb, lt-leb, leb-true}
 use lib.ListN.{length, get_or, drop, drop_of_length-le, length-map, get_or-map}
 use lib.Dec.{leb, ltb}
@@ -78,16 +78,6 @@ quantities-more m n k h =
 abbrev pub ClimbsTo : List ℕ → ℕ → Type 0
 ClimbsTo m k = (j : ℕ) → suc j < k → get_or m (6 * j) 0 < get_or m (6 * suc j) 0
 
-pub climbs_more : (m : List ℕ) (k : ℕ) → 1 ≤ k → (order_at m (k - 1)).number < (order_at m k).number → ClimbsTo m k → ClimbsTo m (k + 1)
-climbs_more m k one h c j l = go (dec_lt (suc j) k)
-  where
-    go : Dec (suc j < k) → get_or m (6 * j) 0 < get_or m (6 * suc j) 0
-    go (yes u) = c j u
-    go (no u) =
-        let a : get_or m (6 * j) 0 ≡ get_or m (6 * (k - 1)) 0 = ap (λ (i : ℕ). get_or m i 0) (omega arith) in
-        let b : get_or m (6 * suc j) 0 ≡ get_or m (6 * k) 0 = ap (λ (i : ℕ). get_or m i 0) (omega arith) in
-        omega arith
-
 pub climbs_rise : (m : List ℕ) (n : ℕ) → ClimbsTo m n → rising (numbers (orders_in m n)) ≡ true
 climbs_rise m n c = rising_by (numbers (orders_in m n)) at
   where
@@ -103,42 +93,26 @@ climbs_not m n k one l h =
     rising_fails (numbers (orders_in m n)) (k - 1) (omega (arith, numbers-length m n))
     (omega (arith, numbers_at m n (k - 1) (omega arith), numbers_at m n (suc (k - 1)) (omega arith)))
 
--- how far the sum has come
+-- how far the sum has come: what is summed and what stands from place k on make the whole, up to the largest number
 pub record Summing (m : List ℕ) (n sum k : ℕ) : Type 0 where
-  pub at : k ≤ n
-  pub small : sum ≤ most_energy
-  pub rest : sum + quantities (drop k (orders_in m n)) ≡ quantities (orders_in m n)
+  pub low : sum ≤ most_number
+  pub rest : min (sum + quantities (drop k (orders_in m n))) most_number ≡ min (quantities (orders_in m n)) most_number
 
-module _ (m : List ℕ) (n sum k t : ℕ) (l : k < n) (e : t ≡ min (sum + get_or m (6 * k + 5) 0) most_number) (s : Summing m n sum k) where
-  pub summing_more : t ≤ most_energy → Summing m n t (k + 1)
-  summing_more h = record { at = omega arith; small = h; rest = omega (arith, s.rest, quantities-more m n k l) }
+pub summing_more : (m : List ℕ) (n sum k t : ℕ) → k < n → t ≡ min (sum + (order_at m k).quantity) most_number → Summing m n sum k → Summing m n t (k + 1)
+summing_more m n sum k t l e s = record { low = omega arith; rest = omega (arith, s.rest, quantities-more m n k l) }
 
-  pub summing_over : most_energy < t → leb (quantities (orders_in m n)) most_energy ≡ false
-  summing_over h = lt-leb (quantities (orders_in m n)) most_energy (omega (arith, s.rest, quantities-more m n k l))
+pub summing_ends : (m : List ℕ) (n sum k : ℕ) → n ≤ k → Summing m n sum k → leb sum most_energy ≡ leb (quantities (orders_in m n)) most_energy
+summing_ends m n sum k l s = go (dec_le (quantities (orders_in m n)) most_energy)
+  where
+    e : quantities (drop k (orders_in m n)) ≡ 0
+    e = ap quantities (drop_of_length-le (orders_in m n) {i = k} (omega (arith, orders_length m n)))
 
-pub summing_ends : (m : List ℕ) (n sum k : ℕ) → n ≤ k → Summing m n sum k → leb (quantities (orders_in m n)) most_energy ≡ true
-summing_ends m n sum k l s =
-    let e : quantities (drop k (orders_in m n)) ≡ 0 = ap quantities (drop_of_length-le (orders_in m n) {i = k} (omega (arith, orders_length m n))) in
-    le-leb (quantities (orders_in m n)) most_energy (omega (arith, s.rest, s.small))
+    go : Dec (quantities (orders_in m n) ≤ most_energy) → leb sum most_energy ≡ leb (quantities (orders_in m n)) most_energy
+    go (yes h) = le-leb sum most_energy (omega (arith, e, s.low, s.rest)) ∙ sym (le-leb (quantities (orders_in m n)) most_energy h)
+    go (no h) = lt-leb sum most_energy (omega (arith, e, s.low, s.rest)) ∙ sym (lt-leb (quantities (orders_in m n)) most_energy (omega arith))
 
 -- the five tests
 module _ (m rows : List ℕ) (n : ℕ) where
-  pub not_many : 256 < n → fit m n rows ≡ false
-  unfolding fit
-  not_many h = rw (lt-leb n 256 h)
-
-  pub not_in : n ≤ 256 → length m < 6 * n → fit m n rows ≡ false
-  unfolding fit
-  not_in a h = rw (le-leb n 256 a, lt-leb (6 * n) (length m) h)
-
-  pub not_lent : n ≤ 256 → 6 * n ≤ length m → length rows < 6 * n → fit m n rows ≡ false
-  unfolding fit
-  not_lent a b h = rw (le-leb n 256 a, le-leb (6 * n) (length m) b, lt-leb (6 * n) (length rows) h)
-
-  pub not-rising : n ≤ 256 → 6 * n ≤ length m → 6 * n ≤ length rows → rising (numbers (orders_in m n)) ≡ false → fit m n rows ≡ false
-  unfolding fit
-  not-rising a b c h = rw (le-leb n 256 a, le-leb (6 * n) (length m) b, le-leb (6 * n) (length rows) c, h)
-
   pub is_fit : n ≤ 256 → 6 * n ≤ length m → 6 * n ≤ length rows → rising (numbers (orders_in m n)) ≡ true → fit m n rows
       ≡ leb (quantities (orders_in m n)) most_energy
   unfolding fit
@@ -172,14 +146,6 @@ fit_gives m rows n e =
 
 -- and for periods one after the other
 module _ (m rows : List ℕ) (n end : ℕ) where
-  pub below_unfit : fit m n rows ≡ false → fit_below m n end rows ≡ false
-  unfolding fit_below
-  below_unfit e = rw e
-
-  pub below_lent : fit m n rows ≡ true → length rows < 12 * n → fit_below m n end rows ≡ false
-  unfolding fit_below
-  below_lent e h = rw (e, lt-leb (12 * n) (length rows) h)
-
   pub below_is : fit m n rows ≡ true → 12 * n ≤ length rows → fit_below m n end rows ≡ leb end 744
   unfolding fit_below
   below_is e h = rw (e, le-leb (12 * n) (length rows) h)

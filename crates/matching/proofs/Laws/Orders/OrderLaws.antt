@@ -4,9 +4,9 @@ use mathlib.Core.Path.{◌≡◌, refl, sym, ap, ◌∙◌}
 use mathlib.Core.List.{List, ◌++◌}
 use native.Mathlib.Omega.{arith}
 use native.Mathlib.Nat.{add-zero}
-use native.Mathlib.Decide.{ℕ_discrete, dec_lt}
+use native.Mathlib.Decide.{dec_lt}
 use lib.ListN.{length, get_or, take, drop, set, length-append, length-set, length-take, length-drop, get_or-append}
-use lib.Seq.{get_or-set_other, get_or-set_same, get_or-take, get_or-drop, get_or-append-add, length-take-le, drop-set-lt}
+use lib.Seq.{ext_get_or, get_or-set_other, get_or-set_same, get_or-take, get_or-drop, get_or-append-add, length-take-le, drop-set-lt}
 use Rattle.measures.proofs.ListLaws.{table-length, table_at, table_is, table-set}
 use Rattle.matching.specs.Orders.{Order, leaving}
 use Rattle.matching.specs.Memory.{order_at, orders_in, no_order}
@@ -174,47 +174,8 @@ module _ (m x : List ℕ) (n k : ℕ) (hk : k < n) (low : (i : ℕ) → i < 6 * 
       at : (j : ℕ) → j < n - 1 → order_at x j ≡ get_or ((take k (orders_in m n) ++ drop (suc k) (orders_in m n))) j no_order
       at j hj = go j hj (dec_lt j k)
 
--- how far the move has come
-pub record Moving (m : List ℕ) (n k : ℕ) (x : List ℕ) (j : ℕ) : Type 0 where
-  pub low : 6 * k ≤ j
-  pub high : j ≤ 6 * n - 6
-  pub long : length x ≡ length m
-  pub before : (i : ℕ) → i < 6 * k → get_or x i 0 ≡ get_or m i 0
-  pub here : (i : ℕ) → 6 * k ≤ i → i < j → get_or x i 0 ≡ get_or m (i + 6) 0
-  pub after : (i : ℕ) → j ≤ i → get_or x i 0 ≡ get_or m i 0
-  pub past : drop (6 * n) x ≡ drop (6 * n) m
-
-pub moving_start : (m : List ℕ) (n k : ℕ) → k < n → Moving m n k m (6 * k)
-moving_start m n k h =
-    record {
-      low = omega arith;
-      high = omega arith;
-      long = refl;
-      before = λ i l. refl;
-      here = λ i l g. absurd (omega arith);
-      after = λ i l. refl;
-      past =
-          refl;
-    }
-
-pub moving_more : (m : List ℕ) (n k : ℕ) (x : List ℕ) (j : ℕ) → 6 * n ≤ length m → j < 6 * n - 6 → Moving m n k x j
-    → Moving m n k (set x j (get_or x (j + 6) 0)) (j + 1)
-moving_more m n k x j hn hj g =
-    let v = get_or x (j + 6) 0 in
-    let lo = g.low in
-    let ln = g.long in
-    record {
-      low = omega arith;
-      high = omega arith;
-      long = length-set x j v ∙ g.long;
-      before = λ i l. get_or-set_other x j i v 0 (omega arith) ∙ g.before i l;
-      here = λ i l u. go i l u (ℕ_discrete i j);
-      after = λ i l. get_or-set_other x j i v 0 (omega arith) ∙ g.after i (omega arith);
-      past = drop-set-lt (6 * n) x j v (omega arith) ∙ g.past;
-    }
-  where
-    go : (i : ℕ) → 6 * k ≤ i → i < j + 1 → Dec (i ≡ j) → get_or (set x j (get_or x (j + 6) 0)) i 0 ≡ get_or m (i + 6) 0
-    go i l u (yes e) =
-        let ln = g.long in
-        rw e (get_or-set_same x j (get_or x (j + 6) 0) 0 (omega arith) ∙ g.after (j + 6) (omega arith))
-    go i l u (no ne) = get_or-set_other x j i (get_or x (j + 6) 0) 0 ne ∙ g.here i l (omega arith)
+-- what lies behind the orders stays
+pub moved_past : (m x : List ℕ) (n : ℕ) → length x ≡ length m → ((i : ℕ) → 6 * n ≤ i → get_or x i 0 ≡ get_or m i 0) → drop (6 * n) x ≡ drop (6 * n) m
+moved_past m x n e h =
+    ext_get_or 0 (drop (6 * n) x) (drop (6 * n) m) (simp (length-drop, e) refl)
+    (λ i l. get_or-drop (6 * n) x i 0 ∙ h (6 * n + i) (omega arith) ∙ sym (get_or-drop (6 * n) m i 0))

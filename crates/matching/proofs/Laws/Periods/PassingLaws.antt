@@ -10,9 +10,8 @@ use lib.ListN.{length, take, drop, length-append, length-take, length-drop, drop
 use lib.Seq.{take_at, drop_at, take_all, drop-drop}
 use Rattle.measures.specs.Ranges.{most_energy}
 use Rattle.measures.proofs.ListLaws.{both_ways}
-use Rattle.measures.specs.declared.Energy.{Energy}
 use Rattle.matching.specs.declared.orders.Matched.{Matched}
-use Rattle.matching.specs.declared.orders.Matched.TheVariants.{Unfit, Done}
+use Rattle.std.specs.Prelude.{Option, Some}
 use Rattle.matching.specs.Orders.{Order, Row, rising, numbers, quantities}
 use Rattle.matching.specs.Memory.{orders_in, flat, written}
 use Rattle.matching.specs.Clearing.{Cleared, clear_period, clear_from}
@@ -100,25 +99,21 @@ module _ (m rows : List ℕ) (n p count : ℕ) (h : Clearable m rows n count) wh
   pub fit_part : fit m n part ≡ true
   fit_part = is_fit m part n h.few h.inside room h.rises ∙ le-leb (quantities (orders_in m n)) most_energy h.small
 
-  module _ (a : Matched) (m' ys : List ℕ) (x : Clears m part n p a m' ys) where
-    pub never_unfit : {X : Type 0} → (answer_of a).fits ≡ false → X
-    never_unfit e = both_ways (sym fit_part ∙ sym x.fits ∙ e)
-
-    pub step_few : (more : ℕ) → (answer_of a).count ≡ more → more ≤ 256
-    step_few more e =
-        let c : more ≡ length (clear_period p (orders_in m n)).rows = sym e ∙ x.count fit_part in
+  module _ (a : Matched) (m' ys : List ℕ) (x : Clears m part n p (Some a) m' ys) where
+    pub step_few : a.count ≤ 256
+    step_few =
+        let c = x.count fit_part in
         let t = rows_and_due p (orders_in m n) h.rises in
         let u = due_all p (orders_in m n) in
         let v = orders_length m n in
         let w = h.few in
         omega arith
 
-    pub stepped : (more n' : ℕ) → (answer_of a).count ≡ more → (answer_of a).standing ≡ n'
-        → Stepped m rows n p count (count + more) n' m' (put_mid (6 * count) (length rows - 6 * count) rows ys)
-    stepped more n' e f =
+    pub stepped : Stepped m rows n p count (count + a.count) a.standing m' (put_mid (6 * count) (length rows - 6 * count) rows ys)
+    stepped =
         record {
-          orders = rw f at (x.orders fit_part);
-          counted = ap (λ (k : ℕ). count + k) (sym e ∙ x.count fit_part);
+          orders = x.orders fit_part;
+          counted = ap (λ (k : ℕ). count + k) (x.count fit_part);
           handed = λ d rs l w. let t = h.lent in rw (x.handed fit_part)
               (written_behind d rows rs (clear_period p (orders_in m n)).rows count (length rows - 6 * count) l w (omega arith));
           past = x.past;
@@ -162,17 +157,6 @@ module _ (m rows : List ℕ) (n end : ℕ) (h : Clearable m rows n n) where
 
   module _ (m' rows' : List ℕ) (count n' : ℕ) where
     module _ (p : ℕ) (g : Passing m rows n end m' rows' count n' p) where
-      pub passing_ready : Clearable m' rows' n' count
-      passing_ready =
-          let a = g.room in
-          let b = g.fewer in
-          let c = h.lent in
-          let d = h.few in
-          let e = h.inside in
-          let f = g.long in
-          let i = g.lent in
-          record { few = omega arith; inside = omega arith; lent = omega arith; rises = g.rises; small = g.small }
-
       -- a period is cleared
       pub passing_more : (count'' n'' : ℕ) (m'' rows'' : List ℕ) → p < end → Stepped m' rows' n' p count count'' n'' m'' rows'' → length m'' ≡ length m'
           → length rows'' ≡ length rows'
@@ -262,31 +246,6 @@ module _ (m rows : List ℕ) (n end : ℕ) where
       let l = w.1 in
       record { few = f.few; inside = f.inside; lent = omega arith; rises = f.rises; small = f.small }
 
-  pub all_unfit : fit_below m n end rows ≡ false → ClearsAll m rows n end Unfit m rows
-  all_unfit e =
-      record {
-        fits = sym e;
-        stay = λ f. (refl, refl);
-        left = λ f. both_ways (sym f ∙ e);
-        count = λ f. both_ways (sym f ∙ e);
-        orders = λ f. both_ways (sym f ∙ e);
-        handed = λ f. both_ways (sym f ∙ e);
-        past = refl;
-      }
-
-  pub all_done : (z : Energy) (count n' : ℕ) (m' rows' : List ℕ) → z.0 ≡ 0 → fit_below m n end rows ≡ true → PassedAll m rows n end count n' m' rows'
-      → ClearsAll m rows n end (Done z count n') m' rows'
-  all_done z count n' m' rows' ez e g =
-      record {
-        fits = sym e;
-        stay = λ f. both_ways (sym e ∙ f);
-        left = λ f. ez;
-        count = λ f. g.counted;
-        orders = λ f. g.orders;
-        handed = λ f. g.handed;
-        past = g.past;
-      }
-
   pub clearable_fits : Clearable m rows n n → end ≤ 744 → fit_below m n end rows ≡ true
   clearable_fits c l =
       let r = c.lent in
@@ -294,7 +253,7 @@ module _ (m rows : List ℕ) (n end : ℕ) where
       below_is m rows n end f (omega arith) ∙ le-leb end 744 l
 
   -- what the contract leaves where they fit
-  pub all_gives : (a : Matched) (count n' : ℕ) (m' rows' : List ℕ) → fit_below m n end rows ≡ true → ClearsAll m rows n end a m' rows'
+  pub all_gives : (a : Option Matched) (count n' : ℕ) (m' rows' : List ℕ) → fit_below m n end rows ≡ true → ClearsAll m rows n end a m' rows'
       → (answer_of a).count ≡ count → (answer_of a).standing ≡ n' → PassedAll m rows n end count n' m' rows'
   all_gives a count n' m' rows' e c ec en =
       record {
@@ -304,7 +263,7 @@ module _ (m rows : List ℕ) (n end : ℕ) where
         past = c.past;
       }
 
-  pub all_fit : {X : Type 0} (a : Matched) (m' rows' : List ℕ) → fit_below m n end rows ≡ true → ClearsAll m rows n end a m' rows'
+  pub all_fit : {X : Type 0} (a : Option Matched) (m' rows' : List ℕ) → fit_below m n end rows ≡ true → ClearsAll m rows n end a m' rows'
       → (answer_of a).fits ≡ false → X
   all_fit a m' rows' e c f = both_ways (sym e ∙ sym c.fits ∙ f)
 

@@ -5,7 +5,7 @@ use mathlib.Core.Bool.{true, false}
 use mathlib.Core.List.{List, [], ◌++◌, append-nil}
 use native.Mathlib.Omega.{arith}
 use native.Mathlib.Decide.{ℕ_discrete, dec_lt}
-use borrow.Author.Tests.{eqb-true, eq-eqb, lt-leb, le-leb, leb-false, ltb-false}
+use borrow.Author.Tests.{eqb-true, eq-eqb, lt-leb, leb-false, ltb-false}
 use lib.ListN.{length, get_or}
 use lib.Seq.{get_or-set_same, get_or-set_other}
 use lib.Dec.{eqb, leb, ltb}
@@ -121,16 +121,6 @@ priced_after m rows n p count count' n' m' rows' high low s b =
     (remains_each LessOrder (PricedBy high low) (PricedBy high low) (λ x y l q. rw l.is (record { bid = q.bid; ask = q.ask }))
     (cleared_remain p (orders_in m n)) b)
 
--- whether prices may meet, by what the code tests
-module _ (high low : List ℕ) (p : ℕ) where
-  pub meet-most : get_or high p 0 ≡ most_word → prices_meet high low p ≡ true
-  unfolding prices_meet
-  meet-most e = rw (le-leb most_word (get_or high p 0) (omega arith))
-
-  pub meet_below : get_or high p 0 < most_word → prices_meet high low p ≡ ltb (get_or low p 0) (get_or high p 0)
-  unfolding prices_meet
-  meet_below h = rw (lt-leb most_word (get_or high p 0) h)
-
 -- an order's price entered
 module _ (o : Order) (high low : List ℕ) (lh : length high ≡ 744) (ll : length low ≡ 744) where
   own_priced : PricedBy (high_with o.direction o.period o.price high) (low_with o.direction o.period o.price low) o
@@ -186,9 +176,6 @@ pub record NotedTo (m high low : List ℕ) (k : ℕ) : Type 0 where
   pub long_high : length high ≡ 744
   pub long_low : length low ≡ 744
   pub priced : (i : ℕ) → i < k → PricedBy high low (order_at m i)
-
-pub noted_start : (m high low : List ℕ) → length high ≡ 744 → length low ≡ 744 → NotedTo m high low 0
-noted_start m high low lh ll = record { long_high = lh; long_low = ll; priced = λ i h. absurd (omega arith) }
 
 module _ (m high low : List ℕ) (k : ℕ) (s : NotedTo m high low k) (small : get_or m (6 * k + 4) 0 ≤ most_word) where
   abbrev d : ℕ

@@ -1,12 +1,12 @@
 -- What is left of an incoming order is its quantity less what crosses it, in whatever order that stands.
 use Prim.Native.Nat.{ℕ, ◌+◌, ◌-◌, ◌<◌, ◌≤◌}
-use mathlib.Core.Path.{◌≡◌, refl, sym, ap, ◌∙◌}
-use mathlib.Core.Bool.{true, false, cond}
+use mathlib.Core.Path.{◌≡◌, sym, ap, ◌∙◌}
+use mathlib.Core.Bool.{true, cond}
 use mathlib.Core.List.{List}
 use native.Mathlib.Omega.{arith}
 use lib.ListN.{drop, drop_of_length-le}
 use Rattle.measures.specs.Lists.{sum_of, keep}
-use Rattle.measures.proofs.ListLaws.{cond-true, cond-false, sum_of-drop}
+use Rattle.measures.proofs.ListLaws.{sum_of-drop}
 use Rattle.matching.specs.Orders.{Order, order_with}
 use Rattle.matching.specs.Memory.{order_at, orders_in, no_order, place_in}
 use Rattle.matching.specs.Rolling.{candidate, ahead_for, counterparts, meet}
@@ -19,14 +19,6 @@ use Rattle.matching.proofs.Laws.Rolling.RollingLaws.{matches-total}
 -- what of an order crosses an incoming one
 abbrev pub crossing : Order → Order → ℕ
 crossing i o = cond (candidate i o) o.quantity 0
-
--- one order: it is read, and taken off if it can be met
-module _ (i o w : Order) (left : ℕ) (e : o ≡ w) where
-  pub left_same : candidate i o ≡ false → left ≡ left - crossing i w
-  left_same h = let t : crossing i w ≡ 0 = ap (crossing i) (sym e) ∙ cond-false (candidate i o) o.quantity 0 h refl in omega arith
-
-  pub left_less : candidate i o ≡ true → left - o.quantity ≡ left - crossing i w
-  left_less h = ap (λ (x : ℕ). left - x) (sym (ap (crossing i) (sym e) ∙ cond-true (candidate i o) o.quantity 0 h refl))
 
 pub left-crossing : (i : Order) (os : List Order) → (meet i os).left ≡ i.quantity - sum_of (crossing i) os
 unfolding meet counterparts
@@ -66,7 +58,3 @@ module _ (m : List ℕ) (n : ℕ) (i : Order) where
   pub left_there : place_in m n 0 ≡ true → left_over m n i ≡ (meet i (orders_in m n)).left
   unfolding left_over
   left_there e = rw e
-
-  pub left-all : place_in m n 0 ≡ false → left_over m n i ≡ i.quantity
-  unfolding left_over
-  left-all e = rw e

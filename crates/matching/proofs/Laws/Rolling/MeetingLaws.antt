@@ -1,18 +1,15 @@
 -- Laws of matches: one with the best counterpart, and those still to come.
 use Prim.Native.Nat.{ℕ, ◌+◌, ◌-◌, ◌<◌, ◌≤◌, min}
 use mathlib.Core.Path.{◌≡◌, refl, sym, ap, ◌∙◌}
-use mathlib.Core.Bool.{true, false}
+use mathlib.Core.Bool.{true}
 use mathlib.Core.List.{List, [], ◌∷◌}
 use native.Mathlib.Omega.{arith}
 use native.Mathlib.Decide.{dec_lt}
 use borrow.Author.Tests.{eq-eqb, ne_eqb}
 use lib.ListN.{length, get_or, length-set}
-use Rattle.measures.proofs.ListLaws.{both_ways}
-use Rattle.matching.specs.declared.orders.Matched.{Matched}
 use Rattle.matching.specs.Orders.{Order, less, lessen, rising, numbers}
 use Rattle.matching.specs.Memory.{no_order}
 use Rattle.matching.specs.Rolling.{Match, counterparts, matches, after_matches}
-use Rattle.matching.specs.Answers.{fit, answer_of, Meets}
 use Rattle.matching.proofs.Laws.Rolling.CounterpartLaws.{best, without, found_laid-first}
 use Rattle.matching.proofs.Laws.Orders.TakeOffLaws.{without-length, lessen_gone, lessen_kept}
 
@@ -82,16 +79,3 @@ module _ (i : Order) (os os' : List Order) (q b x : ℕ) (some : q ≡ 0 → ⊥
       go (no h) =
           let e : length os' ≡ length (without b os) = ap length (el ∙ lessen_gone os b x rises l (omega arith)) in
           omega (arith, without-length b os l)
-
--- orders that do not fit stay
-pub meets_unfit : (m rows : List ℕ) (n : ℕ) (i : Order) (a : Matched) → (answer_of a).fits ≡ false → fit m n rows ≡ false → Meets m rows n i a m rows
-meets_unfit m rows n i a ea e =
-    record {
-      fits = ea ∙ sym e;
-      stay = λ f. (refl, refl);
-      left = λ f. both_ways (sym f ∙ e);
-      count = λ f. both_ways (sym f ∙ e);
-      orders = λ f. both_ways (sym f ∙ e);
-      handed = λ f. both_ways (sym f ∙ e);
-      past = refl;
-    }

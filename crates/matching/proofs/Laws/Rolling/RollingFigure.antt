@@ -5,6 +5,7 @@ use mathlib.Core.Bool.{true}
 use mathlib.Core.List.{List, [], ◌∷◌}
 use native.Mathlib.Omega.{arith}
 use lib.ListN.{length, drop}
+use Rattle.std.specs.Prelude.{Option}
 use Rattle.matching.specs.declared.orders.Matched.{Matched}
 use Rattle.matching.specs.Orders.{Order, rising, numbers}
 use Rattle.matching.specs.Memory.{orders_in, flat, written}
@@ -24,7 +25,7 @@ abbrev pub buy4 : Order
 buy4 = an_order 3 3 1 460 7
 
 -- ": 5 at 455, 2 at 460." Nothing is left of the buy, and 3 of the first ask.
-pub record Met4 (rows : List ℕ) (a : Matched) (m' rows' : List ℕ) : Type 0 where
+pub record Met4 (rows : List ℕ) (a : Option Matched) (m' rows' : List ℕ) : Type 0 where
   pub fits : (answer_of a).fits ≡ true
   pub left : (answer_of a).left ≡ 0
   pub count : (answer_of a).count ≡ 2
@@ -43,7 +44,7 @@ module _ (m rows : List ℕ) (held : orders_in m 2 ≡ asks4) (inside : 12 ≤ l
   met : meet buy4 (orders_in m 2) ≡ record { rows = a_row 4 2 3 5 455 ∷ a_row 4 1 3 2 460 ∷ []; left = 0; orders = an_order 1 1 0 460 3 ∷ [] }
   met = rw held figure4_holds
 
-  pub figure4_met : (a : Matched) (m' rows' : List ℕ) → Meets m rows 2 buy4 a m' rows' → Met4 rows a m' rows'
+  pub figure4_met : (a : Option Matched) (m' rows' : List ℕ) → Meets m rows 2 buy4 a m' rows' → Met4 rows a m' rows'
   unfolding written flat
   figure4_met a m' rows' w =
       let o : orders_in m' (answer_of a).standing ≡ an_order 1 1 0 460 3 ∷ [] = w.orders fits ∙ ap (λ (t : Met). t.orders) met in

@@ -9,11 +9,12 @@ use native.Mathlib.Numerals.{add-one}
 use native.Mathlib.Decide.{ℕ_discrete, dec_lt}
 use borrow.Author.Tests.{eq-eqb, ne_eqb, le-leb, lt-leb}
 use lib.ListN.{length, get_or, take, drop, set, length-append}
-use lib.Seq.{take-suc-set}
+use lib.Seq.{length-take-le, take-suc-set}
 use lib.Dec.{eqb, leb, ltb}
 use Rattle.measures.specs.Lists.{every, keep, sum_of}
 use Rattle.measures.specs.Sharing.{total}
 use Rattle.measures.proofs.ListLaws.{both_ways, cond_case, sum_of_append}
+use Rattle.std.specs.Prelude.{Option}
 use Rattle.matching.specs.declared.orders.Matched.{Matched}
 use Rattle.matching.specs.Orders.{Order, Row, bid_ahead, ask_ahead, laid, quantities}
 use Rattle.matching.specs.Memory.{most_word, order_at, orders_in, written}
@@ -137,10 +138,6 @@ pub runs_met : (m ks ps hs es : List ℕ) (d n r : ℕ) (i : Order) (period limi
 runs_met m ks ps hs es d n r i period limit words hi small ed ep el g e =
     record { runs = rw (← ed) g; held = rw (← ed) (e ∙ side_is i m n d period limit words hi small ed ep el) }
 
--- a match with the order that was read
-pub least_of : (x q : ℕ) (o p : Order) → x ≡ min q o.quantity → o ≡ p → x ≡ min q p.quantity
-least_of x q o p e h = e ∙ ap (λ (z : Order). min q z.quantity) h
-
 pub row_of : (i : Order) (row : Row) (o p : Order) (x : ℕ) → row ≡ match_row i (match o x) → o ≡ p → row ≡ match_row i (match p x)
 row_of i row o p x e h = e ∙ ap (λ (z : Order). match_row i (match z x)) h
 
@@ -252,21 +249,20 @@ module _ (m : List ℕ) (n : ℕ) (i : Order) (rows₀ : List ℕ) (q c : ℕ) (
   abbrev ms : List Match
   ms = matches i.quantity (counterparts i (orders_in m n))
 
-  pub turn_fills : n ≤ length met → n ≤ length taken → Filling met taken n c
+  pub turn_fills : n ≤ length met → n ≤ length taken → Filling (take c met) (take c taken) n
   turn_fills lm lt =
       let f = fit_gives m rows₀ n e in
       let s = f.small in
       record {
-        few = t.few;
-        places = lm;
-        amounts = lt;
+        few = omega (arith, t.few, length-take-le c met (omega (arith, t.few)));
+        along = length-take-le c taken (omega (arith, t.few)) ∙ sym (length-take-le c met (omega (arith, t.few)));
         below = t.below;
         small = rw (t.amounts, total-taken ms)
             (omega (arith, met_under i (orders_in m n)));
       }
 
-  pub meets_turn : (a : Matched) (m' : List ℕ) (standing : ℕ) → answer_of a ≡ record { fits = true; left = q; count = c; standing = standing }
-      → orders_in m' standing ≡ after_fills (fills_at m met taken c) (orders_in m n) → drop (6 * n) m' ≡ drop (6 * n) m → Meets m rows₀ n i a m' rows
+  pub meets_turn : (a : Option Matched) (m' : List ℕ) (standing : ℕ) → answer_of a ≡ record { fits = true; left = q; count = c; standing = standing }
+      → orders_in m' standing ≡ after_fills (fills_at m (take c met) (take c taken)) (orders_in m n) → drop (6 * n) m' ≡ drop (6 * n) m → Meets m rows₀ n i a m' rows
   unfolding meet fills_at
   meets_turn a m' standing ea eo past =
       let l = t.left in
@@ -291,7 +287,7 @@ counterparts_none i os h =
     rw k
 
 -- where nothing matches, all stays
-meets_alone : (m rows : List ℕ) (n : ℕ) (i : Order) (a : Matched) → fit m n rows ≡ true → matches i.quantity (counterparts i (orders_in m n)) ≡ []
+meets_alone : (m rows : List ℕ) (n : ℕ) (i : Order) (a : Option Matched) → fit m n rows ≡ true → matches i.quantity (counterparts i (orders_in m n)) ≡ []
     → answer_of a ≡ record { fits = true; left = i.quantity; count = 0; standing = n } → Meets m rows n i a m rows
 unfolding meet
 meets_alone m rows n i a e z ea =
@@ -307,12 +303,12 @@ meets_alone m rows n i a e z ea =
       past = refl;
     }
 
-pub meets_none : (m rows : List ℕ) (n : ℕ) (i : Order) (a : Matched) → fit m n rows ≡ true → 1 < i.direction
+pub meets_none : (m rows : List ℕ) (n : ℕ) (i : Order) (a : Option Matched) → fit m n rows ≡ true → 1 < i.direction
     → answer_of a ≡ record { fits = true; left = i.quantity; count = 0; standing = n } → Meets m rows n i a m rows
 meets_none m rows n i a e h ea =
     meets_alone m rows n i a e (ap (matches i.quantity) (counterparts_none i (orders_in m n) h) ∙ matches_none i.quantity) ea
 
 -- and an order of which nothing is open
-pub meets_spent : (m rows : List ℕ) (n : ℕ) (i : Order) (a : Matched) → fit m n rows ≡ true → i.quantity ≡ 0
+pub meets_spent : (m rows : List ℕ) (n : ℕ) (i : Order) (a : Option Matched) → fit m n rows ≡ true → i.quantity ≡ 0
     → answer_of a ≡ record { fits = true; left = i.quantity; count = 0; standing = n } → Meets m rows n i a m rows
 meets_spent m rows n i a e z ea = meets_alone m rows n i a e (matches_spent i.quantity (counterparts i (orders_in m n)) z) ea

@@ -4,16 +4,16 @@ use mathlib.Core.Path.{◌≡◌, refl, sym, ap, ap₂, ◌∙◌}
 use mathlib.Core.Bool.{Bool, true, false, cond}
 use mathlib.Core.List.{List, [], ◌∷◌, ◌++◌, append_assoc, append-nil}
 use native.Mathlib.Omega.{arith}
-use lib.Dec.{eqb}
-use borrow.Author.Tests.{eq-eqb, ne_eqb}
+use lib.Dec.{eqb, ltb}
+use borrow.Author.Tests.{eq-eqb, ltb-true}
 use native.Mathlib.Nat.{not-suc-le-zero}
 use native.Mathlib.Numerals.{add-one}
-use lib.ListN.{length, get_or, take, drop, length-append, length-take, drop_of_length-le}
-use lib.Seq.{drop-cons, get_or-take}
+use lib.ListN.{length, get_or, drop, drop_of_length-le}
+use lib.Seq.{drop-cons}
 use Rattle.measures.specs.Lists.{sum_of}
 use Rattle.measures.specs.Ranges.{most_energy}
 use Rattle.measures.specs.Sharing.{total}
-use Rattle.measures.proofs.ListLaws.{cond-true}
+use Rattle.measures.proofs.ListLaws.{cond-true, every_at}
 use Rattle.matching.specs.Orders.{Row}
 use Rattle.matching.specs.Clearing.{Fill, filled, Span, end_to_end, overlap, rows_of_bid, overlap_rows}
 use Rattle.matching.specs.Memory.{order_at, no_order, written}
@@ -126,26 +126,22 @@ filled-amounts m [] (x ∷ xs) e = absurd (omega arith)
 filled-amounts m (p ∷ ps) [] e = absurd (omega arith)
 filled-amounts m (p ∷ ps) (x ∷ xs) e = let ih = filled-amounts m ps xs (omega arith) in omega arith
 
-module _ (m ps xs : List ℕ) (n c : ℕ) (f : Filling ps xs n c) where
-  lp : length (take c ps) ≡ c
-  lp = let a = f.few in let b = f.places in simp length-take (omega arith)
+-- a place of a fill is below n
+pub filling_below : (ps xs : List ℕ) (n i : ℕ) → Filling ps xs n → i < length ps → get_or ps i 0 < n
+filling_below ps xs n i f h = ltb-true (get_or ps i 0) n (every_at (λ (p : ℕ). ltb p n) ps i 0 f.below h)
 
-  lx : length (take c xs) ≡ c
-  lx = let a = f.few in let b = f.amounts in simp length-take (omega arith)
-
-  pub fills_length : length (fills_at m ps xs c) ≡ c
+module _ (m ps xs : List ℕ) (n : ℕ) (f : Filling ps xs n) where
+  pub fills_length : length (fills_at m ps xs) ≡ length ps
   unfolding fills_at
-  fills_length = filled-length m (take c ps) (take c xs) (lp ∙ sym lx) ∙ lp
+  fills_length = filled-length m ps xs (sym f.along)
 
-  pub fills_at_lem : (i : ℕ) → i < c → get_or (fills_at m ps xs c) i no_fill ≡ record { order = order_at m (get_or ps i 0); amount = get_or xs i 0 }
+  pub fills_at_lem : (i : ℕ) → i < length ps → get_or (fills_at m ps xs) i no_fill ≡ record { order = order_at m (get_or ps i 0); amount = get_or xs i 0 }
   unfolding fills_at
-  fills_at_lem i h =
-      filled_at m (take c ps) (take c xs) i (omega (arith, lp)) (omega (arith, lx))
-      ∙ ap₂ (λ (p x : ℕ). record { order = order_at m p; amount = x }) (get_or-take c ps i 0 h) (get_or-take c xs i 0 h)
+  fills_at_lem i h = filled_at m ps xs i h (omega (arith, f.along))
 
-  pub fills_amounts : amounts (fills_at m ps xs c) ≤ most_energy
+  pub fills_amounts : amounts (fills_at m ps xs) ≤ most_energy
   unfolding fills_at
-  fills_amounts = omega (arith, filled-amounts m (take c ps) (take c xs) (lp ∙ sym lx), f.small)
+  fills_amounts = omega (arith, filled-amounts m ps xs (sym f.along), f.small)
 
 -- the walk: the rows so far, and those of the fills to come
 pub record Rowing (period price : ℕ) (fb fa : List Fill) (r₀ r : List ℕ) (i j a e count : ℕ) : Type 0 where
@@ -183,15 +179,6 @@ Wrote period price seller buyer q r count r' count' =
     → (r' ≡ written m (rs ++ cond (eqb q 0) [] (record { way = 3; period = period; seller = seller; buyer = buyer; quantity = q; price = price } ∷ [])))
     × (length (rs ++ cond (eqb q 0) [] (record { way = 3; period = period; seller = seller; buyer = buyer; quantity = q; price = price } ∷ [])) ≡ count')
     × (count' ≤ count + 1)
-
-module _ (q count : ℕ) (row : Row) (m r : List ℕ) (rs : List Row) (l : length rs ≡ count) where
-  pub wrote_none : q ≡ 0 → r ≡ written m rs → (r ≡ written m (rs ++ cond (eqb q 0) [] (row ∷ []))) × (length (rs ++ cond (eqb q 0) [] (row ∷ [])) ≡ count)
-      × (count ≤ count + 1)
-  wrote_none e k = rw (eq-eqb q 0 e, append-nil rs) (k, l, omega arith)
-
-  pub wrote_one : (q ≡ 0 → ⊥) → r ≡ written m (rs ++ (row ∷ [])) → (r ≡ written m (rs ++ cond (eqb q 0) [] (row ∷ [])))
-      × (length (rs ++ cond (eqb q 0) [] (row ∷ [])) ≡ count + 1) × (count + 1 ≤ count + 1)
-  wrote_one e k = rw (ne_eqb q 0 e) (k, length-append rs (row ∷ []) ∙ ap (λ (i : ℕ). i + 1) l, omega arith)
 
 module _ (period price : ℕ) (fb fa : List Fill) (r₀ r : List ℕ) (i j a e count : ℕ) (g : Rowing period price fb fa r₀ r i j a e count) where
   pub rowing_bids_end : length fb ≤ i → (r ≡ written r₀ (overlap_rows period price (end_to_end 0 fb) (end_to_end 0 fa)))
@@ -288,59 +275,59 @@ module _ (period price : ℕ) (fb fa : List Fill) (r₀ r : List ℕ) (i j a e c
           }
 
 -- the same by places and amounts in memory
-module _ (period price : ℕ) (m bids bought asks sold : List ℕ) (n nb na : ℕ) (fb : Filling bids bought n nb) (fa : Filling asks sold n na) (r₀ r : List ℕ)
+module _ (period price : ℕ) (m bids bought asks sold : List ℕ) (n : ℕ) (fb : Filling bids bought n) (fa : Filling asks sold n) (r₀ r : List ℕ)
     (i j a e count : ℕ)
-    (g : Rowing period price (fills_at m bids bought nb) (fills_at m asks sold na) r₀ r i j a e count) where
-  pub bids_within : i ≤ nb
-  bids_within = omega (arith, g.bids, fills_length m bids bought n nb fb)
+    (g : Rowing period price (fills_at m bids bought) (fills_at m asks sold) r₀ r i j a e count) where
+  pub bids_within : i ≤ length bids
+  bids_within = omega (arith, g.bids, fills_length m bids bought n fb)
 
-  pub asks_within : j ≤ na
-  asks_within = omega (arith, g.asks, fills_length m asks sold n na fa)
+  pub asks_within : j ≤ length asks
+  asks_within = omega (arith, g.asks, fills_length m asks sold n fa)
 
-  pub bids_done : nb ≤ i → (r ≡ written r₀ (overlap_rows period price (end_to_end 0 (fills_at m bids bought nb)) (end_to_end 0 (fills_at m asks sold na))))
-      × (count ≡ length (overlap_rows period price (end_to_end 0 (fills_at m bids bought nb)) (end_to_end 0 (fills_at m asks sold na))))
-  bids_done h = rowing_bids_end period price (fills_at m bids bought nb) (fills_at m asks sold na) r₀ r i j a e count g
-      (omega (arith, fills_length m bids bought n nb fb))
+  pub bids_done : length bids ≤ i → (r ≡ written r₀ (overlap_rows period price (end_to_end 0 (fills_at m bids bought)) (end_to_end 0 (fills_at m asks sold))))
+      × (count ≡ length (overlap_rows period price (end_to_end 0 (fills_at m bids bought)) (end_to_end 0 (fills_at m asks sold))))
+  bids_done h = rowing_bids_end period price (fills_at m bids bought) (fills_at m asks sold) r₀ r i j a e count g
+      (omega (arith, fills_length m bids bought n fb))
 
-  pub asks_done : na ≤ j → (r ≡ written r₀ (overlap_rows period price (end_to_end 0 (fills_at m bids bought nb)) (end_to_end 0 (fills_at m asks sold na))))
-      × (count ≡ length (overlap_rows period price (end_to_end 0 (fills_at m bids bought nb)) (end_to_end 0 (fills_at m asks sold na))))
-  asks_done h = rowing_asks_end period price (fills_at m bids bought nb) (fills_at m asks sold na) r₀ r i j a e count g
-      (omega (arith, fills_length m asks sold n na fa))
+  pub asks_done : length asks ≤ j → (r ≡ written r₀ (overlap_rows period price (end_to_end 0 (fills_at m bids bought)) (end_to_end 0 (fills_at m asks sold))))
+      × (count ≡ length (overlap_rows period price (end_to_end 0 (fills_at m bids bought)) (end_to_end 0 (fills_at m asks sold))))
+  asks_done h = rowing_asks_end period price (fills_at m bids bought) (fills_at m asks sold) r₀ r i j a e count g
+      (omega (arith, fills_length m asks sold n fa))
 
-  module _ (hi : i < nb) (hj : j < na) where
+  module _ (hi : i < length bids) (hj : j < length asks) where
     abbrev F : Fill
     F = record { order = order_at m (get_or bids i 0); amount = get_or bought i 0 }
 
     abbrev H : Fill
     H = record { order = order_at m (get_or asks j 0); amount = get_or sold j 0 }
 
-    li : i < length (fills_at m bids bought nb)
-    li = omega (arith, fills_length m bids bought n nb fb)
+    li : i < length (fills_at m bids bought)
+    li = omega (arith, fills_length m bids bought n fb)
 
-    lj : j < length (fills_at m asks sold na)
-    lj = omega (arith, fills_length m asks sold n na fa)
+    lj : j < length (fills_at m asks sold)
+    lj = omega (arith, fills_length m asks sold n fa)
 
     pub bid_in_range : a + get_or bought i 0 ≤ most_energy
-    bid_in_range = bid_fits period price (fills_at m bids bought nb) (fills_at m asks sold na) r₀ r i j a e count g F H li lj
-        (fills_at_lem m bids bought n nb fb i hi) (fills_at_lem m asks sold n na fa j hj)
+    bid_in_range = bid_fits period price (fills_at m bids bought) (fills_at m asks sold) r₀ r i j a e count g F H li lj
+        (fills_at_lem m bids bought n fb i hi) (fills_at_lem m asks sold n fa j hj)
 
     pub ask_in_range : e + get_or sold j 0 ≤ most_energy
-    ask_in_range = ask_fits period price (fills_at m bids bought nb) (fills_at m asks sold na) r₀ r i j a e count g F H li lj
-        (fills_at_lem m bids bought n nb fb i hi) (fills_at_lem m asks sold n na fa j hj)
+    ask_in_range = ask_fits period price (fills_at m bids bought) (fills_at m asks sold) r₀ r i j a e count g F H li lj
+        (fills_at_lem m bids bought n fb i hi) (fills_at_lem m asks sold n fa j hj)
 
     module _ (seller buyer x y q : ℕ) (r' : List ℕ) (count' : ℕ) (es : seller ≡ get_or m (6 * get_or asks j 0 + 1) 0)
         (eb : buyer ≡ get_or m (6 * get_or bids i 0 + 1) 0) (ex : x ≡ a + get_or bought i 0) (ey : y ≡ e + get_or sold j 0) (eq : q ≡ min x y - max a e)
         (lr : length r' ≡ length r) (w : Wrote period price seller buyer q r count r' count') where
-      pub bid_row : x ≤ y → Rowing period price (fills_at m bids bought nb) (fills_at m asks sold na) r₀ r' (i + 1) j x e count'
+      pub bid_row : x ≤ y → Rowing period price (fills_at m bids bought) (fills_at m asks sold) r₀ r' (i + 1) j x e count'
       bid_row h =
           rw ex
-          (rowing_bid period price (fills_at m bids bought nb) (fills_at m asks sold na) r₀ r i j a e count g F H li lj (fills_at_lem m bids bought n nb fb i hi)
-          (fills_at_lem m asks sold n na fa j hj)
+          (rowing_bid period price (fills_at m bids bought) (fills_at m asks sold) r₀ r i j a e count g F H li lj (fills_at_lem m bids bought n fb i hi)
+          (fills_at_lem m asks sold n fa j hj)
           seller buyer q r' count' es eb (omega arith) lr w (omega arith))
 
-      pub ask_row : y ≤ x → Rowing period price (fills_at m bids bought nb) (fills_at m asks sold na) r₀ r' i (j + 1) a y count'
+      pub ask_row : y ≤ x → Rowing period price (fills_at m bids bought) (fills_at m asks sold) r₀ r' i (j + 1) a y count'
       ask_row h =
           rw ey
-          (rowing_ask period price (fills_at m bids bought nb) (fills_at m asks sold na) r₀ r i j a e count g F H li lj (fills_at_lem m bids bought n nb fb i hi)
-          (fills_at_lem m asks sold n na fa j hj)
+          (rowing_ask period price (fills_at m bids bought) (fills_at m asks sold) r₀ r i j a e count g F H li lj (fills_at_lem m bids bought n fb i hi)
+          (fills_at_lem m asks sold n fa j hj)
           seller buyer q r' count' es eb (omega arith) lr w (omega arith))

@@ -1,11 +1,11 @@
 -- `trade`: each step's contract is one part of the definition, and the volume lies at the margin of both sides.
 use mathlib.Core.Path.{refl}
 use native.Mathlib.Omega.{arith}
+use lib.ListN.{length-take}
 use Rattle.matching.proofs.Laws.Orders.FitLaws.{fit_gives}
 use Rattle.matching.proofs.Laws.Clearing.PlaceLaws.{stand_here}
 use Rattle.matching.proofs.Laws.Clearing.StepLaws.{sides_few, bids_at_margin, asks_at_margin, clears_some}
 use Rattle.matching.proofs.clearing.trade.Goals as goal
-use Rattle.matching.proofs.clearing.trade.Goals.{After-shared_slice_known-1, After-shared_slice_known-2-1, After-slice_known-1, Start}
 
 pub fill-fb-requires : goal.fill-fb-requires
 fill-fb-requires c =
@@ -13,11 +13,10 @@ fill-fb-requires c =
     let f = fit_gives _ _ _ c.requires.0 in (
       f.inside,
       f.few,
-      omega arith,
       f.few,
       f.few,
-      stand_here _ _ _ _ _ c.requires.2,
-      bids_at_margin a.orders.now a.rows.now a.bids.now a.asks.now a.n a.period a.nb a.na a.margins.volume.0
+      stand_here _ _ _ _ c.requires.2,
+      bids_at_margin a.orders.now a.rows.now a.bids.now a.asks.now a.n a.period a.margins.volume.0
           a.margins.bid.0 a.margins.ask.0 c.requires.0 c.requires.1 c.requires.2 c.requires.3 c.requires.4,
     )
 
@@ -27,31 +26,30 @@ fill-fa-requires c =
     let f = fit_gives _ _ _ c.requires.0 in (
       f.inside,
       f.few,
-      omega arith,
       f.few,
       f.few,
-      stand_here _ _ _ _ _ c.requires.3,
-      asks_at_margin a.orders.now a.rows.now a.bids.now a.asks.now a.n a.period a.nb a.na a.margins.volume.0
+      stand_here _ _ _ _ c.requires.3,
+      asks_at_margin a.orders.now a.rows.now a.bids.now a.asks.now a.n a.period a.margins.volume.0
           a.margins.bid.0 a.margins.ask.0 c.requires.0 c.requires.1 c.requires.2 c.requires.3 c.requires.4,
     )
 
 pub put_overlaps-count-requires : goal.put_overlaps-count-requires
 put_overlaps-count-requires c =
     let f = fit_gives _ _ _ c.requires.0 in
-    let w = sides_few _ _ _ _ _ _ _ c.requires.2 c.requires.3 in
+    let w = sides_few _ _ _ _ _ c.requires.2 c.requires.3 in
     let x = c.fill-fb.ensures.0 in
     let y = c.fill-fa.ensures.0 in
-    (f.inside, f.few, f.lent, omega arith, c.fill-fb.ensures.1, c.fill-fa.ensures.1)
+    (f.inside, f.few, f.lent, omega (arith, w, x, y, length-take c.fill-fb.result c.fill-fb.new.to, length-take c.fill-fa.result c.fill-fa.new.to), c.fill-fb.ensures.3, c.fill-fa.ensures.3)
 
 pub leave_rests-standing-requires : goal.leave_rests-standing-requires
 leave_rests-standing-requires c =
     let f = fit_gives _ _ _ c.requires.0 in
-    (f.inside, f.few, f.rises, c.fill-fb.ensures.1, c.fill-fa.ensures.1)
+    (f.inside, f.few, f.rises, c.fill-fb.ensures.3, c.fill-fa.ensures.3)
 
 pub returns : goal.returns
 returns c =
     let a = c.args in
-    clears_some a.orders.now a.rows.now a.bids.now a.asks.now a.n a.period a.nb a.na a.margins.volume.0
+    clears_some a.orders.now a.rows.now a.bids.now a.asks.now a.n a.period a.margins.volume.0
     a.margins.bid.0 a.margins.ask.0 c.requires.0 c.requires.1 c.requires.2 c.requires.3 c.requires.4
-    _ _ _ _ _ _ _ _ refl c.middle-price.ensures c.fill-fb.ensures.2 c.fill-fa.ensures.2 c.put_overlaps-count.ensures.0
+    _ _ _ _ _ _ refl c.middle-price.ensures c.fill-fb.ensures.4 c.fill-fa.ensures.4 c.put_overlaps-count.ensures.0
     c.put_overlaps-count.ensures.1 c.leave_rests-standing.ensures.0 c.leave_rests-standing.ensures.1

@@ -2,26 +2,14 @@
 use mathlib.Core.Path.{sym, ap}
 use native.Mathlib.Omega.{arith}
 use Rattle.matching.specs.Orders.{Order}
-use Rattle.matching.proofs.Laws.Orders.FitLaws.{climbs_more, climbs_rise, climbs_not}
-use borrow.Author.Rules.{rules}
+use Rattle.matching.proofs.Laws.Orders.FitLaws.{climbs_rise, climbs_not}
 use Rattle.matching.proofs.fitness.rise.Goals as goal
-
-pub loop-k-init : goal.loop-k-init
-loop-k-init c = (search rules, λ j l. absurd (omega arith))
 
 pub returns-then-o-before : goal.returns-then-o-before
 returns-then-o-before c =
-    let l = c.loop-k in
     let x = ap (λ (o : Order). o.number) c.read-o.ensures in
     let y = ap (λ (o : Order). o.number) c.read-before.ensures in
-    sym (climbs_not _ _ l.k l.invariant.0 c.loop-k-test.true (omega (arith, x, y, c.if-o-before.true)))
-
-pub loop-k-preserved : goal.loop-k-preserved
-loop-k-preserved c =
-    let l = c.loop-k in
-    let x = ap (λ (o : Order). o.number) c.read-o.ensures in
-    let y = ap (λ (o : Order). o.number) c.read-before.ensures in
-    (search rules, climbs_more c.args.orders.now l.k l.invariant.0 (omega (arith, x, y, c.if-o-before.false)) l.invariant.1)
+    sym (climbs_not _ _ c.loop-k.k c.loop-k.invariant.0 c.loop-k-test.true (omega (arith, x, y, c.if-o-before.true)))
 
 pub returns : goal.returns
 returns c = sym (climbs_rise _ _ (λ j l. c.loop-k.invariant.1 j (omega arith)))

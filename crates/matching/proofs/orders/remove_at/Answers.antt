@@ -1,17 +1,15 @@
--- `remove_at`: the numbers behind place k move up by six, one by one.
+-- `remove_at`: the words behind place k move up by one order.
+use Prim.Native.Nat.{ℕ}
+use mathlib.Core.Path.{ap, ◌∙◌}
 use native.Mathlib.Omega.{arith}
+use lib.ListN.{get_or}
 use native.Mathlib.Numerals.{add-one}
-use Rattle.matching.proofs.Laws.Orders.OrderLaws.{moved, moving_start, moving_more}
+use Rattle.matching.proofs.Laws.Orders.OrderLaws.{moved, moved_past}
 use Rattle.matching.proofs.orders.remove_at.Goals as goal
-
-pub loop-j-init : goal.loop-j-init
-loop-j-init c = moving_start _ _ _ c.requires.1
-
-pub loop-j-preserved : goal.loop-j-preserved
-loop-j-preserved c =
-    moving_more _ _ _ _ _ c.requires.0 c.loop-j-test.true c.loop-j.invariant
 
 pub returns : goal.returns
 returns c =
-    let g = c.loop-j.invariant in
-    (rw (add-one c.args.k) (moved _ _ _ _ c.requires.1 g.before (λ i l u. g.here i l (omega arith))), g.past)
+    let b = c.copy_within.ensures.by_index in (
+      rw (add-one c.args.k) (moved _ _ _ _ c.requires.1 (λ i l. b.1 i 0 l) (λ i l u. b.0 i 0 l (omega arith) ∙ ap (λ (j : ℕ). get_or c.args.orders.now j 0) (omega arith))),
+      moved_past _ _ _ c.copy_within.ensures.len (λ i l. b.2 i 0 (omega arith)),
+    )

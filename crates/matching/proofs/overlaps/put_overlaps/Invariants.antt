@@ -1,3 +1,4 @@
+use lib.ListN.{length}
 use Prim.Native.Nat.{◌+◌, ◌-◌, ◌≤◌}
 use Rattle.matching.specs.Inner.Places.{fills_at}
 use Rattle.matching.proofs.Laws.Rows.OverlapLaws.{Rowing}
@@ -5,7 +6,10 @@ use Rattle.matching.proofs.overlaps.put_overlaps.Given as goal
 
 abbrev pub invariant-loop-i : goal.invariant-loop-i
 invariant-loop-i l =
-    (l.i ≤ l.nb) × (l.j ≤ l.na) × Rowing l.period l.price.0 (fills_at l.orders l.bids l.bought l.nb) (fills_at l.orders l.asks l.sold l.na) l.initial.rows l.rows l.i l.j l.a.0 l.e.0 l.count
+    let fb = fills_at l.orders l.bids.places.now l.bids.amounts.now in
+    let fa = fills_at l.orders l.asks.places.now l.asks.amounts.now in
+    (l.i ≤ length l.bids.places.now) × (l.j ≤ length l.asks.places.now)
+    × Rowing l.period l.price.0 fb fa l.initial.rows l.rows l.i l.j l.a.0 l.e.0 l.count
 
 abbrev pub decreases-loop-i : goal.decreases-loop-i
-decreases-loop-i l = l.nb + l.na - (l.i + l.j)
+decreases-loop-i l = length l.bids.places.now + length l.asks.places.now - (l.i + l.j)

@@ -1,33 +1,18 @@
 -- `clear_each`: the prices noted first; what is cleared and what is still to be cleared is the whole.
-use mathlib.Core.Path.{refl}
 use native.Mathlib.Omega.{arith}
-use Rattle.matching.proofs.Laws.Periods.PassingLaws.{passing_start, passing_ready, passing_more, passing_end}
+use Rattle.matching.proofs.Laws.Periods.PassingLaws.{passing_start, passing_more, passing_end}
 use Rattle.matching.proofs.Laws.Periods.SkipLaws.{priced_after}
 use Rattle.matching.proofs.periods.clear_each.Goals as goal
-
-pub note_prices-requires : goal.note_prices-requires
-note_prices-requires c =
-    let g = c.requires in
-    (g.0.inside, g.0.few, refl, refl)
 
 pub loop-p-init : goal.loop-p-init
 loop-p-init c =
     let t = c.note_prices in
     (passing_start _ _ _ _ c.requires.0, t.auto.high, t.auto.low, t.ensures)
 
-pub clear_met-t-requires : goal.clear_met-t-requires
-clear_met-t-requires c =
-    let g = c.requires in
-    let l = c.loop-p in
-    (passing_ready _ _ _ _ g.0 _ _ _ _ _ l.invariant.0, omega arith, l.invariant.1, l.invariant.2, l.invariant.3)
-
-pub loop-p-smaller : goal.loop-p-smaller
-loop-p-smaller c = omega arith
-
 pub loop-p-preserved : goal.loop-p-preserved
 loop-p-preserved c =
     let l = c.loop-p in
-    let t = c.clear_met-t in (
+    let t = c.clear_met-passed in (
       passing_more _ _ _ _ c.requires.0 _ _ _ _ _ l.invariant.0 _ _ _ _ c.loop-p-test.true t.ensures t.auto.orders t.auto.rows,
       l.invariant.1,
       l.invariant.2,

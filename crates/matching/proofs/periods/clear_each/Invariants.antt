@@ -1,4 +1,3 @@
-use Prim.Native.Nat.{◌-◌}
 use mathlib.Core.Path.{◌≡◌}
 use lib.ListN.{length}
 use Rattle.measures.specs.Lists.{Each}
@@ -9,8 +8,5 @@ use Rattle.matching.proofs.periods.clear_each.Given as goal
 
 abbrev pub invariant-loop-p : goal.invariant-loop-p
 invariant-loop-p l =
-    (Passing l.initial.orders l.initial.rows l.n l.end l.orders l.rows l.count l.standing l.p) × (length l.high ≡ 744) × (length l.low ≡ 744)
-    × (Each (PricedBy l.high l.low) (orders_in l.orders l.standing))
-
-abbrev pub decreases-loop-p : goal.decreases-loop-p
-decreases-loop-p l = l.end - l.p
+    (Passing l.initial.orders l.initial.rows l.n l.end l.orders l.rows l.passed.count l.passed.standing l.p) × (length l.high ≡ 744) × (length l.low ≡ 744)
+    × (Each (PricedBy l.high l.low) (orders_in l.orders l.passed.standing))

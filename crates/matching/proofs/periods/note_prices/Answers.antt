@@ -4,18 +4,15 @@ use mathlib.Core.Path.{ap, ◌∙◌}
 use native.Mathlib.Omega.{arith}
 use Rattle.matching.specs.Orders.{Order}
 use Rattle.matching.specs.Prices.{high_with, low_with}
-use Rattle.matching.proofs.Laws.Periods.SkipLaws.{noted_start, noted_more, noted_all}
+use Rattle.matching.proofs.Laws.Periods.SkipLaws.{noted_more, noted_all}
 use Rattle.matching.proofs.periods.note_prices.Goals as goal
-
-pub loop-k-init : goal.loop-k-init
-loop-k-init c = (omega arith, noted_start _ _ _ c.requires.2 c.requires.3)
 
 pub loop-k-preserved : goal.loop-k-preserved
 loop-k-preserved c =
     let l = c.loop-k in
     let o = c.read-o.ensures in
     let d = c.note_price.ensures in
-    let w = c.shared_slice_known-1.given (6 * l.k + 4) in (
+    let w = c.type_inv.orders (6 * l.k + 4) in (
       omega (arith, c.loop-k-test.true),
       rw (
         d.0 ∙ ap (λ (o : Order). high_with o.direction o.period o.price l.high) o,

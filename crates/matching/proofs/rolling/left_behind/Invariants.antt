@@ -1,10 +1,6 @@
-use Prim.Native.Nat.{◌-◌}
 use Rattle.matching.specs.Memory.{as_order}
 use Rattle.matching.proofs.Laws.Rolling.LeftOverLaws.{Leaving}
 use Rattle.matching.proofs.rolling.left_behind.Given as goal
 
 abbrev pub invariant-loop-k : goal.invariant-loop-k
 invariant-loop-k l = Leaving l.orders l.n (as_order l.incoming) l.left.0 l.k
-
-abbrev pub decreases-loop-k : goal.decreases-loop-k
-decreases-loop-k l = l.n - l.k

@@ -1,6 +1,9 @@
 -- `meet_in_turn`: the runs of the side that is met hold the counterparts, which are then met.
-use Prim.Native.Nat.{ℕ, ◌≤◌}
+use Prim.Native.Nat.{ℕ, ◌-◌, ◌≤◌}
+use mathlib.Core.Path.{sym, ap, ◌∙◌}
 use native.Mathlib.Omega.{arith}
+use Rattle.matching.specs.Inner.Runs.{key_of}
+use Rattle.matching.proofs.Laws.Laying.KeyLaws.{direction_few}
 use lib.ListN.{get_or}
 use Rattle.matching.specs.Memory.{most_word}
 use Rattle.matching.proofs.Laws.Rolling.TurnLaws.{runs_met}
@@ -10,7 +13,7 @@ pub meet_runs-requires : goal.meet_runs-requires
 meet_runs-requires c =
     let p = c.requires in
     let words : (i : ℕ) → get_or c.args.orders.now i 0 ≤ most_word =
-    λ i. let w = c.shared_slice_known-1.given i in omega arith in
+    λ i. let w = c.type_inv.orders i in omega arith in
     let side = c.side_met-side.ensures in
     let r = c.lay_runs-runs.ensures in (
       p.0,
@@ -25,5 +28,7 @@ meet_runs-requires c =
       p.5,
       p.6,
       p.7,
-      runs_met _ _ _ _ _ _ _ _ _ _ _ words (omega arith) p.3 side.0 side.1 side.2 r.0 r.1,
+      runs_met _ _ _ _ _ _ _ _ _ _ _ words (omega arith)
+          (omega (arith, p.3, direction_few c.args.direction)) (omega (arith, p.3, side.0)) side.1
+          (side.2 ∙ ap (λ (d : ℕ). key_of (1 - d) c.args.incoming.price.0) (sym p.3)) r.0 r.1,
     )

@@ -17,14 +17,6 @@ meeting-init c =
 pub loop-j-init : goal.loop-j-init
 loop-j-init c = (omega arith, found_start _ _ _ _ _ _ _ _ _)
 
-pub nearer-best-requires : goal.nearer-best-requires
-nearer-best-requires c =
-    let i = c.meeting.invariant in
-    let g = i.5 in
-    let few = g.runs.few in
-    let e = g.runs.ended c.loop-j.j c.loop-j-test.true in
-    omega (arith, few, e, i.0, c.requires.1, c.requires.4, c.requires.7, c.requires.8, c.loop-j-test.true)
-
 pub loop-j-preserved : goal.loop-j-preserved
 loop-j-preserved c =
     let g = c.meeting.invariant.5 in (
@@ -32,18 +24,6 @@ loop-j-preserved c =
       found_next _ _ _ _ _ _ _ _ _ g.runs c.requires.2 c.requires.5 _ c.loop-j-test.true _ _ c.loop-j.invariant.1 _ _
           c.nearer-best.ensures.0 c.nearer-best.ensures.1,
     )
-
-pub take_first-p-requires : goal.take_first-p-requires
-take_first-p-requires c =
-    let i = c.meeting.invariant in
-    let l = c.loop-j in
-    let g = i.5 in
-    let few = g.runs.few in
-    let f = found_whole _ _ _ _ _ _ _ _ l.j _ _ g.runs c.requires.5 (omega (arith, few, i.0, c.requires.1, c.requires.7)) l.invariant.0
-    (omega (arith, c.loop-j-test.false)) l.invariant.1 in
-    let w = meeting_room _ _ _ _ _ _ _ _ _ _ _ _ _ _ _ g _ 0 0 f c.if-best-runs.false c.requires.5 (omega (arith, few, i.0, c.requires.1, c.requires.7))
-    (omega (arith, c.requires.9, i.1)) (omega (arith, c.requires.10, i.2)) in
-    omega (arith, w, few, i.0, c.requires.1, c.requires.5, c.requires.6, c.requires.7)
 
 pub match_at-x-requires : goal.match_at-x-requires
 match_at-x-requires c =
@@ -56,30 +36,6 @@ match_at-x-requires c =
     let w = meeting_room _ _ _ _ _ _ _ _ _ _ _ _ _ _ _ g _ 0 0 f c.if-best-runs.false c.requires.5 (omega (arith, few, i.0, c.requires.1, c.requires.7))
     (omega (arith, c.requires.9, i.1)) (omega (arith, c.requires.10, i.2)) in
     omega (arith, w, c.take_first-p.ensures.0, i.3, c.requires.0, c.requires.1, c.requires.11, c.meeting-test.true)
-
-pub offset_bounds-met-count : goal.offset_bounds-met-count
-offset_bounds-met-count c =
-    record { fits = omega (arith, c.meeting-test.true, c.requires.1) }
-
-pub bounds-met-count : goal.bounds-met-count
-bounds-met-count c =
-    omega (arith, c.meeting-test.true, c.requires.9, c.meeting.invariant.1)
-
-pub offset_bounds-taken-count : goal.offset_bounds-taken-count
-offset_bounds-taken-count c =
-    record { fits = omega (arith, c.meeting-test.true, c.requires.1) }
-
-pub bounds-taken-count : goal.bounds-taken-count
-bounds-taken-count c =
-    omega (arith, c.meeting-test.true, c.requires.10, c.meeting.invariant.2)
-
-pub overflow_add-count : goal.overflow_add-count
-overflow_add-count c =
-    record { fits = omega (arith, c.meeting-test.true, c.requires.1) }
-
-pub meeting-smaller : goal.meeting-smaller
-meeting-smaller c =
-    omega (arith, c.meeting-test.true)
 
 pub meeting-preserved : goal.meeting-preserved
 meeting-preserved c =
@@ -95,7 +51,7 @@ meeting-preserved c =
       simp length-set i.1,
       simp length-set i.2,
       omega (arith, c.match_at-x.auto.rows, i.3),
-      omega (arith, eqb-false c.minus-left.result.0 0 (sym c.is_zero.ensures ∙ c.if-is_zero.false)),
+      omega (arith, eqb-false c.minus-left.result.0 0 (sym c.eq.ensures ∙ c.if-eq.false)),
       rw c.minus-left.ensures
           (meeting_more _ _ _ _ _ _ _ _ _ _ _ _ _ _ _ g l.best.run _ _ f c.if-best-runs.false c.requires.5
           (omega (arith, few, i.0, c.requires.1, c.requires.7))
@@ -116,8 +72,8 @@ returns-then-best-runs c =
     (omega (arith, c.loop-j-test.false)) l.invariant.1 in
     ends_alone _ _ _ _ _ _ _ _ _ _ _ _ _ _ _ g (f.none c.if-best-runs.true)
 
-pub returns-then-is_zero : goal.returns-then-is_zero
-returns-then-is_zero c =
+pub returns-then-eq : goal.returns-then-eq
+returns-then-eq c =
     let i = c.meeting.invariant in
     let l = c.loop-j in
     let g = i.5 in
@@ -126,7 +82,7 @@ returns-then-is_zero c =
     (omega (arith, c.loop-j-test.false)) l.invariant.1 in
     let t = c.take_first-p.ensures in
     let y = c.match_at-x.ensures in
-    let z : c.minus-left.result.0 ≡ 0 = eqb-true _ _ (sym c.is_zero.ensures ∙ c.if-is_zero.true) in
+    let z : c.minus-left.result.0 ≡ 0 = eqb-true _ _ (sym c.eq.ensures ∙ c.if-eq.true) in
     rw c.minus-left.ensures
     (ends_spent _ _ _ _ _ _ _ _ _ _ _ _ _ _ _
     (meeting_more _ _ _ _ _ _ _ _ _ _ _ _ _ _ _ g l.best.run _ _ f c.if-best-runs.false c.requires.5 (omega (arith, few, i.0, c.requires.1, c.requires.7))

@@ -10,9 +10,6 @@ abbrev pub invariant-loop-j : goal.invariant-loop-j
 invariant-loop-j l =
     (l.j ≤ l.runs) × Found l.orders l.keys l.places l.heads l.ends (1 - l.incoming.direction) l.n l.runs l.runs l.j l.best.run l.best.key
 
-abbrev pub decreases-loop-j : goal.decreases-loop-j
-decreases-loop-j l = l.runs - l.j
-
 abbrev pub invariant-meeting : goal.invariant-meeting
 invariant-meeting l =
     (length l.heads ≡ length l.initial.heads) × (length l.met ≡ length l.initial.met) × (length l.taken ≡ length l.initial.taken) × (length l.rows ≡ length l.initial.rows) × (0 < l.left.0)

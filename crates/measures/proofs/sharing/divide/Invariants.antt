@@ -1,10 +1,5 @@
-use Prim.Native.Nat.{◌-◌}
-use lib.ListN.{length}
 use Rattle.measures.proofs.SelectLaws.{Dividing}
 use Rattle.measures.proofs.sharing.divide.Given as goal
 
 abbrev pub invariant-loop-i : goal.invariant-loop-i
 invariant-loop-i l = Dividing l.d l.amounts l.initial.parts l.parts l.left l.i
-
-abbrev pub decreases-loop-i : goal.decreases-loop-i
-decreases-loop-i l = length l.amounts - l.i

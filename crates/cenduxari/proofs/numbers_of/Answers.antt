@@ -1,8 +1,0 @@
--- `numbers_of`: by cases of the answer.
-use Rattle.cenduxari.proofs.numbers_of.Goals as goal
-
-pub returns-in-Done : goal.returns-in-Done
-returns-in-Done c = rw c.in-Done.is
-
-pub returns-in-Refused : goal.returns-in-Refused
-returns-in-Refused c = rw c.in-Refused.is
