@@ -1,4 +1,5 @@
 pub mod Readable
+pub mod Phases
 pub mod Closing
 pub mod RowsIn
 pub mod Search

@@ -1,5 +1,5 @@
 // The public calls: each checks for itself, and answers for every memory and argument.
-ghost use Rattle.std.specs.Prelude.{◌≡◌, List, [], length};
+ghost use Rattle.std.specs.Prelude.{[], length};
 ghost use Rattle.book.specs.Contract.{Made, Curved};
 ghost use Rattle.book.specs.Calls.{
   call_enrol,
@@ -16,9 +16,11 @@ use crate::cancelling::{cancel_checks, cancel_effect};
 use crate::closing::close_day;
 use crate::curve::{curve_checks, write_points};
 use crate::enrolling::{enrol_checks, enrol_effect};
+use crate::lent::ReadableBook;
 use crate::offering::{Terms, offer_checks, offer_effect};
 use crate::ordering::{Wanted, order_checks, order_in_call, order_in_rolling};
 use crate::periods::{clear_checks, clear_effect};
+use crate::phase::Phase;
 use crate::places::{GIVEN, PHASE, UNITS};
 use crate::sound::check_sound;
 use crate::taking::{take_checks, take_effect};
@@ -31,9 +33,10 @@ use measures::{Energy, Price};
 pub fn curve(book: &[u64], unit: u64, day: u64, points: &mut [u64]) -> Answer
     ensures { Curved book.now points.old unit day result points.new }
 {
-    check_sound(book)?;
-    curve_checks(book, unit, day, points.len())?;
-    write_points(book, unit as usize - 1, day as usize, points);
+    let sound = check_sound(book)?;
+    let readable = ReadableBook { words: sound.words };
+    curve_checks(readable, unit, day, points.len())?;
+    write_points(readable, unit as usize - 1, day as usize, points);
     Ok(Done::NOTHING)
 }
 
@@ -41,9 +44,9 @@ pub fn curve(book: &[u64], unit: u64, day: u64, points: &mut [u64]) -> Answer
 pub fn enrol(book: &mut [u64], kind: u64, capacity: u64, asset: u64) -> Answer
     ensures { Made book.old [] (call_enrol kind capacity asset) result book.new [] }
 {
-    check_sound(book)?;
+    let sound = check_sound(book)?;
     let unit = Unit::fresh(kind, capacity, Energy(asset));
-    enrol_checks(book, unit)?;
+    enrol_checks(sound, unit)?;
     let number = book[UNITS] + 1;
     enrol_effect(book, unit);
     Ok(Done { number, count: 0 })
@@ -53,13 +56,13 @@ pub fn enrol(book: &mut [u64], kind: u64, capacity: u64, asset: u64) -> Answer
 pub fn offer(book: &mut [u64], unit: u64, partner: u64, price: u64, amounts: &[u64]) -> Answer
     ensures { Made book.old [] (call_offer unit partner price amounts.now) result book.new [] }
 {
-    check_sound(book)?;
+    let sound = check_sound(book)?;
     let terms = Terms {
         unit,
         partner,
         price: Price(price),
     };
-    offer_checks(book, terms, amounts)?;
+    offer_checks(sound, terms, amounts)?;
     let number = book[GIVEN] + 1;
     offer_effect(book, terms, amounts);
     Ok(Done { number, count: 0 })
@@ -70,11 +73,11 @@ pub fn take(book: &mut [u64], unit: u64, number: u64, quantity: u64, rows: &mut 
     ensures { Made book.old rows.old (call_take unit number quantity (length rows.old)) result book.new
         rows.new }
 {
-    check_sound(book)?;
+    let sound = check_sound(book)?;
     let mut parts = [0u64; 744];
     let energy = Energy(quantity);
-    take_checks(book, unit, number, energy, rows.len(), &mut parts)?;
-    let count = take_effect(book, unit, number, energy, &parts, rows);
+    let j = take_checks(sound, unit, number, energy, rows.len(), &mut parts)?;
+    let count = take_effect(book, unit, j, energy, &parts, rows);
     Ok(Done { number: 0, count })
 }
 
@@ -82,9 +85,9 @@ pub fn take(book: &mut [u64], unit: u64, number: u64, quantity: u64, rows: &mut 
 pub fn withdraw(book: &mut [u64], unit: u64, number: u64) -> Answer
     ensures { Made book.old [] (call_withdraw unit number) result book.new [] }
 {
-    check_sound(book)?;
-    withdraw_checks(book, unit, number)?;
-    withdraw_effect(book, number);
+    let sound = check_sound(book)?;
+    let j = withdraw_checks(sound, unit, number)?;
+    withdraw_effect(book, j);
     Ok(Done::NOTHING)
 }
 
@@ -92,9 +95,9 @@ pub fn withdraw(book: &mut [u64], unit: u64, number: u64) -> Answer
 pub fn cancel(book: &mut [u64], unit: u64, number: u64) -> Answer
     ensures { Made book.old [] (call_cancel unit number) result book.new [] }
 {
-    check_sound(book)?;
-    cancel_checks(book, unit, number)?;
-    cancel_effect(book, number);
+    let sound = check_sound(book)?;
+    let k = cancel_checks(sound, unit, number)?;
+    cancel_effect(book, k);
     Ok(Done::NOTHING)
 }
 
@@ -111,8 +114,8 @@ pub fn close(book: &mut [u64]) -> Answer
 pub fn clear(book: &mut [u64], rows: &mut [u64]) -> Answer
     ensures { Made book.old rows.old (call_clear (length rows.old)) result book.new rows.new }
 {
-    check_sound(book)?;
-    clear_checks(book, rows.len())?;
+    let sound = check_sound(book)?;
+    clear_checks(ReadableBook { words: sound.words }, rows.len())?;
     let count = clear_effect(book, rows);
     Ok(Done { number: 0, count })
 }
@@ -130,7 +133,7 @@ pub fn order(
     ensures { Made book.old rows.old (call_order unit direction period price quantity (length rows.old)) result
         book.new rows.new }
 {
-    check_sound(book)?;
+    let sound = check_sound(book)?;
     let wanted = Wanted {
         unit,
         direction,
@@ -138,9 +141,9 @@ pub fn order(
         price: Price(price),
         quantity: Energy(quantity),
     };
-    order_checks(book, wanted, rows.len())?;
+    order_checks(sound, wanted, rows.len())?;
     let number = book[GIVEN] + 1;
-    if book[PHASE] == 0 {
+    if book[PHASE] == Phase::Call as u64 {
         order_in_call(book, wanted);
         return Ok(Done { number, count: 0 });
     }

@@ -1,11 +1,12 @@
 // Closing the day: paper 01, "The eight calls", Close.
-ghost use Rattle.std.specs.Prelude.{◌≡◌, ℕ, ◌+◌, ◌-◌, ◌*◌, ◌<◌, ◌≤◌, List, length};
+ghost use Rattle.std.specs.Prelude.{◌≡◌, ◌+◌, ◌-◌, ◌*◌, ◌<◌, ◌≤◌, length};
 ghost use Rattle.book.specs.Close.{day_closed};
 ghost use Rattle.book.specs.Layout.{DAYS, UNITS, block_words, VOLUME, word, decode, Aside};
 ghost use Rattle.book.specs.Inner.Readable.{Readable};
 ghost use Rattle.book.specs.Inner.Closing.{hours, Untraded, BlockNetted, DayNetted, Netting, BlockClosed, DayOver, DaysOver};
 
 use crate::pass::joined;
+use crate::phase::Phase;
 use crate::places::{
     BLOCK, DAY_WORDS, DAYS, FIGURES, GIVEN, HOURS, LOWERED, MARK, OFFERS, ORDERS, PHASE, RAISED,
     UNITS, VOLUME,
@@ -77,7 +78,7 @@ pub(crate) fn close_day(book: &mut [u64])
         × (Aside book.old book.new) }
 {
     close_figures(book);
-    book[PHASE] = 0;
+    book[PHASE] = Phase::Call as u64;
     book[GIVEN] = 0;
     book[OFFERS] = 0;
     book[ORDERS] = 0;

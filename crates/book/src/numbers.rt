@@ -1,24 +1,25 @@
-// Open numbers: whether they differ (paper 01, "A book is sound if"), and the offer of one.
-ghost use Rattle.std.specs.Prelude.{◌≡◌, ℕ, ◌+◌, ◌-◌, ◌*◌, ◌<◌, ◌≤◌, not, List, map, length};
+// Open numbers: whether they differ (paper 01, "A book is sound if"), and the offer or the order of one.
+ghost use Rattle.std.specs.Prelude.{◌≡◌, ◌+◌, ◌-◌, ◌*◌, ◌<◌, ◌≤◌, length};
 ghost use Rattle.measures.specs.Lists.{every};
-ghost use Rattle.matching.specs.Orders.{Order as OpenOrder, rising};
+ghost use Rattle.matching.specs.Orders.{rising};
 ghost use Rattle.book.specs.Sound.{numbers_differ};
 ghost use Rattle.book.specs.Layout.{word, decode};
-ghost use Rattle.book.specs.Inner.Readable.{Readable, offer_numbers, number_free, numbers_free};
+ghost use Rattle.book.specs.Inner.Readable.{offer_numbers, number_free, numbers_free};
 ghost use Rattle.book.specs.Inner.Search.{Found, OfferFound, OrderFound};
 
+use crate::lent::ReadableBook;
 use crate::places::{AMOUNTS, OFFER_TABLE, OFFER_WORDS, OFFERS, ORDER_TABLE, ORDER_WORDS, ORDERS};
+use crate::ranges::every;
 
 // Whether the numbers of the open offers rise: each is above the one before it. The orders' numbers are matching's to test,
 // which reads them as orders.
-fn offers_rise(book: &[u64]) -> bool
-    requires { Readable book.now }
-    ensures { result ≡ rising (offer_numbers (decode book.now)) }
+fn offers_rise(book: ReadableBook<'_>) -> bool
+    ensures { result ≡ rising (offer_numbers (decode book.entry.words.now)) }
 {
-    let n = book[OFFERS] as usize;
+    let n = book.words[OFFERS] as usize;
     for j in 1..n {
-        let number = book[OFFER_TABLE + OFFER_WORDS * j];
-        let before = book[OFFER_TABLE + OFFER_WORDS * (j - 1)];
+        let number = book.words[OFFER_TABLE + OFFER_WORDS * j];
+        let before = book.words[OFFER_TABLE + OFFER_WORDS * (j - 1)];
         if number <= before {
             return false;
         }
@@ -26,8 +27,13 @@ fn offers_rise(book: &[u64]) -> bool
     true
 }
 
-// The first of n records, of so many words each, whose number is this; they begin at `table`, each with its number.
-fn find<const WORDS: usize>(book: &[u64], table: usize, n: usize, number: u64) -> Option<usize>
+// The first of n records, of so many words each, that has this number in the word looked at, which in the first stands at `table`.
+pub(crate) fn find<const WORDS: usize>(
+    book: &[u64],
+    table: usize,
+    n: usize,
+    number: u64,
+) -> Option<usize>
     requires { (1 ≤ WORDS) × (table + WORDS * n ≤ length book.now) }
     ensures { Found (λ k. word book.now (table + WORDS * k)) n number result }
 {
@@ -40,53 +46,44 @@ fn find<const WORDS: usize>(book: &[u64], table: usize, n: usize, number: u64) -
 }
 
 // The place of the open offer of a number.
-pub(crate) fn find_offer(book: &[u64], number: u64) -> Option<usize>
-    requires { Readable book.now }
-    ensures { OfferFound book.now number result }
+pub(crate) fn find_offer(book: ReadableBook<'_>, number: u64) -> Option<usize>
+    ensures { OfferFound book.entry.words.now number result }
 {
-    find::<OFFER_WORDS>(book, OFFER_TABLE, book[OFFERS] as usize, number)
+    find::<OFFER_WORDS>(book.words, OFFER_TABLE, book.words[OFFERS] as usize, number)
 }
 
 // The place of the open order of a number.
-pub(crate) fn find_order(book: &[u64], number: u64) -> Option<usize>
-    requires { Readable book.now }
-    ensures { OrderFound book.now number result }
+pub(crate) fn find_order(book: ReadableBook<'_>, number: u64) -> Option<usize>
+    ensures { OrderFound book.entry.words.now number result }
 {
-    find::<ORDER_WORDS>(book, ORDER_TABLE, book[ORDERS] as usize, number)
+    find::<ORDER_WORDS>(book.words, ORDER_TABLE, book.words[ORDERS] as usize, number)
 }
 
 // Whether no open order has this number.
-fn number_free(book: &[u64], number: u64) -> bool
-    requires { Readable book.now }
-    ensures { result ≡ number_free (decode book.now) number }
+fn number_free(book: ReadableBook<'_>, number: u64) -> bool
+    ensures { result ≡ number_free (decode book.entry.words.now) number }
 {
     find_order(book, number).is_none()
 }
 
 // Whether no open offer has an order's number.
-fn numbers_free(book: &[u64]) -> bool
-    requires { Readable book.now }
-    ensures { result ≡ numbers_free (decode book.now) }
+fn numbers_free(book: ReadableBook<'_>) -> bool
+    ensures { result ≡ numbers_free (decode book.entry.words.now) }
 {
-    let n = book[OFFERS] as usize;
-    for j in 0..n {
-        if !number_free(book, book[OFFER_TABLE + OFFER_WORDS * j]) {
-            return false;
-        }
-    }
-    true
+    every(book.words[OFFERS] as usize, |j| {
+        number_free(book, book.words[OFFER_TABLE + OFFER_WORDS * j])
+    })
 }
 
 // Whether all open numbers differ.
-pub(crate) fn numbers_differ(book: &[u64]) -> bool
-    requires { Readable book.now }
-    ensures { result ≡ numbers_differ (decode book.now) }
+pub(crate) fn numbers_differ(book: ReadableBook<'_>) -> bool
+    ensures { result ≡ numbers_differ (decode book.entry.words.now) }
 {
     if !offers_rise(book) {
         return false;
     }
-    let n = book[ORDERS] as usize;
-    if !matching::fitness::numbers_rise(&book[ORDER_TABLE..AMOUNTS], n) {
+    let n = book.words[ORDERS] as usize;
+    if !matching::fitness::numbers_rise(&book.words[ORDER_TABLE..AMOUNTS], n) {
         return false;
     }
     numbers_free(book)

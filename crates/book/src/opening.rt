@@ -1,11 +1,11 @@
 // Opening a book: paper 01, "Units of measure and the book".
-ghost use Rattle.std.specs.Prelude.{◌≡◌, ℕ, ◌+◌, ◌*◌, ◌<◌, ◌≤◌, length, drop};
+ghost use Rattle.std.specs.Prelude.{◌≡◌, ◌+◌, ◌*◌, ◌<◌, ◌≤◌, length, drop};
 ghost use Rattle.book.specs.Book.{rules_of};
-ghost use Rattle.limits.specs.Units.{most_days};
 ghost use Rattle.book.specs.Opening.{fresh, words_for, WithinBytes};
 ghost use Rattle.book.specs.Layout.{LAYOUT, layout_number, figures_start, word, decode};
 ghost use Rattle.book.specs.Contract.{Opened};
 
+use crate::phase::Phase;
 use crate::places::{
     CEILING, DAY_WORDS, DAYS, FIGURES, FLOOR, GIVEN, LAYOUT, LAYOUT_NUMBER, OFFERS, ORDERS, PHASE,
     UNITS,
@@ -14,7 +14,7 @@ use crate::{Answer, Done};
 use limits::Term;
 use measures::{Price, Refusal};
 
-// How many words a book of these days needs; 0 where there is no such book.
+// How many words a book of these days needs; 0 where there is no such book, as C asks.
 pub fn book_words(days: u64) -> u64
     ensures { (result ≡ words_for days) × (WithinBytes result days) }
 {
@@ -33,7 +33,7 @@ fn write_head(book: &mut [u64], days: u64, floor: u64, ceiling: u64)
     book[DAYS] = days;
     book[FLOOR] = floor;
     book[CEILING] = ceiling;
-    book[PHASE] = 0;
+    book[PHASE] = Phase::Call as u64;
     book[GIVEN] = 0;
     book[UNITS] = 0;
     book[OFFERS] = 0;

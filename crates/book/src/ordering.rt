@@ -1,29 +1,30 @@
 // Order (paper 01): "a unit, a direction (0 sell, 1 buy), a period, a price, a quantity."
-ghost use Rattle.std.specs.Prelude.{◌≡◌, ◌+◌, ◌-◌, ◌*◌, ◌<◌, ◌≤◌, true, [], ◌∷◌, ◌++◌, length, if◌then◌else◌, nat_eq};
+ghost use Rattle.std.specs.Prelude.{◌≡◌, ◌+◌, ◌-◌, ◌*◌, ◌<◌, ◌≤◌, true, [], ◌∷◌, ◌++◌, length, if◌then◌else◌, nat_eq, cond, IfOk};
 ghost use Rattle.measures.specs.Lists.{sum};
 ghost use Rattle.matching.specs.Orders.{order_with, leaving};
-ghost use Rattle.matching.specs.Memory.{as_order, orders_in};
+ghost use Rattle.matching.specs.Memory.{direction_number, as_order, orders_in};
 ghost use Rattle.book.specs.Book.{numbered};
 ghost use Rattle.book.specs.Layout.{DAYS, PHASE, GIVEN, UNITS, ORDERS, amounts_start, word, orders_part, decode, Aside};
 ghost use Rattle.measures.specs.Refused.{refusal_of};
 ghost use Rattle.book.specs.Refusals.{first_refusal, marked_against, orders_full};
-ghost use Rattle.book.specs.Inner.Readable.{Readable};
 ghost use Rattle.book.specs.Contract.{sound_in};
 ghost use Rattle.book.specs.Order.{order_checks, new_order, ordered_in_call, waiting};
 ghost use Rattle.book.specs.Inner.Ordering.{day_checks, order_fit_checks, NameChecked, Named, of_unit_at, against_at, OrdersPut, Rolled, RolledOn};
 
 use crate::fits::misfit;
+use crate::lent::{ReadableBook, SoundBook};
 use crate::pass::Amounts;
+use crate::phase::Phase;
 use crate::places::{
-    AMOUNTS, BLOCK, CEILING, DAY_WORDS, DAYS, DIRECTION, FIGURES, FLOOR, GIVEN, HOURS, MARK,
-    ORDER_TABLE, ORDER_WORDS, ORDERS, PERIOD, PHASE, UNIT, UNITS,
+    AMOUNTS, BLOCK, DAY_WORDS, DAYS, DIRECTION, FIGURES, GIVEN, HOURS, MARK, ORDER_TABLE,
+    ORDER_WORDS, ORDERS, PERIOD, PHASE, ROOM_FOR_ROWS, UNIT,
 };
-use crate::ranges::{Offer, energy_in, price_in, unit_known};
-use crate::trades::{book_rows, raises_net};
-use matching::orders::Order;
+use crate::ranges::{Offer, price_in, unit_known};
+use crate::trades::{BOTH_WAYS, book_rows, mark_of, raises_net};
+use matching::orders::{Direction, Matched, Order};
 use measures::{Energy, Price, Refusal};
 
-// What an order asks for.
+// What an order asks for; its direction is any number that a caller names.
 #[derive(Clone, Copy)]
 pub(crate) struct Wanted {
     pub unit: u64,
@@ -49,58 +50,55 @@ impl Wanted {
     }
 }
 
-// The checks of names, rows, price, energy, period and direction.
+// The checks of names, rows, price, energy, period and direction; where none applies, the direction.
 #[tactic(auto, using(crate::proofs::Laws::Memory::RangeFacts::held), unfolding(crate::specs::Refusals::first_refusal, crate::specs::Inner::Ordering::name_checks))]
-fn order_names(book: &[u64], wanted: Wanted, lent: usize) -> Result<(), Refusal>
-    requires { Readable book.now }
-    ensures { NameChecked book.now wanted.unit wanted.direction wanted.period wanted.price.0 wanted.quantity.0 lent (refusal_of result) }
+fn order_names(book: ReadableBook<'_>, wanted: Wanted, lent: usize) -> Result<Direction, Refusal>
+    ensures direction { IfOk result (λ direction. direction_number direction ≡ wanted.direction) }
+    ensures checked { NameChecked book.entry.words.now wanted.unit wanted.direction wanted.period wanted.price.0 wanted.quantity.0 lent (refusal_of result) }
 {
     if !unit_known(book, wanted.unit) {
         return Err(Refusal::UnknownName);
     }
-    if lent < 4464 {
+    if lent < ROOM_FOR_ROWS {
         return Err(Refusal::FewRows);
     }
     if !price_in(book, wanted.price) {
         return Err(Refusal::BadPrice);
     }
-    if !energy_in(wanted.quantity) {
+    if !wanted.quantity.can_be_declared() {
         return Err(Refusal::BadEnergy);
     }
-    if 24 * book[DAYS] <= wanted.period {
+    if 24 * book.words[DAYS] <= wanted.period {
         return Err(Refusal::BadPeriod);
     }
-    if 1 < wanted.direction {
+    let Ok(direction) = Direction::try_from(wanted.direction) else {
         return Err(Refusal::WrongParty);
-    }
-    Ok(())
+    };
+    Ok(direction)
 }
 
-// 1 where the order at place k is the unit's and of the period.
-fn of_unit_at(book: &[u64], unit: u64, period: u64, k: usize) -> u64
-    requires { (Readable book.now) × (k < word book.now ORDERS) }
-    ensures { (result ≤ 1) × (result ≡ of_unit_at book.now unit period k) }
+// Whether the order at place k is the unit's and of the period.
+fn of_unit_at(book: ReadableBook<'_>, unit: u64, period: u64, k: usize) -> bool
+    requires { k < word book.words.now ORDERS }
+    ensures { cond result 1 0 ≡ of_unit_at book.entry.words.now unit period k }
 {
     let at = ORDER_TABLE + ORDER_WORDS * k;
-    if book[at + UNIT] != unit {
-        return 0;
-    }
-    if book[at + PERIOD] != period {
-        return 0;
-    }
-    1
+    book.words[at + UNIT] == unit && book.words[at + PERIOD] == period
 }
 
-// 1 where it goes the other way too.
-fn against_at(book: &[u64], unit: u64, direction: u64, period: u64, k: usize) -> u64
-    requires { (Readable book.now) × (k < word book.now ORDERS) }
-    ensures { (result ≤ 1) × (result ≡ against_at book.now unit direction period k) }
+// Whether it goes the other way too.
+fn against_at(
+    book: ReadableBook<'_>,
+    unit: u64,
+    direction: Direction,
+    period: u64,
+    k: usize,
+) -> bool
+    requires { k < word book.words.now ORDERS }
+    ensures { cond result 1 0 ≡ against_at book.entry.words.now unit (direction_number direction) period k }
 {
     let at = ORDER_TABLE + ORDER_WORDS * k;
-    if book[at + DIRECTION] == direction {
-        return 0;
-    }
-    of_unit_at(book, unit, period, k)
+    book.words[at + DIRECTION] != u64::from(direction) && of_unit_at(book, unit, period, k)
 }
 
 // How many open orders a unit has in a period, and how many of these go the other way.
@@ -110,78 +108,74 @@ struct Seen {
     against: u64,
 }
 
-fn unit_orders(book: &[u64], unit: u64, direction: u64, period: u64) -> Seen
-    requires { Readable book.now }
-    ensures { (result.stand ≡ sum (word book.now ORDERS) (of_unit_at book.now unit period))
-        × (result.against ≡ sum (word book.now ORDERS) (against_at book.now unit direction period)) }
+fn unit_orders(book: ReadableBook<'_>, unit: u64, direction: Direction, period: u64) -> Seen
+    ensures { (result.stand ≡ sum (word book.entry.words.now ORDERS) (of_unit_at book.entry.words.now unit period))
+        × (result.against ≡ sum (word book.entry.words.now ORDERS) (against_at book.entry.words.now unit (direction_number direction) period)) }
 {
-    let n = book[ORDERS] as usize;
+    let n = book.words[ORDERS] as usize;
     let mut stand: u64 = 0;
     let mut against: u64 = 0;
     for k in 0..n {
-        stand += of_unit_at(book, unit, period, k);
-        against += against_at(book, unit, direction, period, k);
+        stand += u64::from(of_unit_at(book, unit, period, k));
+        against += u64::from(against_at(book, unit, direction, period, k));
     }
     Seen { stand, against }
 }
 
 // How many open orders count against two: none in the rolling phase.
-fn counted(book: &[u64], stand: u64) -> u64
-    requires { Readable book.now }
-    ensures { result ≡ (if nat_eq (word book.now PHASE) 0 then stand else 0) }
+fn counted(book: ReadableBook<'_>, stand: u64) -> u64
+    ensures { result ≡ (if nat_eq (word book.entry.words.now PHASE) 0 then stand else 0) }
 {
-    if book[PHASE] != 0 {
+    if book.words[PHASE] != Phase::Call as u64 {
         return 0;
     }
     stand
 }
 
 // Whether today's mark has the other direction.
-fn marked_against(direction: u64, mark: u64) -> bool
-    requires { direction ≤ 1 }
-    ensures { result ≡ marked_against direction mark }
+fn marked_against(direction: Direction, mark: u64) -> bool
+    ensures { result ≡ marked_against (direction_number direction) mark }
 {
-    if mark == 3 {
+    if mark == BOTH_WAYS {
         return true;
     }
-    mark == 2 - direction
+    mark == mark_of(direction.opposite())
 }
 
 // Whether 256 orders stand open and this one, or some of it, would wait. Its number is not given yet; matching does not ask
 // for it.
-fn lacks_place(book: &[u64], wanted: Wanted) -> bool
-    requires { Readable book.now }
-    ensures { result ≡ (orders_full (decode book.now) (new_order (decode book.now) wanted.unit wanted.direction wanted.period
+fn lacks_place(book: ReadableBook<'_>, wanted: Wanted) -> bool
+    ensures { result ≡ (orders_full (decode book.entry.words.now) (new_order (decode book.entry.words.now) wanted.unit wanted.direction wanted.period
         wanted.price.0 wanted.quantity.0)).applies }
 {
-    if book[ORDERS] < Order::MOST {
+    if book.words[ORDERS] < Order::MOST {
         return false;
     }
-    if book[PHASE] == 0 {
+    if book.words[PHASE] == Phase::Call as u64 {
         return true;
     }
     let o = wanted.numbered(0);
-    let n = book[ORDERS] as usize;
-    let left = matching::rolling::left_over(&book[ORDER_TABLE..AMOUNTS], n, o);
+    let n = book.words[ORDERS] as usize;
+    let left = matching::rolling::left_over(&book.words[ORDER_TABLE..AMOUNTS], n, o);
     left != Energy(0)
 }
 
 // The checks of the day and the tables.
-fn order_days(book: &[u64], wanted: Wanted) -> Result<(), Refusal>
-    requires { (Readable book.now) × (1 ≤ wanted.unit) × (wanted.unit ≤ word book.now UNITS) × (wanted.direction ≤ 1)
-        × (wanted.period < 24 * word book.now DAYS) }
-    ensures { refusal_of result ≡ first_refusal (day_checks (decode book.now) wanted.unit wanted.direction wanted.period wanted.price.0
+fn order_days(book: ReadableBook<'_>, wanted: Wanted, direction: Direction) -> Result<(), Refusal>
+    requires { (1 ≤ wanted.unit) × (wanted.unit ≤ word book.words.now UNITS) × (direction_number direction ≡ wanted.direction)
+        × (wanted.period < 24 * word book.words.now DAYS) }
+    ensures { refusal_of result ≡ first_refusal (day_checks (decode book.entry.words.now) wanted.unit wanted.direction wanted.period wanted.price.0
         wanted.quantity.0) }
 {
-    let seen = unit_orders(book, wanted.unit, wanted.direction, wanted.period);
+    let seen = unit_orders(book, wanted.unit, direction, wanted.period);
     if 0 < seen.against {
         return Err(Refusal::OtherDirection);
     }
     let p = wanted.period as usize;
     let k = wanted.unit as usize - 1;
     let at = FIGURES + DAY_WORDS * (p / HOURS) + BLOCK * k + p % HOURS;
-    let mark = book[at + MARK];
-    if marked_against(wanted.direction, mark) {
+    let mark = book.words[at + MARK];
+    if marked_against(direction, mark) {
         return Err(Refusal::OtherDirection);
     }
     let two = counted(book, seen.stand);
@@ -191,22 +185,23 @@ fn order_days(book: &[u64], wanted: Wanted) -> Result<(), Refusal>
     if lacks_place(book, wanted) {
         return Err(Refusal::TablesFull);
     }
-    if Offer::NUMBERS <= book[GIVEN] {
+    if Offer::NUMBERS <= book.words[GIVEN] {
         return Err(Refusal::NumbersUsed);
     }
     Ok(())
 }
 
 // The checks of the limits: the quantity stands alone in its period, raising or lowering.
-fn order_fit(book: &[u64], wanted: Wanted) -> Result<(), Refusal>
-    requires { (sound_in book.now ≡ true) × (Named book.now wanted.unit wanted.direction wanted.period wanted.quantity.0) }
-    ensures { refusal_of result ≡ first_refusal (order_fit_checks (decode book.now) wanted.unit wanted.direction wanted.period wanted.quantity.0) }
+#[tactic(auto, using(crate::proofs::Laws::Answer::MadeLaws::sound_readable))]
+fn order_fit(book: SoundBook<'_>, wanted: Wanted, direction: Direction) -> Result<(), Refusal>
+    requires { (direction_number direction ≡ wanted.direction) × (Named book.words.now wanted.unit wanted.direction wanted.period wanted.quantity.0) }
+    ensures { refusal_of result ≡ first_refusal (order_fit_checks (decode book.entry.words.now) wanted.unit wanted.direction wanted.period wanted.quantity.0) }
 {
     let mut declared = Amounts {
         raising: [0; 744],
         lowering: [0; 744],
     };
-    if raises_net(book, wanted.unit, wanted.direction) {
+    if raises_net(ReadableBook { words: book.words }, wanted.unit, direction) {
         declared.raising[wanted.period as usize] = wanted.quantity.0;
         return misfit(book, wanted.unit, &mut declared);
     }
@@ -215,14 +210,14 @@ fn order_fit(book: &[u64], wanted: Wanted) -> Result<(), Refusal>
 }
 
 // The checks of an order behind that of soundness.
-pub(crate) fn order_checks(book: &[u64], wanted: Wanted, lent: usize) -> Result<(), Refusal>
-    requires { sound_in book.now ≡ true }
-    ensures { refusal_of result ≡ first_refusal (order_checks (decode book.now) wanted.unit wanted.direction wanted.period wanted.price.0
+pub(crate) fn order_checks(book: SoundBook<'_>, wanted: Wanted, lent: usize) -> Result<(), Refusal>
+    ensures { refusal_of result ≡ first_refusal (order_checks (decode book.entry.words.now) wanted.unit wanted.direction wanted.period wanted.price.0
         wanted.quantity.0 lent) }
 {
-    order_names(book, wanted, lent)?;
-    order_days(book, wanted)?;
-    order_fit(book, wanted)
+    let readable = ReadableBook { words: book.words };
+    let direction = order_names(readable, wanted, lent)?;
+    order_days(readable, wanted, direction)?;
+    order_fit(book, wanted, direction)
 }
 
 // An order waits behind those that stand open.
@@ -232,6 +227,7 @@ fn append(book: &mut [u64], o: Order)
         ++ (as_order o ∷ [])) }
 {
     let n = book[ORDERS];
+    // a place is free, so it is taken
     matching::orders::write(
         &mut book[ORDER_TABLE..AMOUNTS],
         n as usize + 1,
@@ -264,33 +260,16 @@ pub(crate) fn order_in_call(book: &mut [u64], wanted: Wanted)
     next_number(book);
 }
 
-// What is left of an order that met others, and its count of rows.
-#[derive(Clone, Copy)]
-struct Rest {
-    left: Energy,
-    count: usize,
-}
-
 // An order meets those that stand open.
-fn meet_orders(book: &mut [u64], o: Order, rows: &mut [u64]) -> Rest
+fn meet_orders(book: &mut [u64], o: Order, rows: &mut [u64]) -> Matched
     requires { (sound_in book.old ≡ true) × (4464 ≤ length rows.old) }
     ensures { Rolled book.old book.new rows.old rows.new (as_order o) result.left.0 result.count }
 {
     let n = book[ORDERS];
     let met = matching::rolling::meet(&mut book[ORDER_TABLE..AMOUNTS], n as usize, o, rows);
-    match met {
-        None => Rest {
-            left: Energy(0),
-            count: 0,
-        },
-        Some(done) => {
-            book[ORDERS] = done.standing as u64;
-            Rest {
-                left: done.left,
-                count: done.count,
-            }
-        }
-    }
+    let Some(met) = met else { unreachable!() };
+    book[ORDERS] = met.standing as u64;
+    met
 }
 
 // "the rest waits"
@@ -315,9 +294,9 @@ pub(crate) fn order_in_rolling(book: &mut [u64], wanted: Wanted, rows: &mut [u64
 {
     let number = book[GIVEN] + 1;
     let o = wanted.numbered(number);
-    let rest = meet_orders(book, o, rows);
-    rest_waits(book, o, rest.left);
-    book_rows(book, rows, rest.count);
+    let met = meet_orders(book, o, rows);
+    rest_waits(book, o, met.left);
+    book_rows(book, rows, met.count);
     next_number(book);
-    rest.count
+    met.count
 }

@@ -1,135 +1,133 @@
 // Whether open orders may stand together: paper 01, "A book is sound if".
-ghost use Rattle.std.specs.Prelude.{◌≡◌, ◌+◌, ◌-◌, ◌*◌, ◌<◌, ◌≤◌, true, not, length};
+ghost use Rattle.std.specs.Prelude.{◌≡◌, ◌<◌, ◌≤◌, true, not};
 ghost use Rattle.measures.specs.Lists.{all};
 ghost use Rattle.matching.specs.Memory.{order_at};
 ghost use Rattle.book.specs.Sound.{one_direction};
 ghost use Rattle.limits.specs.Units.{periods};
-ghost use Rattle.book.specs.Layout.{DAYS, CEILING, PHASE, ORDERS, word, orders_part, decode};
-ghost use Rattle.book.specs.Inner.Readable.{Ranged, pairs_fit};
-ghost use Rattle.book.specs.Inner.Whole.{OrderLinks, Alike, Prices, PricesKept, crossless, Priced, pairs_before, OrderStands};
+ghost use Rattle.book.specs.Layout.{DAYS, PHASE, ORDERS, word, orders_part, decode};
+ghost use Rattle.book.specs.Inner.Readable.{pairs_fit};
+ghost use Rattle.book.specs.Inner.Whole.{OrderLinks, Alike, PricesNoted, PricesKept, crossless, Priced, pairs_before, OrderStands};
 
+use crate::lent::RangedBook;
+use crate::phase::Phase;
 use crate::places::{
     DAYS, DIRECTION, ORDER_TABLE, ORDER_WORDS, ORDERS, PERIOD, PHASE, PRICE, UNIT,
 };
-use crate::standing::Links;
-use matching::periods::note_price;
+use crate::standing::Chains;
+use matching::orders::Direction;
+use matching::periods::Prices;
 use measures::Price;
 
 // The place of an order before the one at place k with its unit and period: the orders of the unit and day and those of the
-// period are walked together, so that the shorter way ends it.
-fn find_alike(book: &[u64], k: usize, own: Links<'_>, peers: Links<'_>) -> Option<usize>
-    requires { (Ranged book.now) × (k < word book.now ORDERS) × (OrderLinks book.now own peers) }
-    ensures { Alike book.now k result }
+// period are walked together, so that the shorter way ends it; the loop follows links and counts no index.
+fn find_alike(book: RangedBook<'_>, k: usize, chains: Chains<'_>) -> Option<usize>
+    requires { (k < word book.words.now ORDERS) × (OrderLinks book.words.now chains.days chains.periods) }
+    ensures { Alike book.entry.words.now k result }
 {
     let at = ORDER_TABLE + ORDER_WORDS * k;
-    let unit = book[at + UNIT];
-    let period = book[at + PERIOD];
-    let mut day_next = own.before(k);
-    let mut period_next = peers.before(k);
+    let unit = book.words[at + UNIT];
+    let period = book.words[at + PERIOD];
+    let mut day_next = chains.days.before(k);
+    let mut period_next = chains.periods.before(k);
     while let Some(a) = day_next {
         let Some(b) = period_next else {
             return None;
         };
-        if book[ORDER_TABLE + ORDER_WORDS * a + PERIOD] == period {
+        if book.words[ORDER_TABLE + ORDER_WORDS * a + PERIOD] == period {
             return Some(a);
         }
-        if book[ORDER_TABLE + ORDER_WORDS * b + UNIT] == unit {
+        if book.words[ORDER_TABLE + ORDER_WORDS * b + UNIT] == unit {
             return Some(b);
         }
-        day_next = own.before(a);
-        period_next = peers.before(b);
+        day_next = chains.days.before(a);
+        period_next = chains.periods.before(b);
     }
     None
 }
 
 // Whether the order at place k goes the same way as the orders of its unit before it in its period, which go one way.
-fn one_direction(book: &[u64], k: usize, own: Links<'_>, peers: Links<'_>) -> bool
-    requires { (Ranged book.now) × (k < word book.now ORDERS) × (OrderLinks book.now own peers)
-        × (pairs_before book.now k ≡ true) }
-    ensures { result ≡ all k (λ j. one_direction (order_at (orders_part book.now) k) (order_at (orders_part book.now) j)) }
+fn one_direction(book: RangedBook<'_>, k: usize, chains: Chains<'_>) -> bool
+    requires { (k < word book.words.now ORDERS) × (OrderLinks book.words.now chains.days chains.periods)
+        × (pairs_before book.words.now k ≡ true) }
+    ensures { result ≡ all k (λ j. one_direction (order_at (orders_part book.entry.words.now) k) (order_at (orders_part book.entry.words.now) j)) }
 {
-    let Some(t) = find_alike(book, k, own, peers) else {
+    let Some(t) = find_alike(book, k, chains) else {
         return true;
     };
-    book[ORDER_TABLE + ORDER_WORDS * t + DIRECTION]
-        == book[ORDER_TABLE + ORDER_WORDS * k + DIRECTION]
+    book.words[ORDER_TABLE + ORDER_WORDS * t + DIRECTION]
+        == book.words[ORDER_TABLE + ORDER_WORDS * k + DIRECTION]
 }
 
-// Whether the order at place k crosses one before it; `high` and `low` stay apart, as matching's `note_price` takes them.
-fn crosses(book: &[u64], k: usize, high: &[u64], low: &[u64]) -> bool
-    requires { (Ranged book.now) × (word book.now CEILING ≤ 10000000) × (k < word book.now ORDERS)
-        × (periods (word book.now DAYS) ≤ length high.now) × (periods (word book.now DAYS) ≤ length low.now)
-        × (Prices book.now k high.now low.now) }
-    ensures { result ≡ not (all k (crossless book.now k)) }
+// Whether the order at place k crosses one before it.
+#[tactic(auto, using(crate::proofs::Laws::Check::ShareLaws::order_ranges, crate::proofs::Laws::Check::TogetherLaws::crossings))]
+fn crosses<const PERIODS: usize>(book: RangedBook<'_>, k: usize, prices: &Prices<PERIODS>) -> bool
+    requires { (k < word book.words.now ORDERS) × (periods (word book.words.now DAYS) ≤ PERIODS)
+        × (PricesNoted book.words.now k prices.now.high prices.now.low) }
+    ensures { result ≡ not (all k (crossless book.entry.words.now k)) }
 {
     let at = ORDER_TABLE + ORDER_WORDS * k;
-    let p = book[at + PERIOD] as usize;
-    let price = book[at + PRICE];
-    if book[at + DIRECTION] == 1 {
-        if low[p] <= price {
-            return true;
-        }
-        return false;
+    let p = book.words[at + PERIOD] as usize;
+    let price = book.words[at + PRICE];
+    if book.words[at + DIRECTION] == u64::from(Direction::Buy) {
+        return prices.low[p] <= price;
     }
-    if price < high[p] {
-        return true;
-    }
-    false
+    price < prices.high[p]
 }
 
 // Whether the order at place k crosses none before it; its price is then entered.
-fn stands_apart(book: &[u64], k: usize, high: &mut [u64], low: &mut [u64]) -> bool
-    requires { (Ranged book.now) × (word book.now CEILING ≤ 10000000) × (k < word book.now ORDERS)
-        × (periods (word book.now DAYS) ≤ length high.old) × (periods (word book.now DAYS) ≤ length low.old)
-        × (Prices book.now k high.old low.old) }
-    ensures { Priced book.now k result high.new low.new }
+fn stands_apart<const PERIODS: usize>(
+    book: RangedBook<'_>,
+    k: usize,
+    prices: &mut Prices<PERIODS>,
+) -> bool
+    requires { (k < word book.words.now ORDERS) × (periods (word book.words.now DAYS) ≤ PERIODS)
+        × (PricesNoted book.words.now k prices.old.high prices.old.low) }
+    ensures { Priced book.entry.words.now k result prices.new.high prices.new.low }
 {
-    if crosses(book, k, high, low) {
+    if crosses(book, k, prices) {
         return false;
     }
     let at = ORDER_TABLE + ORDER_WORDS * k;
-    let p = book[at + PERIOD] as usize;
-    note_price(book[at + DIRECTION], p, Price(book[at + PRICE]), high, low);
+    let p = book.words[at + PERIOD] as usize;
+    prices.note(book.words[at + DIRECTION], p, Price(book.words[at + PRICE]));
     true
 }
 
 // Whether the order at place k may stand with each before it.
-fn order_stands(
-    book: &[u64],
+fn order_stands<const PERIODS: usize>(
+    book: RangedBook<'_>,
     k: usize,
-    own: Links<'_>,
-    peers: Links<'_>,
-    high: &mut [u64],
-    low: &mut [u64],
+    chains: Chains<'_>,
+    prices: &mut Prices<PERIODS>,
 ) -> bool
-    requires { (Ranged book.now) × (word book.now CEILING ≤ 10000000) × (k < word book.now ORDERS)
-        × (OrderLinks book.now own peers) × (pairs_before book.now k ≡ true) × (PricesKept book.now k high.old low.old) }
-    ensures { OrderStands book.now k result high.new low.new }
+    requires { (k < word book.words.now ORDERS) × (OrderLinks book.words.now chains.days chains.periods)
+        × (pairs_before book.words.now k ≡ true) × (word book.words.now PHASE ≡ 1 → periods (word book.words.now DAYS) ≤ PERIODS)
+        × (PricesKept book.words.now k prices.old.high prices.old.low) }
+    ensures { OrderStands book.entry.words.now k result prices.new.high prices.new.low }
 {
-    if !one_direction(book, k, own, peers) {
+    if !one_direction(book, k, chains) {
         return false;
     }
-    if book[PHASE] != 1 {
+    if book.words[PHASE] != Phase::Rolling as u64 {
         return true;
     }
-    stands_apart(book, k, high, low)
+    stands_apart(book, k, prices)
 }
 
 // Whether the orders stand together, linked by unit and day and by period; no price is entered yet.
-fn all_stand(
-    book: &[u64],
-    own: Links<'_>,
-    peers: Links<'_>,
-    high: &mut [u64],
-    low: &mut [u64],
+fn all_stand<const PERIODS: usize>(
+    book: RangedBook<'_>,
+    chains: Chains<'_>,
+    prices: &mut Prices<PERIODS>,
 ) -> bool
-    requires { (Ranged book.now) × (word book.now CEILING ≤ 10000000) × (OrderLinks book.now own peers)
-        × (PricesKept book.now 0 high.old low.old) }
-    ensures { result ≡ pairs_fit (word book.now PHASE) (decode book.now).orders }
+    requires { (OrderLinks book.words.now chains.days chains.periods)
+        × (word book.words.now PHASE ≡ 1 → periods (word book.words.now DAYS) ≤ PERIODS)
+        × (PricesKept book.words.now 0 prices.old.high prices.old.low) }
+    ensures { result ≡ pairs_fit (word book.entry.words.now PHASE) (decode book.entry.words.now).orders }
 {
-    let n = book[ORDERS] as usize;
+    let n = book.words[ORDERS] as usize;
     for k in 0..n {
-        if !order_stands(book, k, own, peers, high, low) {
+        if !order_stands(book, k, chains, prices) {
             return false;
         }
     }
@@ -137,26 +135,28 @@ fn all_stand(
 }
 
 // The same with tables of prices of this size, which only the rolling phase asks for.
-fn stand_in<const PERIODS: usize>(book: &[u64], own: Links<'_>, peers: Links<'_>) -> bool
-    requires { (Ranged book.now) × (word book.now CEILING ≤ 10000000) × (OrderLinks book.now own peers)
-        × (PERIODS ≤ 744) × (word book.now PHASE ≡ 1 → periods (word book.now DAYS) ≤ PERIODS) }
-    ensures { result ≡ pairs_fit (word book.now PHASE) (decode book.now).orders }
+fn stand_in<const PERIODS: usize>(book: RangedBook<'_>, chains: Chains<'_>) -> bool
+    requires { (OrderLinks book.words.now chains.days chains.periods)
+        × (PERIODS ≤ 744) × (word book.words.now PHASE ≡ 1 → periods (word book.words.now DAYS) ≤ PERIODS) }
+    ensures { result ≡ pairs_fit (word book.entry.words.now PHASE) (decode book.entry.words.now).orders }
 {
-    let mut high = [0u64; PERIODS];
-    let mut low = [Price::MOST + 1; PERIODS];
-    all_stand(book, own, peers, &mut high, &mut low)
+    let mut prices = Prices {
+        high: [0; PERIODS],
+        low: [Price::MOST + 1; PERIODS],
+    };
+    all_stand(book, chains, &mut prices)
 }
 
 // The same: before the rolling phase no price is entered, and a week asks for small tables.
-pub(crate) fn orders_fit(book: &[u64], own: Links<'_>, peers: Links<'_>) -> bool
-    requires { (Ranged book.now) × (word book.now CEILING ≤ 10000000) × (OrderLinks book.now own peers) }
-    ensures { result ≡ pairs_fit (word book.now PHASE) (decode book.now).orders }
+pub(crate) fn orders_fit(book: RangedBook<'_>, chains: Chains<'_>) -> bool
+    requires { OrderLinks book.words.now chains.days chains.periods }
+    ensures { result ≡ pairs_fit (word book.entry.words.now PHASE) (decode book.entry.words.now).orders }
 {
-    if book[PHASE] != 1 {
-        return stand_in::<1>(book, own, peers);
+    if book.words[PHASE] != Phase::Rolling as u64 {
+        return stand_in::<1>(book, chains);
     }
-    if book[DAYS] <= 7 {
-        return stand_in::<168>(book, own, peers);
+    if book.words[DAYS] <= 7 {
+        return stand_in::<168>(book, chains);
     }
-    stand_in::<744>(book, own, peers)
+    stand_in::<744>(book, chains)
 }

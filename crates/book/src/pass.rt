@@ -1,12 +1,12 @@
 // The pass over the figures of a unit's day: its tests are joined in one word and made once, so that no hour branches.
-ghost use Rattle.std.specs.Prelude.{◌≡◌, ℕ, ◌+◌, ◌-◌, ◌*◌, ◌<◌, ◌≤◌, length};
+ghost use Rattle.std.specs.Prelude.{◌≡◌, ℕ, ◌+◌, ◌<◌, ◌≤◌, length, slice_index};
+ghost use Rattle.measures.specs.Ranges.{most_energy};
 ghost use Rattle.book.specs.Layout.{block_words};
-ghost use Rattle.book.specs.Inner.Fitting.{Below};
+ghost use Rattle.book.specs.Inner.Fitting.{Below, Added};
 ghost use Rattle.book.specs.Inner.Pass.{Same, Low, most_open, Joined, CellFits, Passed, day_cell, Together, DaysJoined, HourLimits};
 
 use crate::places::{HOURS, LOWERED, MARK, RAISED, VOLUME};
 use limits::Unit;
-use measures::Energy;
 
 // The largest word that is no fault.
 pub(crate) const LOW: u64 = 1_099_511_627_775;
@@ -126,13 +126,23 @@ pub(crate) fn all_days<F: Fn(usize) -> Sums>(days: usize, day: F) -> Sums
     s
 }
 
-// The hour limits of a unit go to an empty table.
-pub(crate) fn hour_limits(kind: u64, capacity: u64, limits: &mut [u64])
-    requires { (length limits.old ≡ 24) × (Below 0 limits.old) }
-    ensures { HourLimits kind capacity 24 limits.new }
+// The hour limits of a unit.
+pub(crate) fn hour_limits(unit: Unit) -> [u64; HOURS]
+    ensures { HourLimits unit.kind unit.capacity 24 result }
 {
-    let unit = Unit::fresh(kind, capacity, Energy(0));
-    for h in 0..HOURS {
-        limits[h] = unit.hour_limit(h as u64).0;
+    let mut limits = [0; HOURS];
+    for (h, limit) in limits.iter_mut().enumerate() {
+        *limit = unit.hour_limit(h as u64).0;
+    }
+    limits
+}
+
+// Adds amounts to the first totals. A `zip` of both was tried; its proof did not close, for what is written through it is not known.
+pub(crate) fn add_amounts(amounts: &[u64], totals: &mut [u64])
+    requires { (length amounts.now ≤ length totals.old) × (Below most_energy amounts.now) × (Below 2000000000000 totals.old) }
+    ensures { Added (length amounts.now) totals.old totals.new (λ i. slice_index amounts.now i) most_energy }
+{
+    for (i, amount) in amounts.iter().enumerate() {
+        totals[i] += *amount;
     }
 }

@@ -3,25 +3,25 @@ ghost use Rattle.std.specs.Prelude.{◌≡◌, ◌≤◌, true, length};
 ghost use Rattle.book.specs.Layout.{decode};
 ghost use Rattle.measures.specs.Refused.{refusal_of};
 ghost use Rattle.book.specs.Refusals.{first_refusal};
-ghost use Rattle.book.specs.Inner.Readable.{Readable};
 ghost use Rattle.book.specs.Contract.{sound_in};
 ghost use Rattle.book.specs.Clear.{clear_checks};
 ghost use Rattle.book.specs.Inner.Periods.{Swept, AllCleared};
 
-use crate::places::{AMOUNTS, DAYS, ORDER_TABLE, ORDERS, PHASE};
+use crate::lent::ReadableBook;
+use crate::phase::Phase;
+use crate::places::{AMOUNTS, DAYS, ORDER_TABLE, ORDERS, PHASE, ROOM_FOR_ROWS};
 use matching::periods::clear_periods;
 use measures::Refusal;
 
 // The checks of a clear behind that of soundness.
 #[tactic(auto, using(crate::proofs::Laws::Memory::RangeFacts::held, crate::proofs::Laws::Answer::MadeLaws::sound_readable), unfolding(crate::specs::Refusals::first_refusal))]
-pub(crate) fn clear_checks(book: &[u64], lent: usize) -> Result<(), Refusal>
-    requires { Readable book.now }
-    ensures { refusal_of result ≡ first_refusal (clear_checks (decode book.now) lent) }
+pub(crate) fn clear_checks(book: ReadableBook<'_>, lent: usize) -> Result<(), Refusal>
+    ensures { refusal_of result ≡ first_refusal (clear_checks (decode book.entry.words.now) lent) }
 {
-    if lent < 4464 {
+    if lent < ROOM_FOR_ROWS {
         return Err(Refusal::FewRows);
     }
-    if book[PHASE] == 1 {
+    if book.words[PHASE] == Phase::Rolling as u64 {
         return Err(Refusal::ClearInRolling);
     }
     Ok(())
@@ -34,14 +34,11 @@ fn sweep(book: &mut [u64], rows: &mut [u64]) -> usize
 {
     let n = book[ORDERS] as usize;
     let end = 24 * book[DAYS];
-    let t = clear_periods(&mut book[ORDER_TABLE..AMOUNTS], n, end, rows);
-    match t {
-        None => 0,
-        Some(done) => {
-            book[ORDERS] = done.standing as u64;
-            done.count
-        }
-    }
+    let Some(cleared) = clear_periods(&mut book[ORDER_TABLE..AMOUNTS], n, end, rows) else {
+        unreachable!()
+    };
+    book[ORDERS] = cleared.standing as u64;
+    cleared.count
 }
 
 // Clears each period of a sound book, books the rows and begins the rolling phase; how many rows there are.
@@ -51,6 +48,6 @@ pub(crate) fn clear_effect(book: &mut [u64], rows: &mut [u64]) -> usize
 {
     let count = sweep(book, rows);
     crate::trades::book_rows(book, rows, count);
-    book[PHASE] = 1;
+    book[PHASE] = Phase::Rolling as u64;
     count
 }

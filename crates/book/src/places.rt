@@ -1,4 +1,5 @@
-// Where memory holds a book. Each place is written here and in specs/Layout.antt, and nowhere else.
+// Where memory holds a book. Each place is written here and in specs/Layout.antt, and nowhere else, but for the words of an order, which
+// matching has as `Order::WORDS` and those below it. Records in words of lent memory are walked by their number: they are no items of a slice.
 
 // The book's own words.
 pub const DAYS: usize = 0;
@@ -76,6 +77,9 @@ pub const VOLUME: usize = 96;
 
 // The hours of a day.
 pub const HOURS: usize = 24;
+
+// No place: how many words the rows of a call may fill, 744 of them.
+pub const ROOM_FOR_ROWS: usize = 4_464;
 
 // How many words a book of one day needs.
 pub const ONE_DAY: usize = 16_728;

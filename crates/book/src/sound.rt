@@ -1,25 +1,26 @@
 // Whether memory holds a sound book: paper 01, "A book is sound if".
-ghost use Rattle.std.specs.Prelude.{◌≡◌, ◌*◌, ◌<◌, ◌≤◌, ◌&&◌, cond, length};
+ghost use Rattle.std.specs.Prelude.{◌≡◌, ◌*◌, ◌<◌, ◌≤◌, ◌&&◌, cond, length, IfOk};
 ghost use Rattle.measures.specs.Refused.{refusal_of};
-ghost use Rattle.book.specs.Layout.{DAYS, CEILING, PHASE, word, decode};
+ghost use Rattle.book.specs.Layout.{DAYS, PHASE, word, decode};
 ghost use Rattle.book.specs.Contract.{sound_in};
-ghost use Rattle.book.specs.Inner.Readable.{Ranged, units_whole, pairs_fit};
+ghost use Rattle.book.specs.Inner.Readable.{units_whole, pairs_fit};
 ghost use Rattle.book.specs.Inner.Fitting.{Below};
 
+use crate::lent::{RangedBook, ReadableBook, SoundBook};
 use crate::numbers::numbers_differ;
 use crate::pairs::orders_fit;
 use crate::places::{DAY_WORDS, DAYS, FIGURES, LAYOUT, LAYOUT_NUMBER, ORDERS};
 use crate::ranges::{head_in, offers_in, orders_in, units_in};
-use crate::standing::{Links, link_orders};
+use crate::standing::{Chains, Links, link_orders};
 use crate::whole::units_fit;
 use measures::Refusal;
 
 // Whether the orders may stand together and all units fit; `last` and `firsts` are empty, with room for each unit's days and
 // for each period.
-fn linked_fit(book: &[u64], last: &mut [u64], firsts: &mut [u64]) -> bool
-    requires { (Ranged book.now) × (word book.now CEILING ≤ 10000000) × (64 * word book.now DAYS ≤ length last.old) × (Below 0 last.old)
-        × (24 * word book.now DAYS ≤ length firsts.old) × (Below 0 firsts.old) }
-    ensures { result ≡ (pairs_fit (word book.now PHASE) (decode book.now).orders && units_whole (decode book.now)) }
+fn linked_fit(book: RangedBook<'_>, last: &mut [u64], firsts: &mut [u64]) -> bool
+    requires { (64 * word book.words.now DAYS ≤ length last.old) × (Below 0 last.old)
+        × (24 * word book.words.now DAYS ≤ length firsts.old) × (Below 0 firsts.old) }
+    ensures { result ≡ (pairs_fit (word book.entry.words.now PHASE) (decode book.entry.words.now).orders && units_whole (decode book.entry.words.now)) }
 {
     let mut own = [0u64; 256];
     let mut peers = [0u64; 256];
@@ -29,17 +30,17 @@ fn linked_fit(book: &[u64], last: &mut [u64], firsts: &mut [u64]) -> bool
         last: firsts,
         before: &peers,
     };
-    if !orders_fit(book, days, periods) {
+    if !orders_fit(book, Chains { days, periods }) {
         return false;
     }
     units_fit(book, days)
 }
 
 // The same with tables of these sizes.
-fn linked_fit_in<const LAST: usize, const FIRSTS: usize>(book: &[u64]) -> bool
-    requires { (Ranged book.now) × (word book.now CEILING ≤ 10000000) × (64 * word book.now DAYS ≤ LAST) × (LAST ≤ 1984)
-        × (24 * word book.now DAYS ≤ FIRSTS) × (FIRSTS ≤ 744) }
-    ensures { result ≡ (pairs_fit (word book.now PHASE) (decode book.now).orders && units_whole (decode book.now)) }
+fn linked_fit_in<const LAST: usize, const FIRSTS: usize>(book: RangedBook<'_>) -> bool
+    requires { (64 * word book.words.now DAYS ≤ LAST) × (LAST ≤ 1984)
+        × (24 * word book.words.now DAYS ≤ FIRSTS) × (FIRSTS ≤ 744) }
+    ensures { result ≡ (pairs_fit (word book.entry.words.now PHASE) (decode book.entry.words.now).orders && units_whole (decode book.entry.words.now)) }
 {
     let mut last = [0u64; LAST];
     let mut firsts = [0u64; FIRSTS];
@@ -47,21 +48,18 @@ fn linked_fit_in<const LAST: usize, const FIRSTS: usize>(book: &[u64]) -> bool
 }
 
 // The same: without orders nothing is linked, and a week asks for small tables.
-fn open_fit(book: &[u64]) -> bool
-    requires { (Ranged book.now) × (word book.now CEILING ≤ 10000000) }
-    ensures { result ≡ (pairs_fit (word book.now PHASE) (decode book.now).orders && units_whole (decode book.now)) }
+fn open_fit(book: RangedBook<'_>) -> bool
+    ensures { result ≡ (pairs_fit (word book.entry.words.now PHASE) (decode book.entry.words.now).orders && units_whole (decode book.entry.words.now)) }
 {
-    if book[ORDERS] == 0 {
+    if book.words[ORDERS] == 0 {
         let none = [0u64; 1];
-        return units_fit(
-            book,
-            Links {
-                last: &none,
-                before: &none,
-            },
-        );
+        let unlinked = Links {
+            last: &none,
+            before: &none,
+        };
+        return units_fit(book, unlinked);
     }
-    if book[DAYS] <= 7 {
+    if book.words[DAYS] <= 7 {
         return linked_fit_in::<448, 168>(book);
     }
     linked_fit_in::<1984, 744>(book)
@@ -84,27 +82,29 @@ pub fn sound_book(book: &[u64]) -> bool
     if book.len() < FIGURES + DAY_WORDS * days {
         return false;
     }
-    if !units_in(book) {
+    let readable = ReadableBook { words: book };
+    if !units_in(readable) {
         return false;
     }
-    if !offers_in(book) {
+    if !offers_in(readable) {
         return false;
     }
-    if !orders_in(book) {
+    if !orders_in(readable) {
         return false;
     }
-    if !numbers_differ(book) {
+    if !numbers_differ(readable) {
         return false;
     }
-    open_fit(book)
+    open_fit(RangedBook { words: book })
 }
 
-// The check that every call makes first.
-pub(crate) fn check_sound(book: &[u64]) -> Result<(), Refusal>
-    ensures { refusal_of result ≡ cond (sound_in book.now) 0 1 }
+// The check that every call makes first; what is read after it is read of a sound book.
+pub(crate) fn check_sound(book: &[u64]) -> Result<SoundBook<'_>, Refusal>
+    ensures refusal { refusal_of result ≡ cond (sound_in book.now) 0 1 }
+    ensures same { IfOk result (λ sound. sound.words.now ≡ book.now) }
 {
     if !sound_book(book) {
         return Err(Refusal::UnsoundBook);
     }
-    Ok(())
+    Ok(SoundBook { words: book })
 }

@@ -1,73 +1,62 @@
 // Take: its checks behind that of soundness, and its effect (paper 01, "The eight calls").
-ghost use Rattle.std.specs.Prelude.{◌≡◌, ℕ, ◌+◌, ◌-◌, ◌*◌, ◌<◌, ◌≤◌, true, List, ◌++◌, length, take, drop, if◌then◌else◌, nat_eq, slice_index};
+ghost use Rattle.std.specs.Prelude.{◌≡◌, ◌+◌, ◌-◌, ◌*◌, ◌<◌, ◌≤◌, ◌++◌, ◌==◌};
+ghost use Rattle.std.specs.Prelude.{ℕ, true, false, List, length, take, drop, if◌then◌else◌, nat_eq, slice_index, not, IfOk};
 ghost use Rattle.measures.specs.Ranges.{most_energy};
-ghost use Rattle.measures.specs.Lists.{table};
+ghost use Rattle.measures.specs.Lists.{keep, table};
+ghost use Rattle.matching.specs.Memory.{way_number};
 ghost use Rattle.measures.specs.Sharing.{total};
 ghost use Rattle.limits.specs.Units.{periods};
-ghost use Rattle.book.specs.Book.{offer_open};
+ghost use Rattle.book.specs.Book.{with_offers};
 ghost use Rattle.book.specs.Take.{take_checks, take_rows_from, take_rows};
 ghost use Rattle.measures.specs.Refused.{refusal_of};
 ghost use Rattle.book.specs.Refusals.{first_refusal};
-ghost use Rattle.book.specs.Layout.{DAYS, UNITS, OFFERS, offer_place, UNIT, word, amount_at, offer_at, decode};
+ghost use Rattle.book.specs.Layout.{DAYS, UNITS, OFFERS, offer_place, UNIT, word, amount_at, offer_at, decode, Aside};
+ghost use Rattle.book.specs.Inner.Search.{OfferHas};
 ghost use Rattle.book.specs.Inner.Readable.{Readable};
 ghost use Rattle.book.specs.Contract.{sound_in};
-ghost use Rattle.book.specs.Inner.RowsIn.{
-  takes,
-  party_checks,
-  Nothing,
-  parts_at,
-  TakeFit,
-  TakeChecked,
-  RowsPut,
-  AmountsLess,
-  PartsThere,
-  OfferLessened,
-  PartTaken,
-  WholeTaken,
-  PartsLent,
-  TakeMade,
-};
+ghost use Rattle.book.specs.Inner.RowsIn.{takes, party_checks, Nothing, parts_at, TakeFit, TakeChecked, RowsPut, AmountsLess, OfferLessened, PartsLent, TakeMade};
 
 use crate::fits::misfit;
+use crate::lent::{ReadableBook, SoundBook};
 use crate::numbers::find_offer;
 use crate::pass::Amounts;
 use crate::places::{
-    AMOUNT_WORDS, AMOUNTS, DAYS, HOURS, OFFER_TABLE, OFFER_WORDS, PARTNER, PRICE, TAKEN, UNIT,
-    UNITS,
+    AMOUNT_WORDS, AMOUNTS, DAYS, HOURS, OFFER_TABLE, OFFER_WORDS, PARTNER, PRICE, ROOM_FOR_ROWS,
+    TAKEN, UNIT,
 };
-use crate::ranges::{energy_in, is_generator, offer_total, unit_known};
+use crate::ranges::{is_generator, offer_total, unit_known};
 use crate::trades::book_rows;
 use crate::withdrawing::withdraw_effect;
-use matching::orders::{Row, put_row};
+use matching::orders::{Row, Way, put_row};
 use measures::{Energy, Price, Refusal};
 
 // What the rows of a take have in common.
 #[derive(Clone, Copy)]
 struct Deal {
-    way: u64,
+    way: Way,
     seller: u64,
     buyer: u64,
     price: Price,
 }
 
 // Whether a unit can take a quantity of the offer at place j.
-fn can_take(book: &[u64], j: usize, unit: u64, quantity: Energy) -> bool
-    requires { (Readable book.now) × (j < 8) × (1 ≤ word book.now (offer_place j + UNIT)) × (word book.now (offer_place j + UNIT) ≤ word book.now UNITS)
-        × (1 ≤ unit) × (unit ≤ word book.now UNITS) × (quantity.0 ≤ most_energy) }
-    ensures { result ≡ takes book.now j unit quantity.0 }
+fn can_take(book: ReadableBook<'_>, j: usize, unit: u64, quantity: Energy) -> bool
+    requires { (j < 8) × (1 ≤ word book.words.now (offer_place j + UNIT)) × (word book.words.now (offer_place j + UNIT) ≤ word book.words.now UNITS)
+        × (1 ≤ unit) × (unit ≤ word book.words.now UNITS) × (quantity.0 ≤ most_energy) }
+    ensures { result ≡ takes book.entry.words.now j unit quantity.0 }
 {
     let whole = offer_total(book, j);
     if whole < quantity {
         return false;
     }
-    let partner = book[OFFER_TABLE + OFFER_WORDS * j + PARTNER];
+    let partner = book.words[OFFER_TABLE + OFFER_WORDS * j + PARTNER];
     if partner != 0 {
         if partner != unit {
             return false;
         }
         return whole <= quantity;
     }
-    let own = is_generator(book, book[OFFER_TABLE + OFFER_WORDS * j + UNIT]);
+    let own = is_generator(book, book.words[OFFER_TABLE + OFFER_WORDS * j + UNIT]);
     let other = is_generator(book, unit);
     if own {
         return !other;
@@ -75,24 +64,26 @@ fn can_take(book: &[u64], j: usize, unit: u64, quantity: Energy) -> bool
     other
 }
 
-// The checks of a take before its fit.
+// The checks of a take before its fit; where none applies, the place of the offer.
+#[tactic(auto, using(crate::proofs::Laws::Memory::RangeFacts::held), unfolding(crate::specs::Refusals::first_refusal, crate::specs::Inner::RowsIn::party_checks))]
 fn take_party(
-    book: &[u64],
+    book: SoundBook<'_>,
     unit: u64,
     number: u64,
     quantity: Energy,
     lent: usize,
-) -> Result<(), Refusal>
-    requires { sound_in book.now ≡ true }
-    ensures { refusal_of result ≡ first_refusal (party_checks (decode book.now) unit number quantity.0 lent) }
+) -> Result<usize, Refusal>
+    ensures place { IfOk result (λ j. OfferHas book.entry.words.now number j) }
+    ensures refusal { refusal_of result ≡ first_refusal (party_checks (decode book.entry.words.now) unit number quantity.0 lent) }
 {
+    let book = ReadableBook { words: book.words };
     if !unit_known(book, unit) {
         return Err(Refusal::UnknownName);
     }
-    if lent < 4464 {
+    if lent < ROOM_FOR_ROWS {
         return Err(Refusal::FewRows);
     }
-    if !energy_in(quantity) {
+    if !quantity.can_be_declared() {
         return Err(Refusal::BadEnergy);
     }
     let Some(j) = find_offer(book, number) else {
@@ -101,33 +92,34 @@ fn take_party(
     if !can_take(book, j, unit, quantity) {
         return Err(Refusal::WrongParty);
     }
-    Ok(())
+    Ok(j)
 }
 
 // The parts of a quantity over the amounts of the offer at place j, where they stand.
-fn share_offer(book: &[u64], j: usize, quantity: Energy, parts: &mut [u64])
-    requires { (Readable book.now) × (j < 8) × (1 ≤ quantity.0) × (quantity.0 ≤ total (table (periods (word book.now DAYS)) (amount_at book.now j)))
-        × (total (table (periods (word book.now DAYS)) (amount_at book.now j)) ≤ most_energy) × (744 ≤ length parts.old) }
-    ensures { parts.new ≡ parts_at book.now j quantity.0 ++ drop (periods (word book.now DAYS)) parts.old }
+fn share_offer(book: ReadableBook<'_>, j: usize, quantity: Energy, parts: &mut [u64])
+    requires { (j < 8) × (1 ≤ quantity.0) × (quantity.0 ≤ total (table (periods (word book.words.now DAYS)) (amount_at book.words.now j)))
+        × (total (table (periods (word book.words.now DAYS)) (amount_at book.words.now j)) ≤ most_energy) × (744 ≤ length parts.old) }
+    ensures { parts.new ≡ parts_at book.entry.words.now j quantity.0 ++ drop (periods (word book.entry.words.now DAYS)) parts.old }
 {
     let from = AMOUNTS + AMOUNT_WORDS * j;
-    let to = from + HOURS * (book[DAYS] as usize);
-    let _ = measures::share(quantity, &book[from..to], parts);
+    let to = from + HOURS * (book.words[DAYS] as usize);
+    // the amounts and the room are as it asks, so it refuses nothing
+    let _ = measures::share(quantity, &book.words[from..to], parts);
 }
 
 // The fit of a take from the offer at place j; its parts go to the lent memory, which holds nothing.
 fn take_fit(
-    book: &[u64],
+    book: SoundBook<'_>,
     unit: u64,
     j: usize,
     quantity: Energy,
     parts: &mut [u64; 744],
 ) -> Result<(), Refusal>
-    requires { (sound_in book.now ≡ true) × (j < word book.now OFFERS) × (1 ≤ unit) × (unit ≤ word book.now UNITS) × (1 ≤ quantity.0)
-        × (quantity.0 ≤ total (table (periods (word book.now DAYS)) (amount_at book.now j))) × (Nothing parts.old) }
-    ensures { TakeFit book.now unit j quantity.0 (refusal_of result) parts.old parts.new }
+    requires { (j < word book.words.now OFFERS) × (1 ≤ unit) × (unit ≤ word book.words.now UNITS) × (1 ≤ quantity.0)
+        × (quantity.0 ≤ total (table (periods (word book.words.now DAYS)) (amount_at book.words.now j))) × (Nothing parts.old) }
+    ensures { TakeFit book.entry.words.now unit j quantity.0 (refusal_of result) parts.old parts.new }
 {
-    share_offer(book, j, quantity, parts);
+    share_offer(ReadableBook { words: book.words }, j, quantity, parts);
     let mut declared = Amounts {
         raising: *parts,
         lowering: [0; 744],
@@ -135,29 +127,28 @@ fn take_fit(
     misfit(book, unit, &mut declared)
 }
 
-// The checks of a take behind that of soundness; where none applies, its parts go to the lent memory.
+// The checks of a take behind that of soundness; where none applies, the place of the offer, and the parts go to the lent memory.
 pub(crate) fn take_checks(
-    book: &[u64],
+    book: SoundBook<'_>,
     unit: u64,
     number: u64,
     quantity: Energy,
     lent: usize,
     parts: &mut [u64; 744],
-) -> Result<(), Refusal>
-    requires { (sound_in book.now ≡ true) × (Nothing parts.old) }
-    ensures { TakeChecked book.now unit number quantity.0 lent (refusal_of result) parts.old parts.new }
+) -> Result<usize, Refusal>
+    requires { Nothing parts.old }
+    ensures place { IfOk result (λ j. OfferHas book.entry.words.now number j) }
+    ensures checked { TakeChecked book.entry.words.now unit number quantity.0 lent (refusal_of result) parts.old parts.new }
 {
-    take_party(book, unit, number, quantity, lent)?;
-    let Some(j) = find_offer(book, number) else {
-        unreachable!()
-    };
-    take_fit(book, unit, j, quantity, parts)
+    let j = take_party(book, unit, number, quantity, lent)?;
+    take_fit(book, unit, j, quantity, parts)?;
+    Ok(j)
 }
 
 // A row for each part that is not 0, periods rising.
 fn write_rows(parts: &[u64], rows: &mut [u64], deal: Deal) -> usize
     requires { (length parts.now ≤ 744) × (4464 ≤ length rows.old) }
-    ensures { RowsPut rows.old rows.new result (take_rows_from 0 deal.way deal.seller deal.buyer deal.price.0 parts.now) }
+    ensures { RowsPut rows.old rows.new result (take_rows_from 0 (way_number deal.way) deal.seller deal.buyer deal.price.0 parts.now) }
 {
     let mut k: usize = 0;
     for (p, part) in parts.iter().enumerate() {
@@ -165,13 +156,14 @@ fn write_rows(parts: &[u64], rows: &mut [u64], deal: Deal) -> usize
             continue;
         }
         let row = Row {
-            way: deal.way,
+            way: u64::from(deal.way),
             period: p as u64,
             seller: deal.seller,
             buyer: deal.buyer,
             quantity: Energy(*part),
             price: deal.price,
         };
+        // there is room for 744 rows, so it is written
         put_row(rows, k, row);
         k += 1;
     }
@@ -198,29 +190,29 @@ fn lessen_offer(book: &mut [u64], j: usize, parts: &[u64])
     book[OFFER_TABLE + OFFER_WORDS * j + TAKEN] = 1;
 }
 
-// The way of a take: 1 from a bilateral offer, 2 from a listing.
-fn way_of(partner: u64) -> u64
-    ensures { result ≡ (if nat_eq partner 0 then 2 else 1) }
+// The way of a take: an offer without a partner is a listing.
+fn way_of(partner: u64) -> Way
+    ensures { way_number result ≡ (if nat_eq partner 0 then 2 else 1) }
 {
     if partner == 0 {
-        return 2;
+        return Way::Listing;
     }
-    1
+    Way::Bilateral
 }
 
 // The rows of a take by a unit from the offer at place j.
-fn take_rows(book: &[u64], unit: u64, j: usize, parts: &[u64], rows: &mut [u64]) -> usize
-    requires { (Readable book.now) × (j < 8) × (1 ≤ word book.now (offer_place j + UNIT)) × (word book.now (offer_place j + UNIT) ≤ word book.now UNITS)
+fn take_rows(book: ReadableBook<'_>, unit: u64, j: usize, parts: &[u64], rows: &mut [u64]) -> usize
+    requires { (j < 8) × (1 ≤ word book.words.now (offer_place j + UNIT)) × (word book.words.now (offer_place j + UNIT) ≤ word book.words.now UNITS)
         × (744 ≤ length parts.now) × (4464 ≤ length rows.old) }
     ensures { RowsPut rows.old rows.new result
-        (take_rows (decode book.now) (offer_at book.now (word book.now DAYS) j) unit
-        (take (24 * word book.now DAYS) parts.now)) }
+        (take_rows (decode book.entry.words.now) (offer_at book.entry.words.now (word book.entry.words.now DAYS) j) unit
+        (take (24 * word book.entry.words.now DAYS) parts.now)) }
 {
-    let top = HOURS * (book[DAYS] as usize);
+    let top = HOURS * (book.words[DAYS] as usize);
     let at = OFFER_TABLE + OFFER_WORDS * j;
-    let owner = book[at + UNIT];
-    let price = Price(book[at + PRICE]);
-    let way = way_of(book[at + PARTNER]);
+    let owner = book.words[at + UNIT];
+    let price = Price(book.words[at + PRICE]);
+    let way = way_of(book.words[at + PARTNER]);
     let (seller, buyer) = if is_generator(book, owner) {
         (owner, unit)
     } else {
@@ -235,56 +227,38 @@ fn take_rows(book: &[u64], unit: u64, j: usize, parts: &[u64], rows: &mut [u64])
     write_rows(&parts[..top], rows, deal)
 }
 
-// A take of parts from the offer at place j, of which some is left.
-fn take_part(book: &mut [u64], unit: u64, j: usize, parts: &[u64], rows: &mut [u64]) -> usize
-    requires { (sound_in book.old ≡ true) × (j < word book.old OFFERS) × (1 ≤ unit) × (unit ≤ word book.old UNITS) × (744 ≤ length parts.now)
-        × (4464 ≤ length rows.old) × (PartsThere book.old j parts.now) }
-    ensures { PartTaken book.old book.new unit j parts.now rows.old rows.new result }
+// Takes the parts off the offer at place j; where they are all that it has, it goes.
+fn leave_offer(book: &mut [u64], j: usize, is_whole: bool, parts: &[u64])
+    requires { (sound_in book.old ≡ true) × (j < word book.old OFFERS) }
+    ensures gone { is_whole ≡ true → (decode book.new ≡ with_offers (decode book.old)
+        (keep (λ o. not (o.number == word book.old (offer_place j))) (decode book.old).offers)) × (Aside book.old book.new) }
+    ensures left { is_whole ≡ false → (ps : List ℕ) → ((p : ℕ) → p < 24 * word book.old DAYS → slice_index parts.now p ≡ slice_index ps p)
+        → OfferLessened book.old book.new j ps }
 {
-    let count = take_rows(book, unit, j, parts, rows);
+    if is_whole {
+        return withdraw_effect(book, j);
+    }
     lessen_offer(book, j, parts);
-    book_rows(book, rows, count);
-    count
 }
 
-// A take of all that is left of the offer of a number, at place j: the offer goes.
-fn take_whole(
-    book: &mut [u64],
-    unit: u64,
-    number: u64,
-    j: usize,
-    parts: &[u64],
-    rows: &mut [u64],
-) -> usize
-    requires { (sound_in book.old ≡ true) × (j < word book.old OFFERS) × (1 ≤ unit) × (unit ≤ word book.old UNITS) × (744 ≤ length parts.now)
-        × (4464 ≤ length rows.old) × (PartsThere book.old j parts.now) × (offer_open (decode book.old) number ≡ true) }
-    ensures { WholeTaken book.old book.new unit number j parts.now rows.old rows.new result }
-{
-    let count = take_rows(book, unit, j, parts, rows);
-    withdraw_effect(book, number);
-    book_rows(book, rows, count);
-    count
-}
-
-// The take of a quantity of an open number, whose parts are lent.
+// The take of a quantity of the offer at place j, whose parts are lent.
 pub(crate) fn take_effect(
     book: &mut [u64],
     unit: u64,
-    number: u64,
+    j: usize,
     quantity: Energy,
     parts: &[u64; 744],
     rows: &mut [u64],
 ) -> usize
-    requires { (sound_in book.old ≡ true) × (0 ≡ first_refusal (take_checks (decode book.old) unit number quantity.0 (length rows.old)))
-        × (PartsLent book.old number quantity.0 parts.now) }
-    ensures { TakeMade book.old book.new unit number quantity.0 rows.old rows.new result }
+    requires { (sound_in book.old ≡ true) × (OfferHas book.old (word book.old (offer_place j)) j)
+        × (0 ≡ first_refusal (take_checks (decode book.old) unit (word book.old (offer_place j)) quantity.0 (length rows.old)))
+        × (PartsLent book.old (word book.old (offer_place j)) quantity.0 parts.now) }
+    ensures { TakeMade book.old book.new unit (word book.old (offer_place j)) quantity.0 rows.old rows.new result }
 {
-    let Some(j) = find_offer(book, number) else {
-        unreachable!()
-    };
-    let whole = offer_total(book, j);
-    if whole <= quantity {
-        return take_whole(book, unit, number, j, parts, rows);
-    }
-    take_part(book, unit, j, parts, rows)
+    let readable = ReadableBook { words: book };
+    let whole = offer_total(readable, j);
+    let count = take_rows(readable, unit, j, parts, rows);
+    leave_offer(book, j, whole <= quantity, parts);
+    book_rows(book, rows, count);
+    count
 }

@@ -1,41 +1,48 @@
 // Rows entered in the figures of seller and buyer: paper 01, "Limits".
-ghost use Rattle.std.specs.Prelude.{◌≡◌, ℕ, ◌+◌, ◌-◌, ◌*◌, ◌<◌, ◌≤◌, min, List, length, if◌then◌else◌};
+ghost use Rattle.std.specs.Prelude.{◌≡◌, ◌+◌, ◌-◌, ◌*◌, ◌<◌, ◌≤◌, min, length, if◌then◌else◌};
 ghost use Rattle.measures.specs.Ranges.{most_energy, most_number};
 ghost use Rattle.matching.specs.Memory.{direction_number, row_words, as_row, row_at};
-ghost use Rattle.book.specs.Book.{Book, unit_of};
+ghost use Rattle.book.specs.Book.{unit_of};
 ghost use Rattle.book.specs.Trades.{raises, mark_with, mark_after};
 ghost use Rattle.book.specs.Layout.{DAYS, UNITS, figure_place, VOLUME, word, figures_at, decode};
 ghost use Rattle.book.specs.Inner.Readable.{Readable};
 ghost use Rattle.book.specs.Inner.RowsIn.{as_figures, Small, SmallAt, FiguresPut, Traded, RowTraded, RowFits, RowsFit, small_figures, RowsTraded};
 
+use crate::lent::ReadableBook;
 use crate::places::{
     BLOCK, DAY_WORDS, FIGURES, HOURS, LOWERED, MARK, PERIOD, PRICE, QUANTITY, RAISED, VOLUME,
 };
-use crate::ranges::is_generator;
-use matching::orders::{Direction, Row};
+use crate::ranges::raising_direction;
+use matching::orders::{Direction, Row, Way};
 use measures::{Energy, Price};
 
-// Whether a trade in this direction (0 sold, 1 bought) raises the unit's net.
-pub(crate) fn raises_net(book: &[u64], unit: u64, direction: u64) -> bool
-    requires { (Readable book.now) × (1 ≤ unit) × (unit ≤ word book.now UNITS) }
-    ensures { result ≡ raises (unit_of (decode book.now) unit).kind direction }
+// Whether a trade in this direction raises the unit's net.
+pub(crate) fn raises_net(book: ReadableBook<'_>, unit: u64, direction: Direction) -> bool
+    requires { (1 ≤ unit) × (unit ≤ word book.words.now UNITS) }
+    ensures { result ≡ raises (unit_of (decode book.entry.words.now) unit).kind (direction_number direction) }
 {
-    if is_generator(book, unit) {
-        return direction == 0;
-    }
-    direction == 1
+    direction == raising_direction(book, unit)
+}
+
+// The mark of trades both ways. A mark is a word of memory, in which any number may stand.
+pub(crate) const BOTH_WAYS: u64 = 3;
+
+// The mark of trades in one direction: 1 sold, 2 bought.
+pub(crate) fn mark_of(direction: Direction) -> u64
+    ensures { result ≡ direction_number direction + 1 }
+{
+    u64::from(direction) + 1
 }
 
 // A mark with one direction more.
 fn mark_with(direction: Direction, mark: u64) -> u64
     ensures { result ≡ mark_with (direction_number direction) mark }
 {
-    let own = u64::from(direction) + 1;
     if mark == 0 {
-        return own;
+        return mark_of(direction);
     }
-    if mark == 3 - own {
-        return 3;
+    if mark == mark_of(direction.opposite()) {
+        return BOTH_WAYS;
     }
     mark
 }
@@ -44,13 +51,13 @@ fn mark_with(direction: Direction, mark: u64) -> u64
 fn mark_after(way: u64, direction: Direction, mark: u64) -> u64
     ensures { result ≡ mark_after way (direction_number direction) mark }
 {
-    if way < 3 {
+    if way < Way::Clear as u64 {
         return mark;
     }
     mark_with(direction, mark)
 }
 
-// The figures of a unit in a period.
+// The figures of a unit in a period. The mark stays a word of memory, in which any number may stand.
 #[derive(Clone, Copy)]
 pub(crate) struct Figures {
     pub held: Energy,
@@ -130,7 +137,7 @@ fn book_trade(book: &mut [u64], row: Row, direction: Direction, unit: u64)
     let k = unit as usize - 1;
     let p = row.period as usize;
     let figures = figures_at(book, k, p);
-    let raises = raises_net(book, unit, u64::from(direction));
+    let raises = raises_net(ReadableBook { words: book }, unit, direction);
     let mark = mark_after(row.way, direction, figures.mark);
     put_figures(book, k, p, figures.traded(raises, row.quantity, mark));
 }

@@ -1,5 +1,5 @@
 // Runs of words of a book's memory.
-ghost use Rattle.std.specs.Prelude.{ℕ, ◌+◌, ◌<◌, ◌≤◌, length};
+ghost use Rattle.std.specs.Prelude.{◌+◌, ◌≤◌, length};
 ghost use Rattle.book.specs.Inner.Runs.{Emptied, Shifted};
 
 // The words from one place up to another become 0.

@@ -27,7 +27,7 @@ fn tell(answer: Answer, out: &mut [u64; 2]) -> u64
     refusal_number(&answer)
 }
 
-// Shares an amount over the remaining amounts.
+// Shares an amount over the remaining amounts. This and the limits are exported by the lower crates too, which are called directly.
 #[unsafe(no_mangle)]
 pub extern "C" fn cenduxari_share(amount: u64, amounts: &[u64], parts: &mut [u64]) -> u64
     ensures { Is (sharing amount amounts.now parts.old) result parts.new }

@@ -2,6 +2,7 @@
 use Prim.Native.Nat.{ℕ, ◌*◌, ◌/◌, ◌^◌, ◌≤◌, ◌<◌, min}
 use mathlib.Core.Path.{◌≡◌}
 use mathlib.Core.Bool.{Bool, true, false, cond}
+use mathlib.Core.Logic.{◌⊎◌, inl, inr}
 use lib.Dec.{eqb, lit≤, lit<}
 use borrow.Author.Tests.{eq-eqb, ne_eqb, le-leb, lt-leb, lt-ltb, le-ltb}
 use native.Mathlib.Nat.{mul-le-mul, lt_of_le_of_lt}
@@ -16,8 +17,9 @@ use Rattle.measures.specs.Refused.{refusal_of}
 use Rattle.measures.specs.Lists.{holds}
 use Rattle.measures.proofs.RefusedLaws.{number_some}
 use Rattle.limits.specs.declared.Kind.{Kind}
-use Rattle.limits.specs.Kinds.{unit_refusal}
-use Rattle.limits.specs.Units.{kind_in, capacity_in, asset_in}
+use Rattle.limits.specs.declared.Kind.TheVariants.{Solar, Generator, User, Retailer}
+use Rattle.limits.specs.Kinds.{kind_number, unit_refusal}
+use Rattle.limits.specs.Units.{kind_in, capacity_in, asset_in, generator}
 use Rattle.limits.specs.Limits.{Answer, refused, limits_in, limits_at, hour_limit, term_limit, volume_limit}
 
 -- a capacity times at most 24 hours times at most 31 days
@@ -131,6 +133,27 @@ module _ (days kind capacity asset period : ℕ) where
     lt-ltb period
         (24 * days) p,
   )
+
+-- kinds 1 and 2 are generators, the others are not
+pub generates : (kind : Kind) → (kind ≡ Solar) ⊎ (kind ≡ Generator) → true ≡ generator (kind_number kind)
+generates kind (inl e) = rw e refl
+generates kind (inr e) = rw e refl
+
+pub draws : (kind : Kind) → (kind ≡ Solar → ⊥) → (kind ≡ Generator → ⊥) → false ≡ generator (kind_number kind)
+draws Solar s g = absurd (s refl)
+draws Generator s g = absurd (g refl)
+draws User s g = refl
+draws Retailer s g = refl
+
+-- a unit of a known kind and in its ranges passes
+kind_known : (kind : Kind) → In 1 4 (kind_number kind)
+kind_known Solar = (omega arith, omega arith)
+kind_known Generator = (omega arith, omega arith)
+kind_known User = (omega arith, omega arith)
+kind_known Retailer = (omega arith, omega arith)
+
+pub unit_passes : (kind : Kind) (k c a : ℕ) → kind_number kind ≡ k → In 1 most_capacity c → a ≤ most_energy → 0 ≡ unit_refusal k c a
+unit_passes kind k c a e h l = simp (inside 1 4 k (rw e at (kind_known kind)), inside 1 most_capacity c h, le-leb a most_energy l)
 
 -- a unit is checked just where its fields are in range
 pub checked_ok : (r : Result Kind Refusal) (kind capacity asset : ℕ) → refusal_of r ≡ unit_refusal kind capacity asset

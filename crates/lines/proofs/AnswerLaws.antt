@@ -192,8 +192,8 @@ module _ (l : ℕ) (ns m rows : List ℕ) (a : Answer) (m' : List ℕ) where
   unfolding call_of
   made_cancel e f = rw e (made_beside m rows _ a m' f)
 
-  pub made_close : (l ≡ 69 → ⊥) → (l ≡ 76 → ⊥) → (l ≡ 84 → ⊥) → (l ≡ 87 → ⊥) → (l ≡ 82 → ⊥) → (l ≡ 88 → ⊥) → (l ≡ 67 → ⊥) → Made m [] call_close a m' []
-      → Made m rows (call_of l ns) a m' rows
+  pub made_close : (l ≡ 69 → ⊥) → (l ≡ 76 → ⊥) → (l ≡ 84 → ⊥) → (l ≡ 87 → ⊥) → (l ≡ 82 → ⊥) → (l ≡ 88 → ⊥) → (l ≡ 67 → ⊥)
+      → Made m [] call_close a m' [] → Made m rows (call_of l ns) a m' rows
   unfolding call_of
   made_close e₁ e₂ e₃ e₄ e₅ e₆ e₇ f =
       rw (ne_eqb l 69 e₁, ne_eqb l 76 e₂, ne_eqb l 84 e₃, ne_eqb l 87 e₄, ne_eqb l 82 e₅, ne_eqb l 88 e₆, ne_eqb l 67 e₇)
@@ -249,6 +249,11 @@ no-book started m e = rw e
 both_true : (a b : Bool) → (a && b) ≡ true → (a ≡ true) × (b ≡ true)
 both_true true b e = (refl, e)
 both_true false b e = let z : ◌≡◌ {A = ℕ} 0 1 = cc in absurd (omega arith)
+
+-- once an O was accepted and the day count is 1, the layout decides whether a book stands
+pub layout_decides : (started : Bool) (m : List ℕ) → started ≡ true → eqb (word m DAYS) 1 ≡ true
+    → eqb (word m LAYOUT) layout_number ≡ (started && one_day m)
+layout_decides started m s d = rw (s, d) refl
 
 pub has_started : (started : Bool) (m : List ℕ) → (started && one_day m) ≡ true → started ≡ true
 has_started started m e = (both_true started (one_day m) e).0
@@ -421,7 +426,9 @@ module _ (started : Bool) (m : List ℕ) (days floor ceiling : ℕ) (a : Answer)
   pub opening_no : (r : Refusal) (text : List ℕ) → a ≡ Err r → text ≡ printed_no (number_of r) → Answered started m (opening days floor ceiling) started m' text
   opening_no r text e t =
       let q : number_of r ≡ refusal = ap (λ (t : Told). t.refusal) (rw e at f.answer) ∙ same_refusal in
-      let ne : refusal ≡ 0 → ⊥ = λ z. both_ways (sym (ap (λ (t : Told). t.done) (rw e at f.answer) ∙ eq-eqb (opening_refusal (length m) (rules_of days floor ceiling)) 0 (same_refusal ∙ z))) in
+      let done_if : refusal ≡ 0 → false ≡ true = λ z.
+      ap (λ (t : Told). t.done) (rw e at f.answer) ∙ eq-eqb (opening_refusal (length m) (rules_of days floor ceiling)) 0 (same_refusal ∙ z) in
+      let ne : refusal ≡ 0 → ⊥ = λ z. both_ways (sym (done_if z)) in
       answered-no started m (opening days floor ceiling) started m' text refusal
       (opening_refuses (stands_in started m) days floor ceiling up ne) refl (f.refused (λ z. ne (sym same_refusal ∙ z))) (t ∙ ap printed_no q)
 

@@ -1,5 +1,5 @@
 -- Laws of printed text.
-use Prim.Native.Nat.{ℕ, suc, ◌+◌, ◌-◌, ◌*◌, ◌/◌, ◌^◌, ◌≤◌, ◌<◌}
+use Prim.Native.Nat.{ℕ, zero, suc, ◌+◌, ◌-◌, ◌^◌, ◌≤◌, ◌<◌}
 use mathlib.Core.Path.{◌≡◌, refl, sym, ap, ◌∙◌}
 use mathlib.Core.List.{List, [], ◌∷◌, ◌++◌, append_assoc, append-nil}
 use native.Mathlib.Omega.{arith}
@@ -8,6 +8,7 @@ use borrow.Author.Tests.{lt-ltb, le-ltb}
 use lib.ListN.{length, get_or, take, drop, length-drop}
 use lib.Seq.{take-suc, take_all}
 use Rattle.std.specs.Fmt as kit
+use Rattle.std.specs.Simd.{first_chunks}
 use Rattle.std.proofs.lemmas.Fmt.{AppendsLastDigit, decimal_from_appends, length-decimal-le}
 use Rattle.matching.specs.Orders.{Row}
 use Rattle.matching.specs.Memory.{flat_row, flat}
@@ -63,30 +64,35 @@ pub row_put : (o o₁ o₂ o₃ row : List ℕ) → o₁ ≡ o ++ (116 ∷ []) �
 unfolding row_text
 row_put o o₁ o₂ o₃ row e f g = g ∙ rw (f, e) (append_assoc (o ++ (116 ∷ [])) (spaced row) (10 ∷ []) ∙ append_assoc o (116 ∷ []) (spaced row ++ (10 ∷ [])))
 
--- rows one behind the other: those of `rest` are still to come
-pub record Rowed (o ws o' rest : List ℕ) : Type 0 where
-  pub stands : o' ++ rows_text (length rest / 6) rest ≡ o ++ rows_text (length ws / 6) ws
-  pub fits : length o' + 128 * (length rest / 6) ≤ 95256
+-- rows one behind the other
+unfoldable pub joined : List (List ℕ) → List ℕ
+joined [] = []
+joined (r ∷ rs) = row_text r ++ joined rs
 
-pub rowed_more : (o ws o' rest row o'' behind : List ℕ) → Rowed o ws o' rest → row ≡ take 6 rest → behind ≡ drop 6 rest → length behind + 6 ≡ length rest
-    → o'' ≡ o' ++ row_text row → length o'' ≤ length o' + 128 → Rowed o ws o'' behind
-unfolding rows_text
-rowed_more o ws o' rest row o'' behind f r b l e s =
-    let q : length rest / 6 ≡ suc (length behind / 6) = omega arith in
-    let k = f.fits in
-    record {
-      stands =
-          ap (λ (x : List ℕ). x ++ rows_text (length behind / 6) behind) e
-          ∙ append_assoc o' (row_text row) (rows_text (length behind / 6) behind)
-          ∙ (rw (q, ← r, ← b) at f.stands);
-      fits = omega arith;
-    }
+joined_both : (a b : List (List ℕ)) → joined (a ++ b) ≡ joined a ++ joined b
+unfolding joined
+joined_both [] b = refl
+joined_both (r ∷ a) b = rw (joined_both a b) (sym (append_assoc (row_text r) (joined a) (joined b)))
 
-pub rowed_all : (o ws o' rest : List ℕ) → Rowed o ws o' rest → length rest < 6 → o' ≡ o ++ rows_text (length ws / 6) ws
-unfolding rows_text
-rowed_all o ws o' rest f h =
-    let q : length rest / 6 ≡ 0 = omega arith in
-    sym (append-nil o') ∙ (rw q at f.stands)
+pub joined_none : (o : List ℕ) (rs : List (List ℕ)) → o ≡ o ++ joined (take 0 rs)
+unfolding joined
+joined_none o rs = sym (append-nil o)
+
+pub joined_more : (o : List ℕ) (rs : List (List ℕ)) (o₁ o₂ : List ℕ) (i : ℕ) → i < length rs → o₁ ≡ o ++ joined (take i rs)
+    → o₂ ≡ o₁ ++ row_text (get_or rs i []) → o₂ ≡ o ++ joined (take (i + 1) rs)
+unfolding joined
+joined_more o rs o₁ o₂ i h e f =
+    f ∙ rw (e, add-one i, take-suc rs i [] h, joined_both (take i rs) (get_or rs i [] ∷ []), append-nil (row_text (get_or rs i [])))
+    (append_assoc o (joined (take i rs)) (row_text (get_or rs i [])))
+
+chunks_joined : (k : ℕ) (ws : List ℕ) → joined (first_chunks 6 k ws) ≡ rows_text k ws
+unfolding joined rows_text
+chunks_joined zero ws = refl
+chunks_joined (suc k) ws = ap (λ (x : List ℕ). row_text (take 6 ws) ++ x) (chunks_joined k (drop 6 ws))
+
+pub joined_all : (o : List ℕ) (rs : List (List ℕ)) (o' ws : List ℕ) (k i : ℕ) → rs ≡ first_chunks 6 k ws → length rs ≤ i
+    → o' ≡ o ++ joined (take i rs) → o' ≡ o ++ rows_text k ws
+joined_all o rs o' ws k i e h f = f ∙ ap (λ (x : List ℕ). o ++ x) (ap joined (take_all i rs h ∙ e) ∙ chunks_joined k ws)
 
 -- rows in memory print as rows
 pub rows_printed : (rs : List Row) → rows_text (length rs) (flat rs) ≡ printed_rows rs
@@ -95,7 +101,8 @@ rows_printed [] = refl
 rows_printed (r ∷ rs) = ap (λ (x : List ℕ). (116 ∷ (spaced (flat_row r) ++ (10 ∷ []))) ++ x) (rows_printed rs)
 
 -- `no` and a refusal; `ok`, a number and rows
-pub no_printed : (o o₁ o₂ o₃ : List ℕ) (n : ℕ) → o ≡ [] → o₁ ≡ o ++ (110 ∷ 111 ∷ []) → o₂ ≡ o₁ ++ spaced (n ∷ []) → o₃ ≡ o₂ ++ (10 ∷ []) → o₃ ≡ printed_no n
+pub no_printed : (o o₁ o₂ o₃ : List ℕ) (n : ℕ) → o ≡ [] → o₁ ≡ o ++ (110 ∷ 111 ∷ [])
+    → o₂ ≡ o₁ ++ spaced (n ∷ []) → o₃ ≡ o₂ ++ (10 ∷ []) → o₃ ≡ printed_no n
 unfolding printed_no
 no_printed o o₁ o₂ o₃ n z e f g = g ∙ rw (f, e, z)
 

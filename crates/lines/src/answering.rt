@@ -83,7 +83,7 @@ impl Memory {
         letter == b'E' && 8 <= self.book[UNITS]
     }
 
-    // Makes the call of a letter. Behind a `&mut self` a proof sees no length of an array, so `long` says it.
+    // Makes the call of a letter, of which `count_of` knows none but these. Behind a `&mut self` a proof sees no length of an array, so `long` says it.
     fn make_call(&mut self, letter: u8) -> Answer
         ensures made { Made self.old.book self.old.rows (call_of letter self.old.numbers) result self.new.book self.new.rows }
         ensures desk { self.new.desk ≡ self.old.desk }

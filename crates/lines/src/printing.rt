@@ -38,7 +38,7 @@ fn put_fields(out: &mut Text, numbers: &[u64])
     }
 }
 
-// `t` and the six fields of a row.
+// `t` and the six fields of a row. A row has no `Display`: this is the paper's own form, as bytes, without allocation.
 fn put_row(out: &mut Text, row: &[u64; 6])
     requires { length out.old.items + 128 ≤ 95256 }
     ensures puts { out.new.items ≡ out.old.items ++ row_text row.now }
@@ -54,10 +54,9 @@ fn put_rows(out: &mut Text, rows: &[u64])
     requires { length out.old.items + 128 * (length rows.now / 6) ≤ 95256 }
     ensures { out.new.items ≡ out.old.items ++ rows_text (length rows.now / 6) rows.now }
 {
-    let mut rest = rows;
-    while let Some((row, behind)) = rest.split_first_chunk::<6>() {
+    let (whole, _) = rows.as_chunks::<6>();
+    for row in whole {
         put_row(out, row);
-        rest = behind;
     }
 }
 

@@ -4,6 +4,8 @@ use Rattle.measures.specs.Lists.{table}
 use Rattle.measures.specs.Ranges.{most_number}
 use Rattle.matching.specs.declared.orders.Direction.{Direction}
 use Rattle.matching.specs.declared.orders.Direction.TheVariants.{Sell, Buy}
+use Rattle.matching.specs.declared.orders.Way.{Way}
+use Rattle.matching.specs.declared.orders.Way.TheVariants.{Bilateral, Listing, Clear, Rolling}
 use Rattle.matching.specs.declared.orders.Order.{Order as OrderValue}
 use Rattle.matching.specs.declared.orders.Row.{Row as RowValue}
 use Rattle.matching.specs.Orders.{Order, Row}
@@ -16,6 +18,13 @@ most_word = most_number
 abbrev pub direction_number : Direction → ℕ
 direction_number Sell = 0
 direction_number Buy = 1
+
+-- "way (1 bilateral, 2 listing, 3 clear, 4 rolling)"
+abbrev pub way_number : Way → ℕ
+way_number Bilateral = 1
+way_number Listing = 2
+way_number Clear = 3
+way_number Rolling = 4
 
 -- a value of the code's struct, as an order and as a row of these definitions
 abbrev pub as_order : OrderValue → Order
@@ -64,6 +73,10 @@ order_at m k =
 -- the first n orders
 unfoldable pub orders_in : List ℕ → ℕ → List Order
 orders_in m n = table n (order_at m)
+
+-- whether n orders, at most 256, all stand in the memory
+abbrev pub all_there : List ℕ → ℕ → Bool
+all_there m n = leb n 256 && leb (order_words * n) (length m)
 
 -- whether k is a place of n orders, at most 256, that all stand in the memory
 unfoldable pub place_in : List ℕ → ℕ → ℕ → Bool

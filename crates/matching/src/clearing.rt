@@ -1,5 +1,5 @@
 // Clearing one period: paper 01, "The eight calls", Clear.
-ghost use Rattle.std.specs.Prelude.{◌≡◌, Some, true, ◌<◌, take};
+ghost use Rattle.std.specs.Prelude.{◌≡◌, Some, true, ◌<◌};
 ghost use Rattle.measures.specs.Lists.{keep};
 ghost use Rattle.matching.specs.Orders.{laid};
 ghost use Rattle.matching.specs.Memory.{orders_in};
@@ -8,7 +8,7 @@ ghost use Rattle.matching.specs.Inner.Places.{orders_at, ahead_on, belongs, Stan
 
 use crate::fills::Fills;
 use crate::margins::Margins;
-use crate::orders::{Direction, Matched};
+use crate::orders::{Direction, Matched, OpenOrders};
 use measures::Energy;
 
 // Trades the volume: fills both sides, writes the rows and leaves the rests.
@@ -31,9 +31,9 @@ fn trade(
     let mut ask_places = [0u64; 256];
     let mut bought = [0u64; 256];
     let mut sold = [0u64; 256];
+    let open = OpenOrders::new(orders, n);
     let fb = crate::fills::fill(
-        orders,
-        n,
+        open,
         Direction::Buy,
         margins.volume,
         margins.bid,
@@ -42,8 +42,7 @@ fn trade(
         &mut bought,
     );
     let fa = crate::fills::fill(
-        orders,
-        n,
+        open,
         Direction::Sell,
         margins.volume,
         margins.ask,
@@ -60,7 +59,7 @@ fn trade(
         places: &ask_places[..fa],
         amounts: &sold[..fa],
     };
-    let count = crate::overlaps::put_overlaps(orders, n, period, price, bids, asks, rows);
+    let count = crate::overlaps::put_overlaps(open, period, price, bids, asks, rows);
     let standing = crate::rests::leave_rests(orders, n, bids, asks);
     Matched {
         left: Energy(0),
@@ -77,9 +76,10 @@ pub(crate) fn clear_fit(orders: &mut [u64], n: usize, period: u64, rows: &mut [u
 {
     let mut bids = [0u64; 256];
     let mut asks = [0u64; 256];
-    let nb = crate::laying::lay(orders, n, Direction::Buy, period, &mut bids);
-    let na = crate::laying::lay(orders, n, Direction::Sell, period, &mut asks);
-    let margins = crate::margins::find_margins(orders, n, &bids[..nb], &asks[..na]);
+    let open = OpenOrders::new(orders, n);
+    let nb = crate::laying::lay(open, Direction::Buy, period, &mut bids);
+    let na = crate::laying::lay(open, Direction::Sell, period, &mut asks);
+    let margins = crate::margins::find_margins(open, &bids[..nb], &asks[..na]);
     if margins.volume == Energy(0) {
         return Matched {
             left: Energy(0),

@@ -1,21 +1,20 @@
 // Whether lent orders and rows can be matched and cleared.
-ghost use Rattle.std.specs.Prelude.{◌≡◌, ◌*◌, ◌≤◌, length, leb};
+ghost use Rattle.std.specs.Prelude.{◌≡◌, leb};
 ghost use Rattle.measures.specs.Ranges.{most_energy};
 ghost use Rattle.matching.specs.Orders.{rising, numbers, quantities};
-ghost use Rattle.matching.specs.Memory.{order_words, orders_in};
+ghost use Rattle.matching.specs.Memory.{orders_in};
 ghost use Rattle.matching.specs.Answers.{numbers_rise, fit, fit_below};
 
-use crate::orders::{Order, Row, read};
+use crate::orders::{OpenOrders, Row};
 use measures::Energy;
 
 // Whether the numbers of the first n orders rise: each is above the one before it.
-fn rise(orders: &[u64], n: usize) -> bool
-    requires { (order_words * n ≤ length orders.now) × (n ≤ 256) }
-    ensures { result ≡ rising (numbers (orders_in orders.now n)) }
+fn rise(orders: OpenOrders<'_>) -> bool
+    ensures { result ≡ rising (numbers (orders_in orders.entry.words.now orders.entry.count)) }
 {
-    for k in 1..n {
-        let o = read(orders, k);
-        let before = read(orders, k - 1);
+    for k in 1..orders.count {
+        let o = orders.read(k);
+        let before = orders.read(k - 1);
         if o.number <= before.number {
             return false;
         }
@@ -28,23 +27,19 @@ fn rise(orders: &[u64], n: usize) -> bool
 pub fn numbers_rise(orders: &[u64], n: usize) -> bool
     ensures { result ≡ numbers_rise orders.now n }
 {
-    if Order::MOST < n as u64 {
+    let Some(open) = OpenOrders::checked(orders, n) else {
         return false;
-    }
-    if orders.len() < Order::WORDS * n {
-        return false;
-    }
-    rise(orders, n)
+    };
+    rise(open)
 }
 
 // Whether the first n orders have at most Energy::MOST open together.
-fn quantities_fit(orders: &[u64], n: usize) -> bool
-    requires { (order_words * n ≤ length orders.now) × (n ≤ 256) }
-    ensures { result ≡ leb (quantities (orders_in orders.now n)) most_energy }
+fn quantities_fit(orders: OpenOrders<'_>) -> bool
+    ensures { result ≡ leb (quantities (orders_in orders.entry.words.now orders.entry.count)) most_energy }
 {
     let mut sum = Energy(0);
-    for k in 0..n {
-        let o = read(orders, k);
+    for k in 0..orders.count {
+        let o = orders.read(k);
         sum = sum.plus(o.quantity);
     }
     sum.in_range()
@@ -55,19 +50,16 @@ fn quantities_fit(orders: &[u64], n: usize) -> bool
 pub fn fits(orders: &[u64], n: usize, rows: &[u64]) -> bool
     ensures { result ≡ fit orders.now n rows.now }
 {
-    if n > Order::MOST as usize {
+    let Some(open) = OpenOrders::checked(orders, n) else {
         return false;
-    }
-    if orders.len() < Order::WORDS * n {
-        return false;
-    }
+    };
     if rows.len() < Row::WORDS * n {
         return false;
     }
-    if !rise(orders, n) {
+    if !rise(open) {
         return false;
     }
-    quantities_fit(orders, n)
+    quantities_fit(open)
 }
 
 // Whether the periods below `end` of the first n orders can be cleared one after the other, with these rows lent.

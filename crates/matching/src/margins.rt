@@ -1,8 +1,9 @@
 // The volume of a clear and its margins, by one walk along the laid bids and asks.
-ghost use Rattle.std.specs.Prelude.{◌≡◌, ◌+◌, ◌*◌, ◌-◌, ◌<◌, ◌≤◌, length, take, get_or};
-ghost use Rattle.matching.specs.Memory.{order_words, no_order};
+ghost use Rattle.std.specs.Prelude.{◌≡◌, get_or};
+ghost use Rattle.matching.specs.Memory.{no_order};
 ghost use Rattle.matching.specs.Inner.Places.{orders_at, Stand, Sides, AreMargins};
 
+use crate::orders::OpenOrders;
 use measures::{Energy, Price};
 
 // A volume, and the prices of the bid and the ask that hold its last kWh.
@@ -14,21 +15,21 @@ pub struct Margins {
 }
 
 // What order i of the places has open, and 0 behind the last.
-fn open_at(orders: &[u64], n: usize, places: &[u64], i: usize) -> Energy
-    requires { (order_words * n ≤ length orders.now) × (n ≤ 256) × Stand orders.now places.now n (orders_at orders.now places.now) }
-    ensures { result.0 ≡ (get_or (orders_at orders.now places.now) i no_order).quantity }
+fn open_at(orders: OpenOrders<'_>, places: &[u64], i: usize) -> Energy
+    requires { Stand orders.words.now places.now orders.count (orders_at orders.words.now places.now) }
+    ensures { result.0 ≡ (get_or (orders_at orders.entry.words.now places.now) i no_order).quantity }
 {
     let Some(p) = places.get(i) else {
         return Energy(0);
     };
-    let o = crate::orders::read(orders, *p as usize);
+    let o = orders.read(*p as usize);
     o.quantity
 }
 
 // The margins: the smaller remainder of the next bid and ask is met for as long as their prices meet.
-pub(crate) fn find_margins(orders: &[u64], n: usize, bids: &[u64], asks: &[u64]) -> Margins
-    requires { (order_words * n ≤ length orders.now) × (n ≤ 256) × Sides orders.now bids.now asks.now n }
-    ensures { AreMargins (orders_at orders.now bids.now) (orders_at orders.now asks.now)
+pub(crate) fn find_margins(orders: OpenOrders<'_>, bids: &[u64], asks: &[u64]) -> Margins
+    requires { Sides orders.words.now bids.now asks.now orders.count }
+    ensures { AreMargins (orders_at orders.entry.words.now bids.now) (orders_at orders.entry.words.now asks.now)
         result.volume.0 result.bid.0 result.ask.0 }
 {
     let mut margins = Margins {
@@ -38,15 +39,15 @@ pub(crate) fn find_margins(orders: &[u64], n: usize, bids: &[u64], asks: &[u64])
     };
     let mut i: usize = 0;
     let mut j: usize = 0;
-    let mut demand = open_at(orders, n, bids, 0);
-    let mut supply = open_at(orders, n, asks, 0);
+    let mut demand = open_at(orders, bids, 0);
+    let mut supply = open_at(orders, asks, 0);
     // two indexes, each moved by what it finds
     while i < bids.len() {
         if j == asks.len() {
             return margins;
         }
-        let b = crate::orders::read(orders, bids[i] as usize);
-        let s = crate::orders::read(orders, asks[j] as usize);
+        let b = orders.read(bids[i] as usize);
+        let s = orders.read(asks[j] as usize);
         let bid = b.price;
         let ask = s.price;
         if !bid.meets(ask) {
@@ -54,10 +55,10 @@ pub(crate) fn find_margins(orders: &[u64], n: usize, bids: &[u64], asks: &[u64])
         }
         if demand == Energy(0) {
             i += 1;
-            demand = open_at(orders, n, bids, i);
+            demand = open_at(orders, bids, i);
         } else if supply == Energy(0) {
             j += 1;
-            supply = open_at(orders, n, asks, j);
+            supply = open_at(orders, asks, j);
         } else {
             let x = demand.min(supply);
             let volume = margins.volume.plus(x);

@@ -1,8 +1,8 @@
-// Orders and rows in lent memory: six words each, one behind the other. The table of orders and their count are words of the
-// lent book, so a count goes beside the slice.
-ghost use Rattle.std.specs.Prelude.{◌≡◌, List, [], ◌∷◌, ◌++◌, ℕ, ◌+◌, ◌*◌, ◌-◌, ◌<◌, ◌≤◌, length, set, drop, take};
+// Orders and rows in lent memory: six words each, one behind the other, and walked by their number, since they are no items of a
+// slice. The table of orders and their count are words of the lent book, so public functions take a slice and a count.
+ghost use Rattle.std.specs.Prelude.{◌≡◌, true, false, MatchOption, List, [], ◌∷◌, ◌++◌, ℕ, ◌+◌, ◌*◌, ◌-◌, ◌<◌, ◌≤◌, length, get_or, set, drop, take};
 ghost use Rattle.matching.specs.Orders.{Row as RowRecord, order_with, leaving};
-ghost use Rattle.matching.specs.Memory.{direction_number, order_words, row_words, as_order, as_row, order_at, orders_in, place_in, written};
+ghost use Rattle.matching.specs.Memory.{most_word, direction_number, order_words, row_words, as_order, as_row, order_at, orders_in, all_there, place_in, written};
 ghost use Rattle.matching.specs.Answers.{Written, Removed, RowPut};
 
 use measures::{Energy, Price};
@@ -40,6 +40,26 @@ impl From<Direction> for u64 {
     }
 }
 
+// How a row came about: a bilateral offer taken, a listing taken, a clear, or a match in the rolling phase. In memory these are 1 to 4.
+#[derive(Clone, Copy, Debug, PartialEq, Eq)]
+pub enum Way {
+    Bilateral = 1,
+    Listing = 2,
+    Clear = 3,
+    Rolling = 4,
+}
+
+impl From<Way> for u64 {
+    ghost use Rattle.std.specs.Prelude.{◌≡◌};
+    ghost use Rattle.matching.specs.Memory.{way_number};
+
+    ghost from_gives = { λ way number. number ≡ way_number way };
+
+    fn from(way: Way) -> u64 {
+        way as u64
+    }
+}
+
 // A number that is no direction.
 #[derive(Clone, Copy, Debug, PartialEq, Eq)]
 pub struct NoDirection;
@@ -62,7 +82,7 @@ impl TryFrom<u64> for Direction {
 }
 
 // An open order. Its direction stays a word of memory, in which any number may stand; so does the way of a row.
-#[derive(Clone, Copy)]
+#[derive(Clone, Copy, Debug, PartialEq, Eq)]
 pub struct Order {
     pub number: u64,
     pub unit: u64,
@@ -122,7 +142,7 @@ impl Order {
 }
 
 // A trade: way, period, seller, buyer, quantity, price.
-#[derive(Clone, Copy)]
+#[derive(Clone, Copy, Debug, PartialEq, Eq)]
 pub struct Row {
     pub way: u64,
     pub period: u64,
@@ -148,11 +168,63 @@ impl Row {
 }
 
 // What matching or clearing came to: what is left of an incoming order, the count of rows, and how many orders stand.
-#[derive(Clone, Copy)]
+#[derive(Clone, Copy, Debug, PartialEq, Eq)]
 pub struct Matched {
     pub left: Energy,
     pub count: usize,
     pub standing: usize,
+}
+
+// The open orders: a table of words, and how many of them stand there. What writes keeps the slice and the count, since behind a
+// `&mut` these facts would have to hold at each write. That their numbers rise stays a clause: it is read off them (`rise`), so a
+// second struct of the same fields would be needed to say one clause, and would be no plainer.
+#[derive(Clone, Copy)]
+pub(crate) struct OpenOrders<'a> {
+    pub words: &'a [u64],
+    pub count: usize,
+    ghost few: { count ≤ 256 },
+    ghost there: { order_words * count ≤ length words.now },
+    ghost small: { (i : ℕ) → get_or words.now i 0 ≤ most_word },
+}
+
+impl<'a> OpenOrders<'a> {
+    // The first n orders of the words, which all stand there.
+    pub(crate) fn new(words: &'a [u64], n: usize) -> OpenOrders<'a>
+        requires { (order_words * n ≤ length words.now) × (n ≤ 256) }
+        ensures { (result.words.now ≡ words.now) × (result.count ≡ n) }
+    {
+        OpenOrders { words, count: n }
+    }
+
+    // The first n orders of the words, if they are not too many and all stand there.
+    pub(crate) fn checked(words: &'a [u64], n: usize) -> Option<OpenOrders<'a>>
+        ensures { MatchOption result (all_there words.now n ≡ false)
+            (λ orders. (all_there words.now n ≡ true) × (orders.words.now ≡ words.now) × (orders.count ≡ n)) }
+    {
+        if n > Order::MOST as usize {
+            return None;
+        }
+        if words.len() < Order::WORDS * n {
+            return None;
+        }
+        Some(OpenOrders::new(words, n))
+    }
+
+    // The first n of them.
+    pub(crate) fn first(self, n: usize) -> OpenOrders<'a>
+        requires { n ≤ self.count }
+        ensures { (result.words.now ≡ self.entry.words.now) × (result.count ≡ n) }
+    {
+        OpenOrders::new(self.words, n)
+    }
+
+    // The order at place k.
+    pub(crate) fn read(self, k: usize) -> Order
+        requires { k < self.count }
+        ensures { as_order result ≡ order_at self.entry.words.now k }
+    {
+        read(self.words, k)
+    }
 }
 
 // The order at place k.
@@ -210,13 +282,10 @@ fn remove_at(orders: &mut [u64], n: usize, k: usize)
 pub(crate) fn is_place(orders: &[u64], n: usize, k: usize) -> bool
     ensures { result ≡ place_in orders.now n k }
 {
-    if n > Order::MOST as usize {
+    let Some(open) = OpenOrders::checked(orders, n) else {
         return false;
-    }
-    if orders.len() < Order::WORDS * n {
-        return false;
-    }
-    k < n
+    };
+    k < open.count
 }
 
 // An order takes place k of the first n; whether that place is there.

@@ -2,12 +2,12 @@
 ghost use Rattle.std.specs.Prelude.{◌≡◌, cond, List, [], ◌∷◌, ◌++◌, ℕ, ◌+◌, ◌*◌, ◌-◌, ◌<◌, ◌≤◌, min, max, eqb, length, get_or};
 ghost use Rattle.measures.specs.Ranges.{most_energy};
 ghost use Rattle.matching.specs.Orders.{Row as RowRecord};
-ghost use Rattle.matching.specs.Memory.{order_at, order_words, row_words, as_row, written};
+ghost use Rattle.matching.specs.Memory.{order_at, row_words, as_row, written};
 ghost use Rattle.matching.specs.Clearing.{end_to_end, overlap_rows};
 ghost use Rattle.matching.specs.Inner.Places.{fills_at, Filling};
 
 use crate::fills::Fills;
-use crate::orders::Row;
+use crate::orders::{OpenOrders, Row, Way};
 use measures::{Energy, Price};
 
 // A fill laid end to end with those before it: the order's unit, and the kWh from `from` up to `upto`.
@@ -43,13 +43,13 @@ fn put_some(rows: &mut [u64], count: usize, r: Row) -> usize
 }
 
 // The span of fill i, which begins at `from`.
-fn span_at(orders: &[u64], fills: Fills, i: usize, from: Energy) -> Span
-    requires { (i < length fills.places.now) × (i < length fills.amounts.now) × (order_words * get_or fills.places.now i 0 + order_words ≤ length orders.now)
-        × (get_or fills.places.now i 0 < 256) × (from.0 + get_or fills.amounts.now i 0 ≤ most_energy) }
-    ensures { (result.unit ≡ (order_at orders.now (get_or fills.entry.places.now i 0)).unit) × (result.from.0 ≡ from.0)
+fn span_at(orders: OpenOrders<'_>, fills: Fills, i: usize, from: Energy) -> Span
+    requires { (i < length fills.places.now) × (i < length fills.amounts.now) × (get_or fills.places.now i 0 < orders.count)
+        × (from.0 + get_or fills.amounts.now i 0 ≤ most_energy) }
+    ensures { (result.unit ≡ (order_at orders.entry.words.now (get_or fills.entry.places.now i 0)).unit) × (result.from.0 ≡ from.0)
         × (result.upto.0 ≡ from.0 + get_or fills.entry.amounts.now i 0) }
 {
-    let o = crate::orders::read(orders, fills.places[i] as usize);
+    let o = orders.read(fills.places[i] as usize);
     let upto = from.plus(Energy(fills.amounts[i]));
     Span {
         unit: o.unit,
@@ -60,21 +60,19 @@ fn span_at(orders: &[u64], fills: Fills, i: usize, from: Energy) -> Span
 
 // The rows of all overlaps, in one walk along both sides; how many they are.
 pub(crate) fn put_overlaps(
-    orders: &[u64],
-    n: usize,
+    orders: OpenOrders<'_>,
     period: u64,
     price: Price,
     bids: Fills,
     asks: Fills,
     rows: &mut [u64],
 ) -> usize
-    requires { (order_words * n ≤ length orders.now) × (n ≤ 256) × (row_words * n ≤ length rows.old) × (length bids.places.now + length asks.places.now ≤ n)
-        × Filling bids.places.now bids.amounts.now n × Filling asks.places.now asks.amounts.now n }
-    ensures { (rows.new ≡ written rows.old
-        (overlap_rows period price.0 (end_to_end 0 (fills_at orders.now bids.entry.places.now bids.entry.amounts.now))
-        (end_to_end 0 (fills_at orders.now asks.entry.places.now asks.entry.amounts.now))))
-        × (result ≡ length (overlap_rows period price.0 (end_to_end 0 (fills_at orders.now bids.entry.places.now bids.entry.amounts.now))
-        (end_to_end 0 (fills_at orders.now asks.entry.places.now asks.entry.amounts.now)))) }
+    requires { (row_words * orders.count ≤ length rows.old) × (length bids.places.now + length asks.places.now ≤ orders.count)
+        × Filling bids.places.now bids.amounts.now orders.count × Filling asks.places.now asks.amounts.now orders.count }
+    ensures { let bought = fills_at orders.entry.words.now bids.entry.places.now bids.entry.amounts.now in
+        let sold = fills_at orders.entry.words.now asks.entry.places.now asks.entry.amounts.now in
+        let shared = overlap_rows period price.0 (end_to_end 0 bought) (end_to_end 0 sold) in
+        (rows.new ≡ written rows.old shared) × (result ≡ length shared) }
 {
     let mut i: usize = 0;
     let mut j: usize = 0;
@@ -93,7 +91,7 @@ pub(crate) fn put_overlaps(
             rows,
             count,
             Row {
-                way: 3,
+                way: u64::from(Way::Clear),
                 period,
                 seller: ask.unit,
                 buyer: bid.unit,

@@ -1,12 +1,11 @@
 // What fills leave of the orders: each is taken off at its place, and an emptied order goes.
-ghost use Rattle.std.specs.Prelude.{◌≡◌, true, ◌+◌, ◌*◌, ◌-◌, ◌<◌, ◌≤◌, length, take, drop};
+ghost use Rattle.std.specs.Prelude.{◌≡◌, true, ◌*◌, ◌<◌, ◌≤◌, length, take, drop};
 ghost use Rattle.matching.specs.Orders.{rising, numbers, lessen};
 ghost use Rattle.matching.specs.Memory.{order_words, order_at, orders_in};
 ghost use Rattle.matching.specs.Clearing.{after_fills};
 ghost use Rattle.matching.specs.Inner.Places.{standing, fills_at, Filling, Taken};
 
 use crate::fills::Fills;
-use crate::orders::Order;
 use measures::Energy;
 
 // Takes x off the order at p; an emptied order stands no longer.

@@ -1,15 +1,15 @@
 // Rolling matching: an incoming order meets the waiting ones (paper 01, "The eight calls", Order).
 ghost use Rattle.std.specs.Prelude.{◌≡◌, true, cond, List, [], ◌∷◌, ◌++◌, ℕ, ◌+◌, ◌-◌, ◌*◌, ◌<◌, ◌≤◌, min, length};
 ghost use Rattle.matching.specs.Orders.{Row as RowRecord, rising, numbers};
-ghost use Rattle.matching.specs.Memory.{direction_number, order_words, row_words, as_order, as_row, order_at, orders_in, written};
+ghost use Rattle.matching.specs.Memory.{direction_number, row_words, as_order, as_row, order_at, orders_in, written};
 ghost use Rattle.matching.specs.Rolling.{candidate, match_row, meet};
 ghost use Rattle.matching.specs.Inner.Runs.{key_of, RunsMet, MetInTurn};
 ghost use Rattle.matching.specs.Answers.{Meets, left_over};
 
 use crate::fills::Fills;
 use crate::fitness::fits;
-use crate::laying::{First, Side};
-use crate::orders::{Direction, Matched, Order, Row};
+use crate::laying::{First, Runs, Side};
+use crate::orders::{Direction, Matched, OpenOrders, Order, Row, Way};
 use crate::{laying, orders};
 use measures::Energy;
 
@@ -46,7 +46,7 @@ fn match_row(incoming: Order, o: Order, x: Energy) -> Row
         (incoming.unit, o.unit)
     };
     Row {
-        way: 4,
+        way: u64::from(Way::Rolling),
         period: incoming.period,
         seller,
         buyer,
@@ -57,19 +57,19 @@ fn match_row(incoming: Order, o: Order, x: Energy) -> Row
 
 // Writes the row of a match with the order at place p behind the count rows that stand; what of it is taken.
 fn match_at(
-    orders: &[u64],
+    orders: OpenOrders<'_>,
     p: usize,
     incoming: Order,
     left: Energy,
     rows: &mut [u64],
     count: usize,
 ) -> Energy
-    requires { (order_words * p + order_words ≤ length orders.now) × (p < 256) × (row_words * count + row_words ≤ length rows.old) × (count < 1000000) }
-    ensures { (result.0 ≡ min left.0 (order_at orders.now p).quantity)
+    requires { (p < orders.count) × (row_words * count + row_words ≤ length rows.old) × (count < 1000000) }
+    ensures { let o = order_at orders.entry.words.now p in (result.0 ≡ min left.0 o.quantity)
         × ((m : List ℕ) (rs : List RowRecord) → length rs ≡ count → rows.old ≡ written m rs → rows.new
-        ≡ written m (rs ++ (match_row (as_order incoming) (record { order = order_at orders.now p; quantity = result.0 }) ∷ []))) }
+        ≡ written m (rs ++ (match_row (as_order incoming) (record { order = o; quantity = result.0 }) ∷ []))) }
 {
-    let o = orders::read(orders, p);
+    let o = orders.read(p);
     let x = left.min(o.quantity);
     orders::put_row_at(rows, count, match_row(incoming, o, x));
     x
@@ -78,40 +78,34 @@ fn match_at(
 // An incoming order, of which some is open, meets the orders of the runs, best price first, then lowest number, until it is
 // spent or no order is left. Each match is a row; the places that were met, and what was taken there, are kept.
 fn meet_runs(
-    orders: &[u64],
-    n: usize,
+    orders: OpenOrders<'_>,
     incoming: Order,
-    keys: &[u64],
-    places: &[u64],
-    heads: &mut [u64],
-    ends: &[u64],
-    runs: usize,
+    runs: &mut Runs,
     met: &mut [u64],
     taken: &mut [u64],
     rows: &mut [u64],
 ) -> Meeting
-    requires { (order_words * n ≤ length orders.now) × (n ≤ 256) × (rising (numbers (orders_in orders.now n)) ≡ true) × (0 < incoming.quantity.0)
-        × (n ≤ length keys.now) × (n ≤ length places.now) × (length places.now ≤ 256) × (16 ≤ length heads.old) × (16 ≤ length ends.now)
-        × (n ≤ length met.old) × (n ≤ length taken.old) × (row_words * n ≤ length rows.old)
-        × RunsMet orders.now keys.now places.now heads.old ends.now n runs (as_order incoming) }
-    ensures { MetInTurn orders.now n (as_order incoming) rows.old result.left.0 result.count met.new taken.new
-        rows.new }
+    requires { (rising (numbers (orders_in orders.words.now orders.count)) ≡ true) × (0 < incoming.quantity.0)
+        × (orders.count ≤ length met.old) × (orders.count ≤ length taken.old) × (row_words * orders.count ≤ length rows.old)
+        × RunsMet orders.words.now runs.old.keys runs.old.places runs.old.heads runs.old.ends orders.count runs.old.count (as_order incoming) }
+    ensures { MetInTurn orders.entry.words.now orders.entry.count (as_order incoming) rows.old result.left.0 result.count met.new
+        taken.new rows.new }
 {
     let mut left = incoming.quantity;
     let mut count: usize = 0;
-    // its count is the answer, wherever it is left
-    'meeting: while count < n {
+    // paper 01 names this form: the labelled loop over counterparts, the scan for the best price inside, left when the amount is spent
+    'meeting: while count < orders.count {
         let mut best = First {
-            run: runs,
+            run: runs.count,
             key: u64::MAX,
         };
-        for j in 0..runs {
-            best = laying::nearer(keys, heads, ends, best, j);
+        for j in 0..runs.count {
+            best = runs.nearer(best, j);
         }
-        if best.run == runs {
+        if best.run == runs.count {
             break 'meeting;
         }
-        let p = laying::take_first(places, heads, best.run);
+        let p = runs.take_first(best.run);
         let x = match_at(orders, p, incoming, left, rows, count);
         met[count] = p as u64;
         taken[count] = x.0;
@@ -124,38 +118,25 @@ fn meet_runs(
     Meeting { left, count }
 }
 
-// The incoming order meets the first n orders in turn.
+// The incoming order meets the orders in turn.
 fn meet_in_turn(
-    orders: &[u64],
-    n: usize,
+    orders: OpenOrders<'_>,
     direction: Direction,
     incoming: Order,
     met: &mut [u64],
     taken: &mut [u64],
     rows: &mut [u64],
 ) -> Meeting
-    requires { (order_words * n ≤ length orders.now) × (n ≤ 256) × (rising (numbers (orders_in orders.now n)) ≡ true) × (incoming.direction ≡ direction_number direction)
-        × (0 < incoming.quantity.0) × (n ≤ length met.old) × (n ≤ length taken.old) × (row_words * n ≤ length rows.old) }
-    ensures { MetInTurn orders.now n (as_order incoming) rows.old result.left.0 result.count met.new taken.new
-        rows.new }
+    requires { (rising (numbers (orders_in orders.words.now orders.count)) ≡ true) × (incoming.direction ≡ direction_number direction)
+        × (0 < incoming.quantity.0) × (orders.count ≤ length met.old) × (orders.count ≤ length taken.old)
+        × (row_words * orders.count ≤ length rows.old) }
+    ensures { MetInTurn orders.entry.words.now orders.entry.count (as_order incoming) rows.old result.left.0 result.count met.new
+        taken.new rows.new }
 {
-    let mut keys = [0u64; 256];
-    let mut places = [0u64; 256];
-    let mut heads = [0u64; 16];
-    let mut ends = [0u64; 16];
     let side = side_met(direction, incoming);
-    let runs = laying::lay_runs(
-        orders,
-        n,
-        side,
-        &mut keys,
-        &mut places,
-        &mut heads,
-        &mut ends,
-    );
-    meet_runs(
-        orders, n, incoming, &keys, &places, &mut heads, &ends, runs, met, taken, rows,
-    )
+    let mut runs = Runs::none();
+    runs.lay(orders, side);
+    meet_runs(orders, incoming, &mut runs, met, taken, rows)
 }
 
 // The incoming order meets the first n orders, and what was taken off them goes; an emptied order goes with it. Orders
@@ -179,7 +160,8 @@ pub fn meet(orders: &mut [u64], n: usize, incoming: Order, rows: &mut [u64]) -> 
     }
     let mut met = [0u64; 256];
     let mut taken = [0u64; 256];
-    let meeting = meet_in_turn(orders, n, direction, incoming, &mut met, &mut taken, rows);
+    let open = OpenOrders::new(orders, n);
+    let meeting = meet_in_turn(open, direction, incoming, &mut met, &mut taken, rows);
     let fills = Fills {
         places: &met[..meeting.count],
         amounts: &taken[..meeting.count],
@@ -217,30 +199,30 @@ fn can_meet(incoming: Order, o: Order) -> bool
 }
 
 // What is left of `left` if the incoming order meets the one at place k too.
-fn left_past(orders: &[u64], k: usize, incoming: Order, left: Energy) -> Energy
-    requires { (order_words * k + order_words ≤ length orders.now) × (k < 256) }
-    ensures { result.0 ≡ left.0 - cond (candidate (as_order incoming) (order_at orders.now k)) (order_at orders.now k).quantity 0 }
+fn left_past(orders: OpenOrders<'_>, k: usize, incoming: Order, left: Energy) -> Energy
+    requires { k < orders.count }
+    ensures { let o = order_at orders.entry.words.now k in
+        result.0 ≡ left.0 - cond (candidate (as_order incoming) o) o.quantity 0 }
 {
-    let o = orders::read(orders, k);
+    let o = orders.read(k);
     if !can_meet(incoming, o) {
         return left;
     }
     left.minus(o.quantity)
 }
 
-// What would be left of an incoming order if it met the first n orders: nothing is matched, what it can meet is taken off.
-fn left_behind(orders: &[u64], n: usize, incoming: Order) -> Energy
-    requires { (order_words * n ≤ length orders.now) × (n ≤ 256) }
-    ensures { result.0 ≡ (meet (as_order incoming) (orders_in orders.now n)).left }
+// What would be left of an incoming order if it met the orders: nothing is matched, what it can meet is taken off.
+fn left_behind(orders: OpenOrders<'_>, incoming: Order) -> Energy
+    ensures { result.0 ≡ (meet (as_order incoming) (orders_in orders.entry.words.now orders.entry.count)).left }
 {
     let mut left = incoming.quantity;
-    for k in 0..n {
+    for k in 0..orders.count {
         left = left_past(orders, k, incoming, left);
     }
     left
 }
 
-// The same for any n and any memory: all of it where no order stands there.
+// The same of the first n orders of any memory: all of it where no order stands there.
 #[tactic(auto, unfolding(crate::specs::Answers::left_over, crate::specs::Memory::place_in))]
 pub fn left_over(orders: &[u64], n: usize, incoming: Order) -> Energy
     ensures { result.0 ≡ left_over orders.now n (as_order incoming) }
@@ -248,5 +230,5 @@ pub fn left_over(orders: &[u64], n: usize, incoming: Order) -> Energy
     if !orders::is_place(orders, n, 0) {
         return incoming.quantity;
     }
-    left_behind(orders, n, incoming)
+    left_behind(OpenOrders::new(orders, n), incoming)
 }

@@ -11,7 +11,7 @@ use native.Mathlib.Nat.{not-suc-le-zero, add-zero}
 use native.Mathlib.Numerals.{add-one}
 use native.Mathlib.Decide.{ℕ_discrete, dec_lt}
 use lib.Dec.{leb, ltb, eqb}
-use borrow.Author.Tests.{lt-ltb, le-ltb, le-leb, lt-leb, eq-eqb, ne_eqb, ltb-true, eqb-true}
+use borrow.Author.Tests.{lt-ltb, le-ltb, le-leb, lt-leb, eq-eqb, ne_eqb, ltb-true, eqb-true, leb-false}
 use Rattle.measures.specs.Ranges.{most_energy}
 use Rattle.measures.specs.Lists.{sum, one, count}
 use Rattle.measures.specs.Sharing.{before}
@@ -406,6 +406,10 @@ module _ (w : ℕ → ℕ) (n k low high above from : ℕ) (b : Between w n k lo
         };
         count = rw e b.top;
       }
+
+-- a search that is over, with fewer than are looked for above its bounds
+pub closed_on : (above k width : ℕ) → (ltb above k && leb 2 width) ≡ false → above < k → width < 2
+closed_on above k width e h = leb-false 2 width (rw (lt-ltb above k h) at e)
 
 pub between_start : (w : ℕ → ℕ) (n k high : ℕ) → 0 < high → high ≤ most_energy → k ≤ n → reach w n high ≡ 0 → Between w n k 0 high 0 n
 between_start w n k high o r l e = record { order = o; range = r; top = sym e; few = omega arith; bottom = sym (reach-all w n); many = l }

@@ -277,6 +277,3 @@ shared-sum d rs m m' i =
     let a = accepted d rs m i.answer in
     let s = is_shared d rs m a.room a.some a.small a.within refl in
     rw (i.memory, ← s.memory, take_at (parts d rs) (drop (length rs) m) (length rs) (parts-length d rs)) (parts-sum d rs (omega arith))
-
--- for the check to cite: what each way out of `share` gives
-pub ruleset ways_out = (is_short, is_nothing, is_large, is_over, is_shared)

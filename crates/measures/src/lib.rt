@@ -4,8 +4,8 @@
 mod refusals;
 mod sharing;
 
-ghost use Rattle.std.specs.Prelude.{◌≡◌, ◌+◌, ◌*◌, ◌-◌, ◌/◌, min, max, leb, ltb, eqb};
-ghost use Rattle.measures.specs.Ranges.{most_energy, most_price, most_number};
+ghost use Rattle.std.specs.Prelude.{◌≡◌, ◌+◌, ◌*◌, ◌-◌, ◌/◌, min, leb};
+ghost use Rattle.measures.specs.Ranges.{between, most_energy, most_price, most_number};
 ghost use Rattle.measures.specs.Sharing.{total, less_each, sharing, Is};
 ghost use Rattle.measures.specs.Refused.{refusal_of};
 
@@ -28,6 +28,13 @@ impl Energy {
         ensures { result ≡ leb self.0 most_energy }
     {
         self.0 <= Energy::MOST
+    }
+
+    // Whether this can be declared: it is neither nothing nor more than Energy::MOST.
+    pub fn can_be_declared(self) -> bool
+        ensures { result ≡ between 1 most_energy self.0 }
+    {
+        (1..=Energy::MOST).contains(&self.0)
     }
 
     // Six fifths of this, rounded down; of anything above Energy::MOST, six fifths of Energy::MOST.
@@ -108,10 +115,8 @@ pub fn capped_total(amounts: &[u64]) -> Energy
     Energy(sum)
 }
 
-// Shares an amount over the remaining amounts, into the first parts: 7 where fewer parts than amounts are lent, 9 where
-// the amount is 0 or above the remaining amounts' sum, or that sum above Energy::MOST, and 0 where the parts are written.
-// A refusal changes nothing.
-#[tactic(auto, using(crate::proofs::SharingLaws::ways_out))]
+// Shares an amount over the remaining amounts, into the first parts: `FewRows` where fewer parts than amounts are lent, `BadEnergy`
+// where the amount is 0 or above the remaining amounts' sum, or that sum above Energy::MOST. A refusal changes nothing.
 pub fn share(amount: Energy, amounts: &[u64], parts: &mut [u64]) -> Result<(), Refusal>
     ensures { Is (sharing amount.0 amounts.now parts.old) (refusal_of result) parts.new }
 {
@@ -136,6 +141,7 @@ pub fn share(amount: Energy, amounts: &[u64], parts: &mut [u64]) -> Result<(), R
 pub fn take_off(amounts: &mut [u64], parts: &[u64])
     ensures { amounts.new ≡ less_each amounts.old parts.now }
 {
+    // By index: `amounts.iter_mut().zip(parts)` was tried, and of what is written through it a proof knows the length alone.
     for i in 0..amounts.len().min(parts.len()) {
         amounts[i] = amounts[i].saturating_sub(parts[i]);
     }

@@ -18,7 +18,7 @@ use Rattle.lines.specs.Stepping.{State, state, fresh_desk, Stepped, Ended}
 use Rattle.lines.specs.EveryLine.{Steps, no_step, next_step, Run}
 use Rattle.lines.proofs.StepLaws.{used_some, used_within}
 use Rattle.lines.proofs.EveryLineHolds.{every_line_answered}
-use Rattle.rehearse.specs.Running.{Passed, ReadFrom, Rehearsal}
+use Rattle.rehearse.specs.Running.{PieceAnswered, ReadFrom, Rehearsal}
 
 -- steps behind steps
 steps_join : {a b c : State} {i j t u : List ℕ} → Steps a i b t → Steps b j c u → Steps a (i ++ j) c (t ++ u)
@@ -79,7 +79,7 @@ module _ {T E : Type 0} where
   pub record Passing (s : State) (piece rest : List ℕ) (s' : State) (o : Option (List ℕ)) (w : Result T E) (o' : Option (List ℕ)) : Type 0 where
     pub before : List ℕ
     pub parts : before ++ rest ≡ piece
-    pub passed : Passed s before s' o w o'
+    pub passed : PieceAnswered s before s' o w o'
 
   pub passing_none : (s : State) (piece : List ℕ) (o : Option (List ℕ)) (x : T) → Passing s piece piece s o (Ok x) o
   passing_none s piece o x = record { before = []; parts = refl; passed = record { text = []; steps = no_step; writes = writes_none o } }
@@ -100,7 +100,7 @@ module _ {T E : Type 0} where
       }
 
   pub passing_all : (s : State) (piece rest : List ℕ) (s' : State) (o : Option (List ℕ)) (w : Result T E) (o' : Option (List ℕ))
-      → Passing s piece rest s' o w o' → rest ≡ [] → Passed s piece s' o w o'
+      → Passing s piece rest s' o w o' → rest ≡ [] → PieceAnswered s piece s' o w o'
   passing_all s piece rest s' o w o' f e = rw (← f.parts, e, append-nil f.before) f.passed
 
   -- reading piece after piece
@@ -108,7 +108,7 @@ module _ {T E : Type 0} where
   read_none s i o x = record { bytes = []; reads = reads_none i; passed = record { text = []; steps = no_step; writes = writes_none o } }
 
   pub read_more : (s s₁ s₂ : State) (i i₁ i₂ o : Option (List ℕ)) (w : Result T E) (o₁ : Option (List ℕ)) (piece : List ℕ) (v : Result T E) (o₂ : Option (List ℕ))
-      → ReadFrom s s₁ i i₁ o w o₁ → Consumes i₁ i₂ piece → Passed s₁ piece s₂ o₁ v o₂ → ReadFrom s s₂ i i₂ o (result_and w v) o₂
+      → ReadFrom s s₁ i i₁ o w o₁ → Consumes i₁ i₂ piece → PieceAnswered s₁ piece s₂ o₁ v o₂ → ReadFrom s s₂ i i₂ o (result_and w v) o₂
   read_more s s₁ s₂ i i₁ i₂ o w o₁ piece v o₂ f r p =
       record {
         bytes = f.bytes ++ piece;
@@ -128,12 +128,15 @@ module _ {T E : Type 0} where
 
   pub read_all : (d : Desk) (ns m : List ℕ) (s : State) (i i' o : Option (List ℕ)) (w : Result T E) (o₁ : Option (List ℕ)) (started : Bool) (m' t : List ℕ)
       (v : Result T E) (o₂ : Option (List ℕ)) → d ≡ fresh_desk → Ended s started m' t → OnOk v (Appends o₁ o₂ t)
-      → ReadFrom (state d ns m) s i i' o w o₁ → OnOk w (IsAtEnd i') → Rehearsal ns m i i' o (result_and w v) o₂
+      → ReadFrom (state d ns m) s i i' o w o₁ → OnOk w (IsAtEnd i')
+      → Rehearsal ns m started m' i i' o (result_and w v) o₂
   read_all d ns m s i i' o w o₁ started m' t v o₂ fresh e h f n =
       record {
         input = f.bytes;
         text = f.passed.text ++ t;
         run = whole;
+        started = refl;
+        left = refl;
         answered = every_line_answered ns m f.bytes (f.passed.text ++ t) whole;
         reads = f.reads;
         writes = written_both o o₁ o₂ f.passed.text t w v f.passed.writes h;

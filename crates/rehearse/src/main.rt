@@ -5,7 +5,7 @@
 ghost use Rattle.std.specs.Prelude.{◌≡◌, OnOk};
 ghost use Rattle.std.specs.Io.KnownBytes.{IsAtEnd};
 ghost use Rattle.lines.specs.Stepping.{state_of, fresh_desk};
-ghost use Rattle.rehearse.specs.Running.{Passed, ReadFrom, Rehearsal};
+ghost use Rattle.rehearse.specs.Running.{PieceAnswered, ReadFrom, Rehearsal};
 
 use lines::steps::Memory;
 use std::io::{self, Read, Write};
@@ -14,10 +14,11 @@ use std::rt::HostRuntime;
 // Steps over the whole piece, and writes what each step prints. After a write that fails, which is told, the lines go on
 // being answered.
 fn answer_piece<W: Write>(memory: &mut Memory, piece: &[u8], output: &mut W) -> io::Result<()>
-    ensures { Passed (state_of memory.old) piece.now (state_of memory.new) (W.contents output.old) result (W.contents output.new) }
+    ensures { PieceAnswered (state_of memory.old) piece.now (state_of memory.new) (W.contents output.old) result (W.contents output.new) }
 {
     let mut written = Ok(());
     let mut rest = piece;
+    // No index is counted: what is left shrinks by what a step has read.
     while !rest.is_empty() {
         let used = memory.step(rest);
         written = written.and(output.write_all(memory.out.as_slice()));
@@ -56,8 +57,8 @@ fn answer_all<I: Read, W: Write>(
     output: &mut W,
 ) -> io::Result<()>
     requires { memory.old.desk ≡ fresh_desk }
-    ensures { Rehearsal memory.old.numbers memory.old.book (I.remaining input.old) (I.remaining input.new)
-        (W.contents output.old) result (W.contents output.new) }
+    ensures { Rehearsal memory.old.numbers memory.old.book memory.new.desk.started memory.new.book (I.remaining input.old)
+        (I.remaining input.new) (W.contents output.old) result (W.contents output.new) }
 {
     let written = answer_input(memory, input, output);
     memory.end();

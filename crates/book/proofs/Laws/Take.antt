@@ -3,7 +3,7 @@ pub mod TakingLaws
 pub mod TakenLaws
 pub mod EffectLaws
 pub mod EnterLaws
-pub mod WholeLaws
+pub mod EnteredLaws
 pub mod LessenedLaws
 pub mod WritingLaws
 pub mod InPlaceLaws

@@ -80,10 +80,14 @@ unit_holds m k x y =
     ∷ nat_le (sum (periods (word m DAYS)) (λ p. volume_part m k p (x p) (y p))) (volume_at m k)
     ∷ [])
 
+-- the largest word that is no fault: 2^40 - 1
+abbrev pub most_low : ℕ
+most_low = 1_099_511_627_775
+
 -- r is what the word of faults and the sums of a pass come to beside the limits of the unit at place k
 abbrev pub SumsCame : List ℕ → ℕ → ℕ → ℕ → ℕ → ℕ → Type 0
 SumsCame m k bad whole volume r =
-    r ≡ first_refusal (check 19 (nat_lt 1_099_511_627_775 bad) ∷ check 20 (nat_lt (term_at m k) whole) ∷ check 21 (nat_lt (volume_at m k) volume) ∷ [])
+    r ≡ first_refusal (check 19 (nat_lt most_low bad) ∷ check 20 (nat_lt (term_at m k) whole) ∷ check 21 (nat_lt (volume_at m k) volume) ∷ [])
 
 -- r is what n periods with these tests, sums and limits come to
 pub record Came (n : ℕ) (marks hours : ℕ → Bool) (term volume : ℕ → ℕ) (term_most volume_most r : ℕ) : Type 0 where

@@ -3,7 +3,7 @@
 use Rattle.std.specs.Prelude.{◌≡◌, ℕ, ◌+◌, ◌*◌, ◌%◌, ◌^◌, ◌<◌, ◌≤◌, List, length, slice_index}
 use Rattle.measures.specs.Lists.{sum}
 use Rattle.book.specs.declared.pass.Sums.{Sums}
-use Rattle.limits.specs.Units.{periods}
+use Rattle.limits.specs.Units.{most_capacity, periods}
 use Rattle.limits.specs.Limits.{hour_of, hour_limit}
 use Rattle.book.specs.Layout.{DAYS, unit_place, CAPACITY, figure_place, RAISED, LOWERED, MARK, VOLUME, word}
 
@@ -83,7 +83,7 @@ UnitPass m k x y bad marks whole volume = Pass (periods (word m DAYS)) (unit_cel
 
 -- that no hour limit passes the largest capacity
 pub record Limited (f : ℕ → Cell) : Type 0 where
-  pub limit : (i : ℕ) → (f i).limit ≤ 5_000_000
+  pub limit : (i : ℕ) → (f i).limit ≤ most_capacity
 
 abbrev pub Passed : ℕ → (ℕ → Cell) → Sums → Type 0
 Passed n f s = Pass n f s.bad s.marks s.whole s.volume

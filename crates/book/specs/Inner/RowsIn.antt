@@ -1,13 +1,13 @@
 -- What the functions that book rows in a book's memory promise of it.
-use Rattle.std.specs.Prelude.{◌≡◌, ℕ, ◌+◌, ◌-◌, ◌*◌, ◌<◌, ◌≤◌, Bool, not, List, [], ◌∷◌, ◌++◌, length, take, drop, ◌==◌, ◌≢◌, slice_index, slice_set}
+use Rattle.std.specs.Prelude.{◌≡◌, ℕ, ◌+◌, ◌-◌, ◌*◌, ◌<◌, ◌≤◌, Bool, List, [], ◌∷◌, ◌++◌, length, drop, ◌≢◌, slice_index, slice_set}
 use Rattle.measures.specs.Ranges.{most_energy}
-use Rattle.measures.specs.Lists.{keep, table}
+use Rattle.measures.specs.Lists.{table}
 use Rattle.measures.specs.Sharing.{total, parts}
 use Rattle.limits.specs.Units.{periods}
 use Rattle.matching.specs.Orders.{Row}
 use Rattle.matching.specs.Memory.{row_at, rows_in, written}
 use Rattle.book.specs.declared.trades.Figures.{Figures as FiguresValue}
-use Rattle.book.specs.Book.{Figures, OpenOffer, Book, offer_of, with_offers}
+use Rattle.book.specs.Book.{Figures, Book, offer_of, with_offers}
 use Rattle.book.specs.Trades.{booked, row_booked, rows_booked}
 use Rattle.book.specs.Fit.{Declaration}
 use Rattle.book.specs.Offer.{raising_amounts}
@@ -148,21 +148,6 @@ pub record OfferLessened (m x : List ℕ) (j : ℕ) (ps : List ℕ) : Type 0 whe
   pub head : (i : ℕ) → i < offers_start → word x i ≡ word m i
   pub figures : (i : ℕ) → figures_start ≤ i → word x i ≡ word m i
   pub left : AmountsLeft m x j ps
-
--- x is m after a take by unit u of parts l from the offer at place j, which stays; its rows stand in the lent memory
-pub record PartTaken (m x : List ℕ) (u j : ℕ) (l lent out : List ℕ) (k : ℕ) : Type 0 where
-  pub rows : RowsPut lent out k (take_rows (decode m) (offer_at m (word m DAYS) j) u (take (24 * word m DAYS) l))
-  pub book : decode x ≡ rows_booked (take_rows (decode m) (offer_at m (word m DAYS) j) u (take (24 * word m DAYS) l))
-      (with_offers (decode m) (slice_set (decode m).offers j (offer_less (offer_at m (word m DAYS) j) (take (24 * word m DAYS) l))))
-  pub aside : Aside m x
-  pub left : AmountsLeft m x j (take (24 * word m DAYS) l)
-
--- x is m after a take of all that is left of the offer of number n at place j
-pub record WholeTaken (m x : List ℕ) (u n j : ℕ) (l lent out : List ℕ) (k : ℕ) : Type 0 where
-  pub rows : RowsPut lent out k (take_rows (decode m) (offer_at m (word m DAYS) j) u (take (24 * word m DAYS) l))
-  pub book : decode x ≡ rows_booked (take_rows (decode m) (offer_at m (word m DAYS) j) u (take (24 * word m DAYS) l))
-      (with_offers (decode m) (keep (λ (o : OpenOffer). not (o.number == n)) (decode m).offers))
-  pub aside : Aside m x
 
 -- the lent parts are those of the take of a quantity of number n, with something behind them
 pub record PartsLent (m : List ℕ) (n q : ℕ) (l : List ℕ) : Type 0 where

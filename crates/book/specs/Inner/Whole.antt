@@ -78,9 +78,11 @@ abbrev pub Alike : List ℕ → ℕ → Option ℕ → Type 0
 Alike m k None = (j : ℕ) → j < k → word m (order_place j + UNIT) ≡ word m (order_place k + UNIT) → word m (order_place j + PERIOD) ≢ word m (order_place k + PERIOD)
 Alike m k (Some t) = AlikeBefore m k t
 
--- of each period and the first k orders: what is above each buy price and not above it needlessly, and what is not above
--- any sell price and not below it needlessly
-pub record Prices (m : List ℕ) (k : ℕ) (high low : List ℕ) : Type 0 where
+-- lists with room for each period: of each period and the first k orders, what is above each buy price and not above it needlessly,
+-- and what is not above any sell price and not below it needlessly
+pub record PricesNoted (m : List ℕ) (k : ℕ) (high low : List ℕ) : Type 0 where
+  pub high_long : periods (word m DAYS) ≤ length high
+  pub low_long : periods (word m DAYS) ≤ length low
   pub above : (p j : ℕ) → p < periods (word m DAYS) → j < k → word m (order_place j + DIRECTION) ≡ 1 → word m (order_place j + PERIOD) ≡ p
       → word m (order_place j + PRICE)
       < slice_index high p
@@ -93,11 +95,9 @@ pub record Prices (m : List ℕ) (k : ℕ) (high low : List ℕ) : Type 0 where
       → ((j : ℕ) → j < k → word m (order_place j + DIRECTION) ≡ 0 → word m (order_place j + PERIOD) ≡ p → x
       < word m (order_place j + PRICE)) → x < slice_index low p
 
--- the same in the rolling phase, with room for each period
-pub record PricesKept (m : List ℕ) (k : ℕ) (high low : List ℕ) : Type 0 where
-  pub high_long : word m PHASE ≡ 1 → periods (word m DAYS) ≤ length high
-  pub low_long : word m PHASE ≡ 1 → periods (word m DAYS) ≤ length low
-  pub prices : word m PHASE ≡ 1 → Prices m k high low
+-- the same in the rolling phase
+abbrev pub PricesKept : List ℕ → ℕ → List ℕ → List ℕ → Type 0
+PricesKept m k high low = word m PHASE ≡ 1 → PricesNoted m k high low
 
 -- whether the orders at places k and j do not cross
 abbrev pub crossless : List ℕ → ℕ → ℕ → Bool
@@ -106,7 +106,7 @@ crossless m k j = holds (apart (order_at (orders_part m) k) (order_at (orders_pa
 -- r says whether the order at place k crosses none before it; if so, its price is entered
 pub record Priced (m : List ℕ) (k : ℕ) (r : Bool) (high low : List ℕ) : Type 0 where
   pub answer : r ≡ all k (crossless m k)
-  pub entered : r ≡ true → Prices m (k + 1) high low
+  pub entered : r ≡ true → PricesNoted m (k + 1) high low
 
 -- whether each of the first k orders may stand with those before it
 unfoldable pub pairs_before : List ℕ → ℕ → Bool
@@ -115,7 +115,7 @@ pairs_before m k = all k (λ i. all i (λ j. pair_fits (word m PHASE) (order_at 
 -- r says whether the order at place k may stand with each before it; in the rolling phase its price is then entered
 pub record OrderStands (m : List ℕ) (k : ℕ) (r : Bool) (high low : List ℕ) : Type 0 where
   pub answer : r ≡ all k (λ j. pair_fits (word m PHASE) (order_at (orders_part m) k) (order_at (orders_part m) j))
-  pub entered : r ≡ true → word m PHASE ≡ 1 → Prices m (k + 1) high low
+  pub entered : r ≡ true → PricesKept m (k + 1) high low
 
 -- the direction that raises the unit at place k
 unfoldable pub raising_direction : List ℕ → ℕ → ℕ

@@ -1,3 +1,4 @@
 pub mod EachLaws
 pub mod SumLaws
 pub mod RemainLaws
+pub mod OrderingLaws

@@ -1,20 +1,19 @@
 -- Cancel on a sound book in memory: its checks, and the book without the order.
-use Rattle.std.proofs.Common.{◌≡◌, ℕ, ◌+◌, ◌-◌, ◌*◌, ◌<◌, ◌≤◌, Bool, true, false, cond, not, ◌&&◌, eqb, ltb, List, [], ◌∷◌, ◌++◌, length, get_or, take, drop, set, None, refl}
+use Rattle.std.proofs.Common.{◌≡◌, ℕ, ◌+◌, ◌-◌, ◌*◌, ◌<◌, ◌≤◌, true, not, eqb, List, [], ◌∷◌, ◌++◌, length, get_or, take, drop, set, refl}
 use Rattle.std.proofs.Common.{sym, ap, ◌∙◌, arith, eq-eqb, ne_eqb}
 use borrow.Rule.Slice.PartMut.{put_mid}
 use Rattle.measures.specs.Lists.{keep}
-use Rattle.measures.proofs.ListLaws.{all_true, not_both}
-use Rattle.measures.proofs.RangeLaws.{In, inside, outside}
+use Rattle.measures.proofs.ListLaws.{all_true}
+use Rattle.measures.proofs.RangeLaws.{In, inside}
 use Rattle.matching.specs.Orders.{Order as OpenOrder, rising, numbers}
 use Rattle.matching.specs.Memory.{order_at, orders_in, no_order}
 use Rattle.matching.proofs.Laws.Orders.OrderLaws.{orders_at_lem}
-use Rattle.book.specs.Book.{Book, with_orders, order_open, order_of, orders_of, known}
+use Rattle.book.specs.Book.{with_orders, orders_of}
 use Rattle.book.specs.Sound.{sound, numbers_differ}
 use Rattle.book.specs.Layout.{UNITS, ORDERS, orders_start, orders_words, order_place, UNIT, word, orders_part, decode, Aside}
 use Rattle.book.specs.Inner.Readable.{offer_numbers}
 use Rattle.book.specs.Refusals.{first_refusal}
 use Rattle.book.specs.Contract.{sound_in}
-use Rattle.book.specs.Inner.Search.{OrderFound}
 use Rattle.book.specs.Cancel.{cancel_checks}
 use Rattle.book.proofs.Laws.Memory.RangeFacts.{units_held, orders_held, order_word}
 use Rattle.book.proofs.Laws.Check.NumberLaws.{orders_from}
@@ -64,10 +63,6 @@ module _ (m : List ℕ) (s : sound_in m ≡ true) (n : ℕ) where
 
   -- the checks
   module _ (u : ℕ) where
-    pub cancel_unknown : (In 1 (word m UNITS) u → ⊥) → 6 ≡ first_refusal (cancel_checks (decode m) u n)
-    unfolding first_refusal
-    cancel_unknown h = rw (units_held m) (rw (outside 1 (word m UNITS) u h) refl)
-
     pub cancel_absent : In 1 (word m UNITS) u → ((k : ℕ) → k < word m ORDERS → word m (order_place k) ≡ n → ⊥) → 11 ≡ first_refusal (cancel_checks (decode m) u n)
     unfolding first_refusal
     cancel_absent h a = rw (units_held m) (rw (inside 1 (word m UNITS) u h, order_absent a) refl)
@@ -85,23 +80,6 @@ module _ (m : List ℕ) (s : sound_in m ≡ true) (n : ℕ) where
     cancel_passes h k hk e g =
         let w : get_or (orders_part m) (6 * k + 1) 0 ≡ word m (order_place k + UNIT) = order_word m (6 * k + 1) (omega (arith, few)) ∙ ap (word m) (omega arith) in
         rw (units_held m) (rw (inside 1 (word m UNITS) u h, order_found k hk e, w, eq-eqb (word m (order_place k + UNIT)) u g) refl)
-
-  -- an open order has a place
-  pub order_placed : order_open (decode m) n ≡ true → OrderFound m n None → ⊥
-  order_placed o a =
-      let z : ltb 0 (length (orders_of (decode m) n)) ≡ false = rw (order_absent a) refl in
-      not_both _ o z
-
--- where the checks of a cancel give 0, the order is open
-pub cancel_open : (b : Book) (u n : ℕ) → 0 ≡ first_refusal (cancel_checks b u n) → order_open b n ≡ true
-unfolding first_refusal
-cancel_open b u n e = go (not (known b u)) (order_open b n) (eqb (order_of b n).unit u) refl refl refl e
-  where
-    go : (p q r : Bool) → not (known b u) ≡ p → order_open b n ≡ q → eqb (order_of b n).unit u ≡ r → ◌≡◌ {A = ℕ} 0 (cond p 6 (cond (not (q && r)) 11 0))
-        → order_open b n ≡ true
-    go true q r ep eq er h = absurd (omega arith)
-    go false false r ep eq er h = absurd (omega arith)
-    go false true r ep eq er h = eq
 
 -- the memory after the order at place k is removed and one order fewer is counted
 module _ (m ys : List ℕ) (n k : ℕ) (s : sound_in m ≡ true) (hk : k < word m ORDERS) (e : word m (order_place k) ≡ n) (same : length ys ≡ orders_words)

@@ -24,9 +24,11 @@ use Rattle.book.specs.Fit.{
   term_fits,
   volume_fits,
 }
-use Rattle.book.specs.Layout.{DAYS, UNITS, OFFERS, ORDERS, unit_place, offer_place, UNIT, figure_place, LOWERED, word, figures_at, amount_at, offer_at, orders_part, decode}
+use Rattle.book.specs.Layout.{DAYS, UNITS, OFFERS, ORDERS, unit_place, offer_place, UNIT, figure_place, LOWERED, word, figures_at}
+use Rattle.book.specs.Layout.{amount_at, offer_at, orders_part, decode}
 use Rattle.book.specs.Inner.Readable.{marks_in, unit_whole, declared, misfit_of, Fitted}
-use Rattle.book.specs.Inner.Fitting.{Added, order_share, offer_share, mark_holds, hour_holds, term_part, volume_part, term_at, volume_at, unit_holds, UnitCame}
+use Rattle.book.specs.Inner.Fitting.{Added, order_share, offer_share, mark_holds, hour_holds, term_part, volume_part, term_at, volume_at}
+use Rattle.book.specs.Inner.Fitting.{unit_holds, UnitCame}
 use Rattle.book.proofs.Laws.Memory.RangeFacts.{unit_at_lem, order_word_at}
 
 -- the direction that raises a unit of a kind, and the one that lowers it

@@ -1,16 +1,14 @@
 -- The orders linked by a key.
-use Rattle.std.proofs.Common.{◌≡◌, ℕ, ◌+◌, ◌-◌, ◌*◌, ◌/◌, ◌<◌, ◌≤◌, List, length, get_or, set, sym, ap, ◌∙◌, arith, length-set, get_or-set_other, get_or-set_same}
+use Rattle.std.proofs.Common.{◌≡◌, ℕ, ◌+◌, ◌-◌, ◌*◌, ◌/◌, ◌<◌, ◌≤◌, List, length, get_or, set, sym, ap, ◌∙◌, arith, length-set}
+use Rattle.std.proofs.Common.{get_or-set_other, get_or-set_same}
 use native.Mathlib.Decide.{ℕ_discrete}
 use Rattle.book.specs.Layout.{DAYS, ORDERS, order_place, UNIT, PERIOD, word}
 use Rattle.book.specs.Inner.Readable.{Ranged}
 use Rattle.book.specs.Inner.Whole.{by_period, by_day, Latest, Chained}
 use Rattle.book.proofs.Laws.Check.ShareLaws.{order_words_lem}
 
--- the last order of a key: among none, with one more of the key, and with one more of another
+-- the last order of a key, with one more of the key and with one more of another
 module _ (key : ℕ → ℕ) where
-  pub latest_none : (v t n : ℕ) → t ≡ 0 → n ≡ 0 → Latest key v t n
-  latest_none v t n e z = record { to = omega arith; own = λ h. absurd (omega arith); none = λ i h l q. omega arith }
-
   latest_here : (v k : ℕ) → key k ≡ v → Latest key v (k + 1) (k + 1)
   latest_here v k e =
       record {

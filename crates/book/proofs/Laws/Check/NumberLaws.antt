@@ -1,5 +1,6 @@
 -- Laws of open numbers in memory.
-use Rattle.std.proofs.Common.{◌≡◌, ℕ, suc, ◌-◌, ◌*◌, ◌<◌, ◌≤◌, Bool, true, false, not, eqb, List, length, get_or, sym, refl, ap, ◌∙◌, arith, Option, Some, None, is_some, eq-eqb, ne_eqb}
+use Rattle.std.proofs.Common.{◌≡◌, ℕ, suc, ◌-◌, ◌*◌, ◌<◌, ◌≤◌, Bool, true, false, not, eqb, List, length, get_or, sym, refl, ap, ◌∙◌, arith}
+use Rattle.std.proofs.Common.{Option, Some, None, is_some, eq-eqb, ne_eqb}
 use borrow.Author.Tests.{not-true, not-false}
 use lib.ListN.{length-map, get_or-map}
 use Rattle.measures.specs.Lists.{all}

@@ -1,13 +1,15 @@
 -- What a unit has open on a day: its offers' amounts, the walk through its orders of the day, and both together.
-use Rattle.std.proofs.Common.{◌≡◌, ℕ, zero, suc, ◌+◌, ◌-◌, ◌*◌, ◌/◌, ◌%◌, ◌<◌, ◌≤◌, cond, ◌&&◌, eqb, List, length, get_or, set, Option, Some, None, is_some, false, sym, refl, ap, ◌∙◌, arith, ne_eqb}
+use Rattle.std.proofs.Common.{◌≡◌, ℕ, zero, suc, ◌+◌, ◌-◌, ◌*◌, ◌/◌, ◌%◌, ◌<◌, ◌≤◌, cond, ◌&&◌, eqb, List, length, get_or, set, Option}
+use Rattle.std.proofs.Common.{Some, None, is_some, false, sym, refl, ap, ◌∙◌, arith, ne_eqb}
 use native.Mathlib.Decide.{dec_lt, ℕ_discrete}
 use Rattle.measures.specs.Ranges.{most_energy}
 use Rattle.measures.specs.Lists.{sum}
 use Rattle.measures.proofs.ListLaws.{and_left-false, and_right_false, sum_none, sum_more, sum-zero}
-use Rattle.book.specs.Layout.{UNITS, OFFERS, ORDERS, offer_place, order_place, UNIT, DIRECTION, PERIOD, QUANTITY, amount_place, word, amount_at}
+use Rattle.book.specs.Layout.{UNITS, OFFERS, ORDERS, offer_place, order_place, UNIT, DIRECTION, PERIOD, QUANTITY, word, amount_at}
 use Rattle.book.specs.Inner.Readable.{Ranged}
 use Rattle.book.specs.Inner.Fitting.{Below, Added, order_share, offer_share}
-use Rattle.book.specs.Inner.Whole.{by_day, link_of, Latest, raising_direction, open_up, open_down, BothAdded, hour_share, Gathered, OffersOther, DayIdle}
+use Rattle.book.specs.Inner.Whole.{by_day, link_of, Latest, raising_direction, open_up, open_down, BothAdded, hour_share, Gathered}
+use Rattle.book.specs.Inner.Whole.{OffersOther, DayIdle}
 use Rattle.book.proofs.Laws.Check.ShareLaws.{
   order_words_lem,
   added_none,
@@ -20,10 +22,6 @@ use Rattle.book.proofs.Laws.Check.ShareLaws.{
   shares_more,
 }
 use Rattle.book.proofs.Laws.Check.LinkedLaws.{key_unit, key_day, key_by}
-
--- an amount of a day, by its place
-pub amount_at_lem : (m : List ℕ) (j d h : ℕ) → word m (amount_place j (24 * d) + h) ≡ amount_at m j (24 * d + h)
-amount_at_lem m j d h = ap (λ (i : ℕ). word m i) (omega arith)
 
 -- the amounts of a unit's offers on a day
 abbrev pub OffersAdded : List ℕ → ℕ → ℕ → List ℕ → List ℕ → ℕ → Type 0

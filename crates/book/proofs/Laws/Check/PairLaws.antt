@@ -1,5 +1,6 @@
 -- Laws of orders that stand together.
-use Rattle.std.proofs.Common.{◌≡◌, ℕ, ◌<◌, Bool, true, false, not, ◌&&◌, ◌||◌, eqb, ltb, List, length, get_or, sym, refl, arith, ltb-true, lt-ltb, eq-eqb, ne_eqb, eqb-true}
+use Rattle.std.proofs.Common.{◌≡◌, ℕ, ◌<◌, Bool, true, false, not, ◌&&◌, ◌||◌, eqb, ltb, List, length, get_or, sym, refl, arith, ltb-true}
+use Rattle.std.proofs.Common.{lt-ltb, eq-eqb, ne_eqb, eqb-true}
 use native.Mathlib.Decide.{ℕ_discrete, dec_lt}
 use Rattle.measures.specs.Lists.{every, all}
 use Rattle.measures.proofs.ListLaws.{and_true, and_left, and_right, or_right, not_both, false_by, all_at, all_by, every_at, every_by}

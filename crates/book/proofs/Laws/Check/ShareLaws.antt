@@ -1,14 +1,16 @@
 -- Amounts added by period: none, one more, and what an order and an offer in memory add.
-use Rattle.std.proofs.Common.{◌≡◌, ℕ, zero, suc, ◌+◌, ◌*◌, ◌<◌, ◌≤◌, ◌&&◌, eqb, List, [], ◌∷◌, length, get_or, set, refl}
-use Rattle.std.proofs.Common.{sym, ◌∙◌, add-zero, arith, length-set, get_or-set_other, get_or-set_same, eq-eqb, ne_eqb}
+use Rattle.std.proofs.Common.{◌≡◌, ℕ, zero, suc, ◌+◌, ◌-◌, ◌*◌, ◌<◌, ◌≤◌, ◌&&◌, eqb, List, [], ◌∷◌, length, get_or, set, take, drop, refl}
+use Rattle.std.proofs.Common.{sym, ap, ◌∙◌, add-zero, arith, length-drop, length-set, length-take-le, get_or-drop, get_or-take}
+use Rattle.std.proofs.Common.{get_or-set_other, get_or-set_same}
+use Rattle.std.proofs.Common.{eq-eqb, ne_eqb}
 use native.Mathlib.Decide.{ℕ_discrete, dec_lt}
 use Rattle.measures.specs.Ranges.{most_energy}
 use Rattle.measures.specs.Lists.{sum}
 use Rattle.measures.proofs.ListLaws.{and_right_false, all_at, sum_none, sum_more, sum_at, total-table}
 use Rattle.limits.specs.Units.{periods}
-use Rattle.book.specs.Layout.{DAYS, OFFERS, ORDERS, offer_place, order_place, UNIT, DIRECTION, PERIOD, QUANTITY, word, amount_at}
+use Rattle.book.specs.Layout.{DAYS, UNITS, OFFERS, ORDERS, offer_place, order_place, UNIT, DIRECTION, PERIOD, QUANTITY, amount_place, word, amount_at}
 use Rattle.book.specs.Inner.Readable.{Ranged}
-use Rattle.book.specs.Inner.Fitting.{Added, order_share, offer_share}
+use Rattle.book.specs.Inner.Fitting.{Below, Added, order_share, offer_share}
 use Rattle.book.proofs.Laws.Memory.RangeFacts.{OrderWords, order_facts, orders_every, OfferWords, offer_facts, offers_every}
 
 -- nothing stands past the end of a list
@@ -23,10 +25,23 @@ order_words_lem m k r h =
     let s = r.readable.orders_to in
     order_facts m k (omega arith) (all_at (word m ORDERS) _ k (sym (orders_every m) ∙ r.orders) h)
 
+-- where an order's words lie
+pub period_in : (m : List ℕ) (k : ℕ) → Ranged m → k < word m ORDERS → word m (order_place k + PERIOD) < periods (word m DAYS)
+period_in m k r h = (order_words_lem m k r h).period
+
+pub unit_in : (m : List ℕ) (k : ℕ) → Ranged m → k < word m ORDERS
+    → (1 ≤ word m (order_place k + UNIT)) × (word m (order_place k + UNIT) ≤ word m UNITS)
+unit_in m k r h = (order_words_lem m k r h).unit
+
+pub quantity_in : (m : List ℕ) (k : ℕ) → Ranged m → k < word m ORDERS → word m (order_place k + QUANTITY) ≤ most_energy
+quantity_in m k r h = (order_words_lem m k r h).quantity.1
+
+pub ruleset order_ranges = (period_in, unit_in, quantity_in)
+
 offer_words_lem : (m : List ℕ) (j : ℕ) → Ranged m → j < word m OFFERS → OfferWords m j
 offer_words_lem m j r h = offer_facts m j (all_at (word m OFFERS) _ j (sym (offers_every m) ∙ r.offers) h)
 
-pub amount_small : (m : List ℕ) (j p : ℕ) → Ranged m → j < word m OFFERS → p < periods (word m DAYS) → amount_at m j p ≤ most_energy
+amount_small : (m : List ℕ) (j p : ℕ) → Ranged m → j < word m OFFERS → p < periods (word m DAYS) → amount_at m j p ≤ most_energy
 amount_small m j p r h l =
     let w = (offer_words_lem m j r h).whole in
     let t = total-table (periods (word m DAYS)) (amount_at m j) in
@@ -86,29 +101,53 @@ module _ (m : List ℕ) (u direction k : ℕ) where
     order_added n l h s = placed n l (word m (order_place k + PERIOD)) (word m (order_place k + QUANTITY)) (order_share m u direction k) h s (share_there _ refl)
         (λ p w. share_elsewhere p (λ z. w (sym z)))
 
--- the periods below p have f added, the others not yet
+-- the amounts below p are added, the others not yet
 pub record Adding (l x : List ℕ) (f : ℕ → ℕ) (p : ℕ) : Type 0 where
   pub long : length x ≡ length l
   pub passed : (i : ℕ) → i < p → get_or x i 0 ≡ get_or l i 0 + f i
   pub still : (i : ℕ) → p ≤ i → get_or x i 0 ≡ get_or l i 0
 
-pub adding_ends : (n : ℕ) (l x : List ℕ) (f s : ℕ → ℕ) (p g : ℕ) → p ≡ n → Adding l x f p → ((i : ℕ) → i < n → f i ≤ g) → ((i : ℕ) → s i ≡ f i)
-    → Added n l x s g
-adding_ends n l x f s p g e a b q =
-    record {
-      long = a.long;
-      each = λ i h. let w = a.passed i (omega arith) in let z = q i in omega arith;
-      grown = λ i. go i (dec_lt i n);
-    }
-  where
-    go : (i : ℕ) → Dec (i < n) → get_or x i 0 ≤ get_or l i 0 + g
-    go i (yes h) =
-        let w = a.passed i (omega arith) in
-        let z = b i h in
-        omega arith
-    go i (no h) =
-        let w = a.still i (omega arith) in
-        omega arith
+-- amounts of the offer at place j, from period p on, which stand from a to b
+module _ (m : List ℕ) (j p a b : ℕ) (r : Ranged m) (h : j < word m OFFERS) (from : a ≡ amount_place j p)
+    (to : p + (b - a) ≤ periods (word m DAYS)) where
+  abbrev part : List ℕ
+  part = take (b - a) (drop a m)
+
+  part_long : length part ≡ b - a
+  part_long =
+      let d = r.readable in
+      length-take-le (b - a) (drop a m) (rw (length-drop a m) (omega arith))
+
+  part_at : (i : ℕ) → i < b - a → get_or part i 0 ≡ word m (a + i)
+  part_at i l = get_or-take (b - a) (drop a m) i 0 l ∙ get_or-drop a m i 0
+
+  part_small : Below most_energy part
+  part_small i = go (dec_lt i (b - a))
+    where
+      go : Dec (i < b - a) → get_or part i 0 ≤ most_energy
+      go (yes l) =
+          let s = amount_small m j (p + i) r h (omega arith) in
+          let e : word m (a + i) ≡ amount_at m j (p + i) = ap (λ (k : ℕ). word m k) (omega arith) in
+          let t = part_at i l in
+          omega arith
+      go (no l) = let t = get_d_past part i (rw part_long (omega arith)) in omega arith
+
+  pub part_asks : (l : List ℕ) → b - a ≤ length l → Below 2_000_000_000_000 l
+      → (length part ≤ length l) × Below most_energy part × Below 2_000_000_000_000 l
+  part_asks l n s = (rw part_long n, part_small, s)
+
+  pub part_added : (n : ℕ) (l x : List ℕ) (s : ℕ → ℕ) → n ≡ b - a → Added (length part) l x (λ i. get_or part i 0) most_energy
+      → ((i : ℕ) → i < n → s i ≡ word m (a + i)) → Added n l x s most_energy
+  part_added n l x s e w q =
+      record {
+        long = w.long;
+        each = λ i k.
+            let t = w.each i (rw part_long (omega arith)) in
+            let u = part_at i (omega arith) in
+            let v = q i k in
+            omega arith;
+        grown = w.grown;
+      }
 
 -- the share of an offer, by cases
 module _ (m : List ℕ) (u j : ℕ) where

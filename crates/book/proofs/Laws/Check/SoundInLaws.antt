@@ -1,5 +1,6 @@
 -- Whether memory holds a sound book: the tests that the code makes, one by one, are the definition's.
-use Rattle.std.proofs.Common.{◌≡◌, ℕ, ◌+◌, ◌<◌, ◌≤◌, Bool, true, false, not, ◌&&◌, ◌||◌, eqb, leb, List, length, sym, refl, ap, ◌∙◌, arith, eq-eqb, eqb-true, le-leb, leb-true}
+use Rattle.std.proofs.Common.{◌≡◌, ℕ, ◌+◌, ◌<◌, ◌≤◌, Bool, true, false, not, ◌&&◌, ◌||◌, eqb, leb, List, length, sym, refl, ap, ◌∙◌, arith}
+use Rattle.std.proofs.Common.{eq-eqb, eqb-true, le-leb, leb-true}
 use Rattle.measures.specs.Lists.{every, all}
 use Rattle.measures.proofs.ListLaws.{
   both_ways,

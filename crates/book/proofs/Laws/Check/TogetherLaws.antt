@@ -1,9 +1,10 @@
 -- Open orders that may stand together: a unit's orders of a period go one way, and no two of a period cross.
-use Rattle.std.proofs.Common.{◌≡◌, ℕ, zero, suc, ◌+◌, ◌-◌, ◌*◌, ◌<◌, ◌≤◌, Bool, true, false, not, ◌&&◌, eqb, List, [], ◌∷◌, length, get_or, set, replicate, None, refl}
-use Rattle.std.proofs.Common.{sym, ap, ◌∙◌, arith, get_or-set_other, get_or-set_same, eq-eqb, eqb-true}
+use Rattle.std.proofs.Common.{◌≡◌, ℕ, ◌+◌, ◌-◌, ◌*◌, ◌<◌, ◌≤◌, Bool, true, false, not, ◌&&◌, eqb, leb, ltb, List, [], ◌∷◌, length, get_or}
+use Rattle.std.proofs.Common.{set, None, refl}
+use Rattle.std.proofs.Common.{sym, ap, ◌∙◌, arith, length-set, get_or-set_other, get_or-set_same, eq-eqb, eqb-true, leb-true, leb-false}
+use Rattle.std.proofs.Common.{ltb-true, ltb-false}
 use native.Mathlib.Decide.{ℕ_discrete, dec_lt}
 use borrow.Author.Tests.{eqb-false, not-false}
-use lib.ListN.{length-replicate}
 use Rattle.measures.specs.Lists.{holds, all}
 use Rattle.measures.proofs.ListLaws.{both_ways, false_by, not_both, all_true, holds-all, all_none, all_more, all_fails, all_at, all_by, all_ext}
 use Rattle.limits.specs.Units.{periods}
@@ -14,10 +15,10 @@ use Rattle.matching.proofs.Laws.Periods.NoteLaws.{high_new, high-not, low_new, l
 use Rattle.book.specs.Sound.{one_direction, apart}
 use Rattle.book.specs.Layout.{DAYS, CEILING, PHASE, ORDERS, order_place, UNIT, DIRECTION, PERIOD, PRICE, word, orders_part, decode}
 use Rattle.book.specs.Inner.Readable.{Ranged, pair_fits, pairs_fit}
-use Rattle.book.specs.Inner.Whole.{by_period, by_day, Latest, AlikeBefore, Alike, Prices, PricesKept, crossless, Priced, pairs_before, OrderStands}
+use Rattle.book.specs.Inner.Whole.{by_period, by_day, Latest, AlikeBefore, Alike, PricesNoted, PricesKept, crossless, Priced, pairs_before}
+use Rattle.book.specs.Inner.Whole.{OrderStands}
 use Rattle.book.proofs.Laws.Memory.RangeFacts.{order_word}
 use Rattle.book.proofs.Laws.Check.ShareLaws.{order_words_lem}
-use Rattle.book.proofs.Laws.Check.MisfitLaws.{zeros_at}
 use Rattle.book.proofs.Laws.Check.PairLaws.{
   one_direction-holds,
   one_direction_fact,
@@ -216,30 +217,15 @@ module _ (m : List ℕ) (k : ℕ) (hk : k < 256) where
         go true e = direction_same pb (eqb-true _ _ e)
         go false e = direction_other (eqb-false _ _ e)
 
--- prices before any order
-const_at : (n c i : ℕ) → i < n → get_or (replicate n c) i 0 ≡ c
-const_at zero c i h = absurd (omega arith)
-const_at (suc n) c zero h = refl
-const_at (suc n) c (suc i) h = const_at n c i (omega arith)
-
-prices_none : (m : List ℕ) (n : ℕ) → periods (word m DAYS) ≤ n → Prices m 0 (replicate n 0) (replicate n 10_000_001)
-prices_none m n few =
-    record {
-      above = λ p j a b. absurd (omega arith);
-      least = λ p x a f. omega (arith, zeros_at n p);
-      below = λ p j a b. absurd (omega arith);
-      most = λ p x a l f. omega (arith, const_at n 10_000_001 p (omega arith));
-    }
-
 -- the order at place k against those before it
-module _ (m : List ℕ) (g : Ranged m) (k : ℕ) (h : k < word m ORDERS) (high low : List ℕ) (s : Prices m k high low) where
+module _ (m : List ℕ) (g : Ranged m) (k : ℕ) (h : k < word m ORDERS) (high low : List ℕ) (s : PricesNoted m k high low) where
   few : k < 256
   few = let t = g.readable.orders_to in omega arith
 
   term : word m (order_place k + PERIOD) < periods (word m DAYS)
   term = (order_words_lem m k g h).period
 
-  pub buy_crosses : word m CEILING ≤ 10_000_000 → word m (order_place k + DIRECTION) ≡ 1
+  buy_crosses : word m CEILING ≤ 10_000_000 → word m (order_place k + DIRECTION) ≡ 1
       → get_or low (word m (order_place k + PERIOD)) 0 ≤ word m (order_place k + PRICE) → false
       ≡ all k (crossless m k)
   buy_crosses c d l =
@@ -248,14 +234,14 @@ module _ (m : List ℕ) (g : Ranged m) (k : ℕ) (h : k < word m ORDERS) (high l
       (λ j a e q. apart-word m k j few (let f = few in omega arith) (all_true (apart (order_in m k) (order_in m j) ∷ apart (order_in m j) (order_in m k)
       ∷ []) (all_at k (crossless m k) j t a)).0 d e (sym q)) in omega arith)))
 
-  pub sell_crosses : word m (order_place k + DIRECTION) ≡ 0 → word m (order_place k + PRICE) < get_or high (word m (order_place k + PERIOD)) 0 → false
+  sell_crosses : word m (order_place k + DIRECTION) ≡ 0 → word m (order_place k + PRICE) < get_or high (word m (order_place k + PERIOD)) 0 → false
       ≡ all k (crossless m k)
   sell_crosses d l =
       sym (false_by _ (λ t. absurd (let z = s.least (word m (order_place k + PERIOD)) (word m (order_place k + PRICE)) term
       (λ j a e q. apart-word m j k (let f = few in omega arith) few (all_true (apart (order_in m k) (order_in m j) ∷ apart (order_in m j) (order_in m k)
       ∷ []) (all_at k (crossless m k) j t a)).1.0 e d q) in omega arith)))
 
-  pub buy_apart : word m (order_place k + DIRECTION) ≡ 1 → word m (order_place k + PRICE) < get_or low (word m (order_place k + PERIOD)) 0 → true
+  buy_apart : word m (order_place k + DIRECTION) ≡ 1 → word m (order_place k + PRICE) < get_or low (word m (order_place k + PERIOD)) 0 → true
       ≡ all k (crossless m k)
   buy_apart d l =
       sym (all_by k _ (λ j a. holds-all (apart (order_in m k) (order_in m j) ∷ apart (order_in m j) (order_in m k) ∷ []) (
@@ -263,7 +249,7 @@ module _ (m : List ℕ) (g : Ranged m) (k : ℕ) (h : k < word m ORDERS) (high l
         (apart_by m j k (let f = few in omega arith) few (λ e i q. absurd (omega arith)), tt),
       )))
 
-  pub sell_apart : word m (order_place k + DIRECTION) ≡ 0 → get_or high (word m (order_place k + PERIOD)) 0 ≤ word m (order_place k + PRICE) → true
+  sell_apart : word m (order_place k + DIRECTION) ≡ 0 → get_or high (word m (order_place k + PERIOD)) 0 ≤ word m (order_place k + PRICE) → true
       ≡ all k (crossless m k)
   sell_apart d l =
       sym (all_by k _ (λ j a. holds-all (apart (order_in m k) (order_in m j) ∷ apart (order_in m j) (order_in m k) ∷ []) (
@@ -272,14 +258,16 @@ module _ (m : List ℕ) (g : Ranged m) (k : ℕ) (h : k < word m ORDERS) (high l
       )))
 
   -- a buy's price entered
-  pub buy_entered : (high' : List ℕ) → word m (order_place k + DIRECTION) ≡ 1
+  buy_entered : (high' : List ℕ) → length high' ≡ length high → word m (order_place k + DIRECTION) ≡ 1
       → ((q : ℕ) → (q ≡ word m (order_place k + PERIOD) → ⊥) → get_or high' q 0 ≡ get_or high q 0)
       → get_or high (word m (order_place k + PERIOD)) 0 ≤ get_or high' (word m (order_place k + PERIOD)) 0 → word m (order_place k + PRICE)
       < get_or high' (word m (order_place k + PERIOD)) 0
       → ((x : ℕ) → get_or high (word m (order_place k + PERIOD)) 0 ≤ x → word m (order_place k + PRICE) < x → get_or high' (word m (order_place k + PERIOD)) 0 ≤ x)
-      → Prices m (k + 1) high' low
-  buy_entered high' d same up over tight =
+      → PricesNoted m (k + 1) high' low
+  buy_entered high' long d same up over tight =
       record {
+        high_long = rw long s.high_long;
+        low_long = s.low_long;
         above = λ q j a b e i. above q j a e i (ℕ_discrete j k) (ℕ_discrete q (word m (order_place k + PERIOD))) b;
         least = λ q x a f. least q x a f (ℕ_discrete q (word m (order_place k + PERIOD)));
         below = λ q j a b e i. below q j a e i (ℕ_discrete j k) b;
@@ -310,14 +298,16 @@ module _ (m : List ℕ) (g : Ranged m) (k : ℕ) (h : k < word m ORDERS) (high l
       below q j a e i (no y) b = s.below q j a (omega arith) e i
 
   -- a sale's price entered
-  pub sell_entered : (low' : List ℕ) → word m (order_place k + DIRECTION) ≡ 0
+  sell_entered : (low' : List ℕ) → length low' ≡ length low → word m (order_place k + DIRECTION) ≡ 0
       → ((q : ℕ) → (q ≡ word m (order_place k + PERIOD) → ⊥) → get_or low' q 0 ≡ get_or low q 0)
       → get_or low' (word m (order_place k + PERIOD)) 0 ≤ get_or low (word m (order_place k + PERIOD)) 0
       → get_or low' (word m (order_place k + PERIOD)) 0 ≤ word m (order_place k + PRICE)
       → ((x : ℕ) → x < get_or low (word m (order_place k + PERIOD)) 0 → x < word m (order_place k + PRICE) → x < get_or low' (word m (order_place k + PERIOD)) 0)
-      → Prices m (k + 1) high low'
-  sell_entered low' d same down under tight =
+      → PricesNoted m (k + 1) high low'
+  sell_entered low' long d same down under tight =
       record {
+        high_long = s.high_long;
+        low_long = rw long s.low_long;
         above = λ q j a b e i. above q j a e i (ℕ_discrete j k) b;
         least = λ q x a f. s.least q x a (λ j b. f j (omega arith));
         below = λ q j a b e i. below q j a e i (ℕ_discrete j k) (ℕ_discrete q (word m (order_place k + PERIOD))) b;
@@ -347,8 +337,7 @@ module _ (m : List ℕ) (g : Ranged m) (k : ℕ) (h : k < word m ORDERS) (high l
           ∙ e in absurd (omega arith)
       above q j a e i (no y) b = s.above q j a (omega arith) e i
 
-  -- the four ways in which an order stands apart
-  pub is_sale : (word m (order_place k + DIRECTION) ≡ 1 → ⊥) → word m (order_place k + DIRECTION) ≡ 0
+  is_sale : (word m (order_place k + DIRECTION) ≡ 1 → ⊥) → word m (order_place k + DIRECTION) ≡ 0
   is_sale n = let d = (order_words_lem m k g h).direction in go d (ℕ_discrete (word m (order_place k + DIRECTION)) 1)
     where
       go : word m (order_place k + DIRECTION) ≤ 1 → Dec (word m (order_place k + DIRECTION) ≡ 1) → word m (order_place k + DIRECTION) ≡ 0
@@ -365,30 +354,49 @@ module _ (m : List ℕ) (g : Ranged m) (k : ℕ) (h : k < word m ORDERS) (high l
   abbrev price : ℕ
   price = word m (order_place k + PRICE)
 
+  -- a buy tested against the lowest sell price, a sale against what is above the highest buy price
+  pub buy_test : word m CEILING ≤ 10_000_000 → d ≡ 1 → leb (get_or low p 0) price ≡ not (all k (crossless m k))
+  buy_test c e = go (leb (get_or low p 0) price) refl
+    where
+      go : (b : Bool) → leb (get_or low p 0) price ≡ b → b ≡ not (all k (crossless m k))
+      go true q = ap not (buy_crosses c e (leb-true _ _ q))
+      go false q = ap not (buy_apart e (leb-false _ _ q))
+
+  pub sell_test : (d ≡ 1 → ⊥) → ltb price (get_or high p 0) ≡ not (all k (crossless m k))
+  sell_test n = go (ltb price (get_or high p 0)) refl
+    where
+      go : (b : Bool) → ltb price (get_or high p 0) ≡ b → b ≡ not (all k (crossless m k))
+      go true q = ap not (sell_crosses (is_sale n) (ltb-true _ _ q))
+      go false q = ap not (sell_apart (is_sale n) (ltb-false _ _ q))
+
   price_entered : price < most_word → p < length high → p < length low → Dec (d ≡ 1) → Dec (price < get_or high p 0) → Dec (price < get_or low p 0)
-      → Prices m (k + 1) (high_with d p price high) (low_with d p price low)
+      → PricesNoted m (k + 1) (high_with d p price high) (low_with d p price low)
   price_entered small rh rl (yes e) (yes u) w = rw (high-not d p price high (λ _. u), low-not d p price low (λ n. absurd (n e)))
-      (buy_entered high e (λ q n. refl) (omega arith) u (λ x a b. a))
+      (buy_entered high refl e (λ q n. refl) (omega arith) u (λ x a b. a))
   price_entered small rh rl (yes e) (no u) w =
       let v = get_or-set_same high p (price + 1) 0 rh in
       rw (high_new d p price high e (omega arith) small, low-not d p price low (λ n. absurd (n e)))
-      (buy_entered (set high p (price + 1)) e (λ q n. get_or-set_other high p q (price + 1) 0 n) (omega arith) (omega arith) (λ x a b. omega arith))
+      (buy_entered (set high p (price + 1)) (length-set high p (price + 1)) e
+      (λ q n. get_or-set_other high p q (price + 1) 0 n) (omega arith) (omega arith) (λ x a b. omega arith))
   price_entered small rh rl (no n) u (yes w) =
       let v = get_or-set_same low p price 0 rl in
       rw (high-not d p price high (λ e. absurd (n e)), low_new d p price low n w)
-      (sell_entered (set low p price) (is_sale n) (λ q z. get_or-set_other low p q price 0 z) (omega arith) (omega arith) (λ x a b. omega arith))
+      (sell_entered (set low p price) (length-set low p price) (is_sale n)
+      (λ q z. get_or-set_other low p q price 0 z) (omega arith) (omega arith) (λ x a b. omega arith))
   price_entered small rh rl (no n) u (no w) = rw (high-not d p price high (λ e. absurd (n e)), low-not d p price low (λ _. omega arith))
-      (sell_entered low (is_sale n) (λ q z. refl) (omega arith) (omega arith) (λ x a b. a))
+      (sell_entered low refl (is_sale n) (λ q z. refl) (omega arith) (omega arith) (λ x a b. a))
 
-  pub priced : word m CEILING ≤ 10_000_000 → (r : Bool) → r ≡ not (all k (crossless m k)) → r ≡ false → periods (word m DAYS) ≤ length high
-      → periods (word m DAYS) ≤ length low
+  pub priced : word m CEILING ≤ 10_000_000 → (r : Bool) → r ≡ not (all k (crossless m k)) → r ≡ false
       → Priced m k true (high_with d p price high) (low_with d p price low)
-  priced top r e f lh ll =
+  priced top r e f =
       record {
         answer = sym (not-false (all k (crossless m k)) (sym e ∙ f));
         entered = λ z. let t = term in let y = g.readable.days_to in let w = (order_words_lem m k g h).price.1 in
+            let a = s.high_long in let b = s.low_long in
             price_entered (omega arith) (omega arith) (omega arith) (ℕ_discrete d 1) (dec_lt price (get_or high p 0)) (dec_lt price (get_or low p 0));
       }
+
+pub ruleset crossings = (buy_test, sell_test)
 
 -- an order that stands, or does not
 module _ (m : List ℕ) (k : ℕ) (high low : List ℕ) where
@@ -440,27 +448,14 @@ pub record Stood (m : List ℕ) (k : ℕ) (high low : List ℕ) : Type 0 where
   pub passed : pairs_before m k ≡ true
   pub kept : PricesKept m k high low
 
--- no price is entered yet
-pub kept_none : (m : List ℕ) (n : ℕ) → (word m PHASE ≡ 1 → periods (word m DAYS) ≤ n) → PricesKept m 0 (replicate n 0) (replicate n 10_000_001)
-kept_none m n few =
-    record {
-      high_long = λ z. rw (length-replicate {A = ℕ} n 0) (few z);
-      low_long = λ z. rw (length-replicate {A = ℕ} n 10_000_001) (few z);
-      prices = λ z. prices_none m n (few z);
-    }
-
 pub stood_none : (m high low : List ℕ) → PricesKept m 0 high low → Stood m 0 high low
 unfolding pairs_before
 stood_none m high low s = record { passed = all_none _; kept = s }
 
 module _ (m : List ℕ) (k : ℕ) (high low high' low' : List ℕ) (s : Stood m k high low) (r : Bool) (d : OrderStands m k r high' low') where
-  pub stood_more : r ≡ true → length high' ≡ length high → length low' ≡ length low → Stood m (k + 1) high' low'
+  pub stood_more : r ≡ true → Stood m (k + 1) high' low'
   unfolding pairs_before
-  stood_more t lh ll =
-      record {
-        passed = all_more k _ s.passed (sym d.answer ∙ t);
-        kept = record { high_long = λ z. rw lh (s.kept.high_long z); low_long = λ z. rw ll (s.kept.low_long z); prices = d.entered t };
-      }
+  stood_more t = record { passed = all_more k _ s.passed (sym d.answer ∙ t); kept = d.entered t }
 
   pub stood_fails : k < word m ORDERS → r ≡ false → false ≡ pairs_fit (word m PHASE) (decode m).orders
   unfolding decode

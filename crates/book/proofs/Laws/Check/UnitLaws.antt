@@ -1,5 +1,6 @@
 -- The hour limits of a unit, and the pass over its days.
-use Rattle.std.proofs.Common.{◌≡◌, ℕ, ◌+◌, ◌*◌, ◌<◌, ◌≤◌, List, length, get_or, set, sym, ap, ◌∙◌, arith, length-set, get_or-set_other, get_or-set_same}
+use Rattle.std.proofs.Common.{◌≡◌, ℕ, ◌+◌, ◌*◌, ◌<◌, ◌≤◌, List, length, get_or, set, sym, ap, ◌∙◌, arith, length-set, get_or-set_other}
+use Rattle.std.proofs.Common.{get_or-set_same}
 use native.Mathlib.Decide.{ℕ_discrete}
 use Rattle.limits.specs.Limits.{hour_of, hour_limit}
 use Rattle.limits.proofs.LimitLaws.{hour_most}

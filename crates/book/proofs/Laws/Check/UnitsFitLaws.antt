@@ -1,7 +1,7 @@
 -- The fit of a unit with what is open is that of the decoded book, and what it says of the unit's figures.
-use Rattle.std.proofs.Common.{◌≡◌, ℕ, ◌+◌, ◌-◌, ◌<◌, true, false, cond, eqb, List, sym, ap, ◌∙◌, arith}
+use Rattle.std.proofs.Common.{◌≡◌, ℕ, ◌+◌, ◌-◌, ◌<◌, true, cond, eqb, List, sym, ap, ◌∙◌, arith}
 use Rattle.measures.specs.Lists.{all}
-use Rattle.measures.proofs.ListLaws.{all_more, all_fails, all_at, all_ext}
+use Rattle.measures.proofs.ListLaws.{all_at, all_ext}
 use Rattle.measures.proofs.RangeLaws.{In}
 use Rattle.limits.specs.Units.{periods, generator}
 use Rattle.book.specs.Book.{unit_of}
@@ -54,7 +54,7 @@ module _ (m : List ℕ) (k : ℕ) (h : k < word m UNITS) where
     unit_is = rw place at (whole_is m (k + 1) known (open_up m k) (open_down m k) up_is (λ p l. down_is p))
 
 -- all units
-units_are : (m : List ℕ) → Ranged m → units_whole (decode m) ≡ all (word m UNITS) (λ k. unit_holds m k (open_up m k) (open_down m k))
+pub units_are : (m : List ℕ) → Ranged m → units_whole (decode m) ≡ all (word m UNITS) (λ k. unit_holds m k (open_up m k) (open_down m k))
 units_are m g = units_by_places m ∙ all_ext (word m UNITS) _ _ (λ k h. unit_is m k h g)
 
 -- a sound book has its marks and volumes in range
@@ -62,17 +62,3 @@ pub sound_tidy : (m : List ℕ) (k : ℕ) → sound_in m ≡ true → Ranged m �
 sound_tidy m k e g h =
     tidy m k (open_up m k) (open_down m k) g h
     (all_at (word m UNITS) (λ i. unit_holds m i (open_up m i) (open_down m i)) k (sym (units_are m g) ∙ (sound_words m e).whole) h)
-
--- the units below k fit
-abbrev pub UnitsFit : List ℕ → ℕ → Type 0
-UnitsFit m k = all k (λ i. unit_holds m i (open_up m i) (open_down m i)) ≡ true
-
-module _ (m : List ℕ) (k : ℕ) where
-  pub units_more : UnitsFit m k → unit_holds m k (open_up m k) (open_down m k) ≡ true → UnitsFit m (k + 1)
-  units_more u e = all_more k _ u e
-
-  pub units_fail : Ranged m → k < word m UNITS → unit_holds m k (open_up m k) (open_down m k) ≡ false → false ≡ units_whole (decode m)
-  units_fail g h e = sym (units_are m g ∙ all_fails (word m UNITS) (λ i. unit_holds m i (open_up m i) (open_down m i)) k h e)
-
-  pub units_end : Ranged m → k ≡ word m UNITS → UnitsFit m k → true ≡ units_whole (decode m)
-  units_end g e u = sym (units_are m g ∙ (rw e at u))

@@ -1,5 +1,6 @@
 -- What the pass over all periods of a unit says of its fit.
-use Rattle.std.proofs.Common.{◌≡◌, ℕ, ◌+◌, ◌<◌, ◌≤◌, Bool, true, false, cond, eqb, ltb, leb, List, refl, sym, arith, ltb-true, ltb-false, le-leb, leb-true}
+use Rattle.std.proofs.Common.{◌≡◌, ℕ, ◌+◌, ◌<◌, ◌≤◌, Bool, true, false, cond, eqb, ltb, leb, List, refl, sym, arith, ltb-true, ltb-false}
+use Rattle.std.proofs.Common.{le-leb, leb-true}
 use borrow.Author.Tests.{lt-leb}
 use Rattle.measures.specs.Lists.{sum, all}
 use Rattle.measures.proofs.ListLaws.{false_by, not_both, and_true, and_left, and_right, all_true, holds-all, all_at, all_by, sum_at}

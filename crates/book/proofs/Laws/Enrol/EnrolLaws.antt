@@ -1,13 +1,10 @@
 -- Enrol on a sound book in memory: its checks, and the book with one unit more.
 use Rattle.std.proofs.Common.{◌≡◌, ℕ, ◌+◌, ◌*◌, ◌/◌, ◌%◌, ◌<◌, ◌≤◌, Bool, true, false, cond, not, ◌&&◌, leb, List, [], ◌∷◌, ◌++◌, length, set, refl}
-use Rattle.std.proofs.Common.{sym, ap, ◌∙◌, arith, length-set, get_or-set_other, get_or-set_same, le-leb, leb-false}
-use borrow.Author.Tests.{lt-leb}
+use Rattle.std.proofs.Common.{sym, ap, ◌∙◌, arith, length-set, get_or-set_other, get_or-set_same, leb-false}
 use lib.ListN.{length-replicate, get_or-replicate}
-use Rattle.measures.specs.Ranges.{most_energy}
 use Rattle.measures.specs.Lists.{table}
 use Rattle.measures.proofs.ListLaws.{table_more, table_is}
-use Rattle.measures.proofs.RangeLaws.{In, inside, outside}
-use Rattle.limits.specs.Units.{most_capacity, kind_in, capacity_in, asset_in}
+use Rattle.limits.specs.Units.{kind_in, capacity_in, asset_in}
 use Rattle.matching.specs.Memory.{orders_in}
 use Rattle.book.specs.Book.{EnrolledUnit, no_figures, no_trades}
 use Rattle.book.specs.Layout.{
@@ -50,28 +47,6 @@ use Rattle.book.proofs.Laws.Memory.WordLaws.{book_same, units_same, offers_same,
 
 -- the checks
 module _ (m : List ℕ) (kind capacity asset : ℕ) where
-  pub enrol_kind : (In 1 4 kind → ⊥) → 3 ≡ first_refusal (enrol_checks (decode m) kind capacity asset)
-  unfolding first_refusal
-  enrol_kind h = rw (outside 1 4 kind h) refl
-
-  pub enrol_capacity : In 1 4 kind → (In 1 most_capacity capacity → ⊥) → 4 ≡ first_refusal (enrol_checks (decode m) kind capacity asset)
-  unfolding first_refusal
-  enrol_capacity k h = rw (inside 1 4 kind k, outside 1 most_capacity capacity h) refl
-
-  pub enrol_asset : In 1 4 kind → In 1 most_capacity capacity → most_energy < asset → 4 ≡ first_refusal (enrol_checks (decode m) kind capacity asset)
-  unfolding first_refusal
-  enrol_asset k c h = rw (inside 1 4 kind k, inside 1 most_capacity capacity c, lt-leb asset most_energy h) refl
-
-  pub enrol_full : In 1 4 kind → In 1 most_capacity capacity → asset ≤ most_energy → 64 ≤ word m UNITS → 5 ≡ first_refusal (enrol_checks (decode m) kind capacity asset)
-  unfolding first_refusal
-  enrol_full k c a h = rw (inside 1 4 kind k, inside 1 most_capacity capacity c, le-leb asset most_energy a, units_held m) (rw (le-leb 64 (word m UNITS) h) refl)
-
-  pub enrol_passes : In 1 4 kind → In 1 most_capacity capacity → asset ≤ most_energy → word m UNITS < 64 → 0
-      ≡ first_refusal (enrol_checks (decode m) kind capacity asset)
-  unfolding first_refusal
-  enrol_passes k c a h = rw (inside 1 4 kind k, inside 1 most_capacity capacity c, le-leb asset most_energy a, units_held m)
-      (rw (lt-leb 64 (word m UNITS) h) refl)
-
   -- where the checks give 0 there is room for a unit
   pub enrol_room : 0 ≡ first_refusal (enrol_checks (decode m) kind capacity asset) → word m UNITS < 64
   unfolding first_refusal
@@ -179,7 +154,7 @@ module _ (m x : List ℕ) (kind capacity asset : ℕ) (r : Readable m) (room : w
       (omega arith))))
       ∙ ap (λ (u : EnrolledUnit). table (word m UNITS) (unit_at m (word m DAYS)) ++ (u ∷ [])) new
 
-  pub enrolled_in : decode more ≡ enrolled (decode m) kind capacity asset
+  enrolled_in : decode more ≡ enrolled (decode m) kind capacity asset
   unfolding decode
   enrolled_in =
       book_same (decode more) (enrolled (decode m) kind capacity asset) d0 (w FLOOR (omega arith) (omega arith)) (w CEILING (omega arith) (omega arith))
@@ -197,7 +172,10 @@ module _ (m x : List ℕ) (kind capacity asset : ℕ) (r : Readable m) (room : w
       w : (i : ℕ) → i < 8 → (i ≡ UNITS → ⊥) → word more i ≡ word m i
       w i l n = low i (omega arith) n (omega arith) (omega arith) (omega arith)
 
-  pub enrolled_aside : Aside m more
+  enrolled_aside : Aside m more
   enrolled_aside =
       aside_by more m (length-set t2 UNITS (word m UNITS + 1) ∙ n2) (low LAYOUT (omega arith) (omega arith) (omega arith) (omega arith) (omega arith))
       (λ i l. high i (omega arith) (λ q e lq le z. omega (arith, room)))
+
+  pub unit_more : (decode more ≡ enrolled (decode m) kind capacity asset) × (Aside m more)
+  unit_more = (enrolled_in, enrolled_aside)

@@ -19,7 +19,7 @@ use Rattle.measures.proofs.ListLaws.{
   every-table,
   not_both,
 }
-use Rattle.limits.specs.Units.{most_days, most_capacity, periods, generator}
+use Rattle.limits.specs.Units.{most_days, most_capacity, periods, kind_in, generator}
 use Rattle.matching.specs.Memory.{order_at, orders_in}
 use Rattle.matching.proofs.Laws.Orders.OrderLaws.{orders_length}
 use Rattle.book.specs.Book.{EnrolledUnit, Book, no_unit, unit_of, known, OpenOffer, no_offer}
@@ -187,6 +187,10 @@ offer_at_lem m j h = table_at (word m OFFERS) (offer_at m (word m DAYS)) j no_of
 
 pub offer_number : (m : List ℕ) (j : ℕ) → j < word m OFFERS → (get_or (decode m).offers j no_offer).number ≡ word m (offer_place j)
 offer_number m j h = ap (λ (o : OpenOffer). o.number) (offer_at_lem m j h)
+
+-- a number of no kind is no generator's
+pub no_kind : (n : ℕ) → kind_in n ≡ false → false ≡ generator n
+no_kind n e = sym (outside 1 2 n (λ h. not_both _ (inside 1 4 n (h.0, omega (arith, h.1))) e))
 
 pub kind_at : (m : List ℕ) (u : ℕ) → In 1 (word m UNITS) u → (unit_of (decode m) u).kind ≡ word m (unit_place (u - 1))
 kind_at m u h = ap (λ (x : EnrolledUnit). x.kind) (unit_at_lem m u h)

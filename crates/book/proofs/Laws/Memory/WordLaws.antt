@@ -181,3 +181,8 @@ module _ (a e : ℕ) (m ys : List ℕ) (up : a ≤ e) (fits : e ≤ length m) (s
 
   pub part_back : take (e - a) (drop a (put_mid a (e - a) m ys)) ≡ ys
   part_back = rw (drop_at (take a m) (ys ++ post_of a (e - a) m) a (length-take-le a m (omega arith))) (take_at ys (post_of a (e - a) m) (e - a) same)
+
+  pub word_within : (p : ℕ) → p < e - a → word (put_mid a (e - a) m ys) (a + p) ≡ word ys p
+  word_within p h =
+      sym (get_or-take (e - a) (drop a (put_mid a (e - a) m ys)) p 0 h ∙ get_or-drop a (put_mid a (e - a) m ys) p 0)
+      ∙ ap (λ (l : List ℕ). word l p) part_back

@@ -49,10 +49,6 @@ module _ (m : List ℕ) where
   unfolding decode
   price_in q h = rw (inside (word m FLOOR) (word m CEILING) q h) refl
 
-  price_out : (q : ℕ) → (In (word m FLOOR) (word m CEILING) q → ⊥) → not (between (decode m).rules.floor (decode m).rules.ceiling q) ≡ true
-  unfolding decode
-  price_out q h = rw (outside (word m FLOOR) (word m CEILING) q h) refl
-
   amounts_in : (l : List ℕ) → length l ≡ 24 * word m DAYS → In 1 most_energy (total l)
       → not (eqb (length l) (periods (decode m).rules.days) && energy_in (total l))
       ≡ false
@@ -73,16 +69,10 @@ module _ (m : List ℕ) (u v q : ℕ) (l : List ℕ) where
   abbrev pub term_checks : List Check
   term_checks = unknown_unit (decode m) u ∷ unknown_partner (decode m) v ∷ bad_price (decode m) q ∷ bad_amounts (decode m) l ∷ []
 
-  pub terms_unit : (In 1 (word m UNITS) u → ⊥) → 6 ≡ first_refusal term_checks
-  terms_unit h = sym (first-take _ _ _ (unit_not m u h))
-
   pub terms_partner : In 1 (word m UNITS) u → word m UNITS < v → 6 ≡ first_refusal term_checks
   terms_partner h k = sym (first_skip _ _ _ (unit_known m u h) ∙ first-take _ _ _ (partner_not m v k))
 
   module _ (h : In 1 (word m UNITS) u) (k : v ≤ word m UNITS) where
-    pub terms_price : (In (word m FLOOR) (word m CEILING) q → ⊥) → 8 ≡ first_refusal term_checks
-    terms_price p = sym (first_skip _ _ _ (unit_known m u h) ∙ first_skip _ _ _ (partner_known m v k) ∙ first-take _ _ _ (price_out m q p))
-
     module _ (p : In (word m FLOOR) (word m CEILING) q) where
       three : (b : Bool) → first_refusal (unknown_unit (decode m) u ∷ unknown_partner (decode m) v ∷ bad_price (decode m) q ∷ check 9 b ∷ [])
           ≡ first_refusal (check 9 b ∷ [])

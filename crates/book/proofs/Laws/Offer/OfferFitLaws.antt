@@ -1,7 +1,7 @@
 -- What a sound book in memory gives of its units, and the fit of an offer's amounts.
-use Rattle.std.proofs.Common.{◌≡◌, ℕ, ◌+◌, ◌<◌, ◌≤◌, true, List, ◌++◌, length, get_or, drop, set, rules, sym, refl, ◌∙◌, arith, length-set, get_or-set_other, get_or-set_same}
+use Rattle.std.proofs.Common.{◌≡◌, ℕ, ◌<◌, ◌≤◌, true, List, ◌++◌, length, get_or, drop, rules, sym, ◌∙◌, arith}
 use Rattle.std.proofs.lemmas.List.{places}
-use native.Mathlib.Decide.{dec_lt, ℕ_discrete}
+use native.Mathlib.Decide.{dec_lt}
 use lib.ListN.{get_or-eq_default}
 use Rattle.measures.specs.Ranges.{most_energy}
 use Rattle.measures.specs.Sharing.{total}
@@ -24,44 +24,7 @@ module _ (m : List ℕ) (s : sound_in m ≡ true) (u : ℕ) (h : In 1 (word m UN
       w.clean (sound_marks m s u h) ∙ misfit_ext (decode m) u (declared raising lowering) (raising_amounts l) f g
       ∙ misfit_declared (decode m) u (raising_amounts l) (sound_fits m s u h)
 
--- the amounts copied so far
-pub record Copying (z l x : List ℕ) (i : ℕ) : Type 0 where
-  pub at : i ≤ length l
-  pub long : length x ≡ length z
-  pub here : (k : ℕ) → k < i → word x k ≡ word l k
-  pub kept : (k : ℕ) → i ≤ k → word x k ≡ word z k
-
-pub copying_start : (z l : List ℕ) → Copying z l z 0
-copying_start z l = record { at = omega arith; long = refl; here = λ k h. absurd (omega arith); kept = λ k h. refl }
-
-pub copying_more : (z l x : List ℕ) (i : ℕ) → length l ≤ length z → i < length l → Copying z l x i → Copying z l (set x i (word l i)) (i + 1)
-copying_more z l x i fits h g =
-    record {
-      at = omega arith;
-      long = length-set x i (word l i) ∙ g.long;
-      here = λ k u. go k u (ℕ_discrete k i);
-      kept = λ k u. get_or-set_other x i k (word l i) 0 (omega arith) ∙ g.kept k (omega arith);
-    }
-  where
-    go : (k : ℕ) → k < i + 1 → Dec (k ≡ i) → word (set x i (word l i)) k ≡ word l k
-    go k u (yes e) =
-        let n = g.long in
-        rw e (get_or-set_same x i (word l i) 0 (omega arith))
-    go k u (no e) = get_or-set_other x i k (word l i) 0 e ∙ g.here k (omega arith)
-
--- amounts copied over zeros are the amounts, wherever they are asked
-pub copied_at : (z l x : List ℕ) → ((k : ℕ) → word z k ≡ 0) → ((k : ℕ) → k < length l → word x k ≡ word l k)
-    → ((k : ℕ) → length l ≤ k → word x k ≡ word z k) → (k : ℕ) → get_or x k 0 ≡ get_or l k 0
-copied_at z l x zeros here kept k = go (dec_lt k (length l))
-  where
-    go : Dec (k < length l) → get_or x k 0 ≡ get_or l k 0
-    go (yes h) = here k h
-    go (no h) =
-        let n : length l ≤ k = omega arith in
-        kept k n ∙ zeros k ∙ sym (get_or-eq_default l 0 n)
-
--- zeros, and amounts with a total in range, are small
--- the same of amounts that stand before what was there
+-- amounts that stand before zeros are the amounts, wherever they are asked
 pub copied_over : (z l : List ℕ) → ((k : ℕ) → word z k ≡ 0) → (k : ℕ) → get_or (l ++ drop (length l) z) k 0 ≡ get_or l k 0
 copied_over z l zeros k = go (dec_lt k (length l))
   where
@@ -71,6 +34,7 @@ copied_over z l zeros k = go (dec_lt k (length l))
         let e : get_or (l ++ drop (length l) z) k 0 ≡ get_or z k 0 = search (rules, places) in
         e ∙ zeros k ∙ sym (get_or-eq_default l 0 (omega arith))
 
+-- amounts with a total in range are small
 pub copied_small : (l x : List ℕ) → total l ≤ most_energy → ((k : ℕ) → get_or x k 0 ≡ get_or l k 0) → small x
 copied_small l x t h k =
     let e = h k in

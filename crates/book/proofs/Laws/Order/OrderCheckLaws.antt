@@ -1,10 +1,12 @@
 -- The checks of an order on a book in memory: names, day and tables, limits.
-use Rattle.std.proofs.Common.{◌≡◌, ℕ, zero, suc, ◌+◌, ◌-◌, ◌*◌, ◌<◌, ◌≤◌, Bool, true, false, cond, not, ◌&&◌, eqb, ltb, leb, List, [], ◌∷◌, ◌++◌, length, get_or, refl}
+use Rattle.std.proofs.Common.{◌≡◌, ℕ, zero, suc, ◌+◌, ◌-◌, ◌*◌, ◌<◌, ◌≤◌, Bool, true, false}
+use Rattle.std.proofs.Common.{cond, not, ◌&&◌, eqb, ltb, leb, List, [], ◌∷◌, ◌++◌, length, get_or, refl}
 use Rattle.std.proofs.Common.{sym, ap, ◌∙◌, arith, le-ltb, lt-ltb, eq-eqb, ne_eqb, le-leb}
 use borrow.Author.Tests.{lt-leb}
+use mir.Val.{bool_byte}
 use Rattle.measures.specs.Ranges.{most_energy}
 use Rattle.measures.specs.Lists.{keep, sum_of, sum}
-use Rattle.measures.proofs.RangeLaws.{In, inside, outside}
+use Rattle.measures.proofs.RangeLaws.{In, inside}
 use Rattle.measures.proofs.ListLaws.{cond-true, cond-false, or_left, or_right, sum_of-table, sum_ext, sum_more, or_none}
 use Rattle.matching.specs.Orders.{Order as OpenOrder, sells}
 use Rattle.matching.proofs.Laws.Lists.EachLaws.{keep-keep}
@@ -93,14 +95,6 @@ module _ (m : List ℕ) (u d p price q lent : ℕ) where
   unfolding decode
   price-no h = rw (inside (word m FLOOR) (word m CEILING) price h) refl
 
-  price_yes : (In (word m FLOOR) (word m CEILING) price → ⊥) → (bad_price (decode m) price).applies ≡ true
-  unfolding decode
-  price_yes n = rw (outside (word m FLOOR) (word m CEILING) price n) refl
-
-  period_yes : 24 * word m DAYS ≤ p → (bad_period (decode m) p).applies ≡ true
-  unfolding decode
-  period_yes n = rw (le-ltb p (24 * word m DAYS) n) refl
-
   quantity_no : In 1 most_energy q → (bad_quantity q).applies ≡ false
   quantity_no h = rw (inside 1 most_energy q h) refl
 
@@ -111,41 +105,6 @@ module _ (m : List ℕ) (u d p price q lent : ℕ) where
   refused : (r : ℕ) → (r ≡ 0 → ⊥) → r ≡ first_refusal (name_checks (decode m) u d p price q lent) → NameChecked m u d p price q lent r
   refused r n e = record { answer = e; named = λ z. absurd (n z) }
 
-  pub names_unit : (In 1 (word m UNITS) u → ⊥) → NameChecked m u d p price q lent 6
-  unfolding name_checks
-  names_unit n = refused 6 (omega arith) (applies_first (unknown_unit (decode m) u) _ (rw (units_held m, outside 1 (word m UNITS) u n) refl))
-
-  pub names_rows : In 1 (word m UNITS) u → lent < 4464 → NameChecked m u d p price q lent 7
-  unfolding name_checks
-  names_rows h l = refused 7 (omega arith) (passes_first (unknown_unit (decode m) u) _ 7 (unknown_no h)
-      (applies_first (few_rows lent) _ (lt-ltb lent 4464 l)))
-
-  pub names_price : In 1 (word m UNITS) u → 4464 ≤ lent → (In (word m FLOOR) (word m CEILING) price → ⊥) → NameChecked m u d p price q lent 8
-  unfolding name_checks
-  names_price h l n =
-      refused 8 (omega arith)
-      (passes_first (unknown_unit (decode m) u) _ 8 (unknown_no h)
-      (passes_first (few_rows lent) _ 8 (le-ltb lent 4464 l) (applies_first (bad_price (decode m) price) _ (price_yes n))))
-
-  pub names_energy : In 1 (word m UNITS) u → 4464 ≤ lent → In (word m FLOOR) (word m CEILING) price → (In 1 most_energy q → ⊥)
-      → NameChecked m u d p price q lent 9
-  unfolding name_checks
-  names_energy h l w n =
-      refused 9 (omega arith)
-      (passes_first (unknown_unit (decode m) u) _ 9 (unknown_no h)
-      (passes_first (few_rows lent) _ 9 (le-ltb lent 4464 l)
-      (passes_first (bad_price (decode m) price) _ 9 (price-no w) (applies_first (bad_quantity q) _ (rw (outside 1 most_energy q n) refl)))))
-
-  pub names_period : In 1 (word m UNITS) u → 4464 ≤ lent → In (word m FLOOR) (word m CEILING) price → In 1 most_energy q → 24 * word m DAYS ≤ p
-      → NameChecked m u d p price q lent 10
-  unfolding name_checks
-  names_period h l w e n =
-      refused 10 (omega arith)
-      (passes_first (unknown_unit (decode m) u) _ 10 (unknown_no h)
-      (passes_first (few_rows lent) _ 10 (le-ltb lent 4464 l)
-      (passes_first (bad_price (decode m) price) _ 10 (price-no w)
-      (passes_first (bad_quantity q) _ 10 (quantity_no e) (applies_first (bad_period (decode m) p) _ (period_yes n))))))
-
   module _ (h : In 1 (word m UNITS) u) (l : 4464 ≤ lent) (w : In (word m FLOOR) (word m CEILING) price) (e : In 1 most_energy q) (t : p < 24 * word m DAYS) where
     rest_names : (r : ℕ) → r ≡ first_refusal (bad_direction d ∷ []) → r ≡ first_refusal (name_checks (decode m) u d p price q lent)
     unfolding name_checks
@@ -154,9 +113,6 @@ module _ (m : List ℕ) (u d p price q lent : ℕ) where
         (passes_first (few_rows lent) _ r (le-ltb lent 4464 l)
         (passes_first (bad_price (decode m) price) _ r (price-no w)
         (passes_first (bad_quantity q) _ r (quantity_no e) (passes_first (bad_period (decode m) p) _ r (period_no t) f))))
-
-    pub names_direction : 1 < d → NameChecked m u d p price q lent 12
-    names_direction n = refused 12 (omega arith) (rest_names 12 (applies_first (bad_direction d) [] (rw (lt-leb d 1 n) refl)))
 
     pub names_pass : d ≤ 1 → NameChecked m u d p price q lent 0
     unfolding first_refusal
@@ -208,32 +164,36 @@ module _ (m : List ℕ) (u d p : ℕ) (few : word m ORDERS ≤ 256) where
       (λ k h. rw (here k 1 h (omega arith), here k 2 h (omega arith), here k 3 h (omega arith)) refl)
 
 -- one place more, and all of them
-pub counting_more : (f : ℕ → ℕ) (k s r : ℕ) → s ≡ sum k f → r ≡ f k → s + r ≡ sum (k + 1) f
-counting_more f k s r e g = rw (e, g) (sym (sum_more k f))
+pub one_at_most : (b : Bool) → bool_byte b ≤ 1
+one_at_most true = omega arith
+one_at_most false = omega arith
+
+pub counting_more : (f : ℕ → ℕ) (k s r : ℕ) (b : Bool) → s ≡ sum k f → r ≡ bool_byte b → cond b 1 0 ≡ f k → s + r ≡ sum (k + 1) f
+counting_more f k s r b e g h = rw (e, g ∙ as_number b ∙ h) (sym (sum_more k f))
+  where
+    as_number : (t : Bool) → bool_byte t ≡ cond t 1 0
+    as_number true = refl
+    as_number false = refl
 
 pub counting_end : (f : ℕ → ℕ) (k n s : ℕ) → s ≡ sum k f → k ≡ n → s ≡ sum n f
 counting_end f k n s h e = h ∙ ap (λ (x : ℕ). sum x f) e
 
 -- the order at one place
 module _ (m : List ℕ) (u d p k : ℕ) where
-  pub unit_other : (word m (order_place k + UNIT) ≡ u → ⊥) → 0 ≡ of_unit_at m u p k
+  pub unit_other : (word m (order_place k + UNIT) ≡ u → ⊥) → cond (eqb (word m (order_place k + UNIT)) u) 1 0 ≡ of_unit_at m u p k
   unfolding of_unit_at
   unit_other n = rw (ne_eqb (word m (order_place k + UNIT)) u n) refl
 
-  pub period_other : word m (order_place k + UNIT) ≡ u → (word m (order_place k + PERIOD) ≡ p → ⊥) → 0 ≡ of_unit_at m u p k
+  pub unit_own : word m (order_place k + UNIT) ≡ u → cond (eqb (word m (order_place k + PERIOD)) p) 1 0 ≡ of_unit_at m u p k
   unfolding of_unit_at
-  period_other e n = rw (eq-eqb (word m (order_place k + UNIT)) u e, ne_eqb (word m (order_place k + PERIOD)) p n) refl
+  unit_own e = rw (eq-eqb (word m (order_place k + UNIT)) u e) refl
 
-  pub of_unit_lem : word m (order_place k + UNIT) ≡ u → word m (order_place k + PERIOD) ≡ p → 1 ≡ of_unit_at m u p k
-  unfolding of_unit_at
-  of_unit_lem e f = rw (eq-eqb (word m (order_place k + UNIT)) u e, eq-eqb (word m (order_place k + PERIOD)) p f) refl
-
-  pub against_same : word m (order_place k + DIRECTION) ≡ d → 0 ≡ against_at m u d p k
+  pub against_same : word m (order_place k + DIRECTION) ≡ d → cond (not (eqb (word m (order_place k + DIRECTION)) d)) 1 0 ≡ against_at m u d p k
   unfolding against_at
-  against_same e = go (eqb (word m (order_place k + UNIT)) u && eqb (word m (order_place k + PERIOD)) p)
+  against_same e = rw (eq-eqb (word m (order_place k + DIRECTION)) d e) (go (eqb (word m (order_place k + UNIT)) u && eqb (word m (order_place k + PERIOD)) p))
     where
-      go : (b : Bool) → ◌≡◌ {A = ℕ} 0 (cond (b && not (eqb (word m (order_place k + DIRECTION)) d)) 1 0)
-      go true = rw (eq-eqb (word m (order_place k + DIRECTION)) d e) refl
+      go : (b : Bool) → ◌≡◌ {A = ℕ} 0 (cond (b && false) 1 0)
+      go true = refl
       go false = refl
 
   pub against_other : (r : ℕ) → (word m (order_place k + DIRECTION) ≡ d → ⊥) → r ≡ of_unit_at m u p k → r ≡ against_at m u d p k
@@ -255,7 +215,7 @@ mark_one (suc zero) mark h n = rw (ne_eqb mark 3 n) (sym (or_none (eqb mark 1)))
 mark_one (suc (suc d)) mark h n = absurd (omega arith)
 
 -- the second part, by cases
-module _ (m : List ℕ) (u d p price q : ℕ) (few : word m ORDERS ≤ 256) (hu : In 1 (word m UNITS) u) (hd : d ≤ 1) (hp : p < 24 * word m DAYS) where
+module _ (m : List ℕ) (u d p price q : ℕ) (few : word m ORDERS ≤ 256) (hu : In 1 (word m UNITS) u) (hp : p < 24 * word m DAYS) where
   mark_held : (figures_of (decode m) u p).mark ≡ word m (figure_place (u - 1) p + MARK)
   mark_held = ap (λ (f : Figures). f.mark) (figures_at_lem m u p hu hp)
 

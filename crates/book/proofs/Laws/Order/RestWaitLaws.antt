@@ -123,17 +123,9 @@ rest_none m o left e =
     record { long = refl; low = λ i l n. refl; high = λ i l. refl; orders = rw (eq-eqb left 0 e) (sym (append-nil (orders_in (orders_part m) (word m ORDERS)))) }
 
 -- what is said of an order holds of an equal one
-module _ (o o' : OpenOrder) (e : o ≡ o') where
-  pub put_same : (m x : List ℕ) → OrdersPut m x (orders_in (orders_part m) (word m ORDERS) ++ (o ∷ []))
-      → OrdersPut m x (orders_in (orders_part m) (word m ORDERS) ++ (o' ∷ []))
-  put_same m x h = subst (λ (z : OpenOrder). OrdersPut m x (orders_in (orders_part m) (word m ORDERS) ++ (z ∷ []))) e h
-
-  pub waits_same : (m x : List ℕ) (q : ℕ) → OrdersPut m x (orders_in (orders_part m) (word m ORDERS) ++ waiting (leaving o q))
-      → OrdersPut m x (orders_in (orders_part m) (word m ORDERS) ++ waiting (leaving o' q))
-  waits_same m x q h = subst (λ (z : OpenOrder). OrdersPut m x (orders_in (orders_part m) (word m ORDERS) ++ waiting (leaving z q))) e h
-
-  pub rolled_same : (m x rows rows' : List ℕ) (q n : ℕ) → Rolled m x rows rows' o q n → Rolled m x rows rows' o' q n
-  rolled_same m x rows rows' q n h = subst (λ (z : OpenOrder). Rolled m x rows rows' z q n) e h
+pub put_same : (o o' : OpenOrder) → o ≡ o' → (m x : List ℕ) → OrdersPut m x (orders_in (orders_part m) (word m ORDERS) ++ (o ∷ []))
+    → OrdersPut m x (orders_in (orders_part m) (word m ORDERS) ++ (o' ∷ []))
+put_same o o' e m x h = subst (λ (z : OpenOrder). OrdersPut m x (orders_in (orders_part m) (word m ORDERS) ++ (z ∷ []))) e h
 
 pub rest_some : (m x : List ℕ) (o : OpenOrder) (left : ℕ) → (left ≡ 0 → ⊥) → OrdersPut m x (orders_in (orders_part m) (word m ORDERS) ++ (leaving o left ∷ []))
     → OrdersPut m x (orders_in (orders_part m) (word m ORDERS) ++ waiting (leaving o left))

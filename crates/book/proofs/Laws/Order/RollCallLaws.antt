@@ -133,16 +133,18 @@ module _ (m rows : List ℕ) (u d p price q : ℕ) (e : sound_in m ≡ true) (z 
           let v = days_held m in
           record { period = omega arith; seller_from = t.0.0; seller_to = omega arith; buyer_from = t.1.0; buyer_to = omega arith; quantity = omega arith }
 
-  module _ (x rows' : List ℕ) (left count : ℕ) (h : Rolled m x rows rows' (order_with (word m GIVEN + 1) u d p price q) left count) where
-    met_is : meet (order_with (word m GIVEN + 1) u d p price q) (orders_in (orders_part m) (word m ORDERS)) ≡ met
-    met_is =
-        ap (λ (o : OpenOrder). meet o (orders_in (orders_part m) (word m ORDERS))) (sym (new_order_lem m u d p price q))
-        ∙ ap (meet arrived) (sym (orders_from m))
+  -- o is that order, as it met those that stand open
+  module _ (o : OpenOrder) (is : o ≡ order_with (word m GIVEN + 1) u d p price q) (x rows' : List ℕ) (left count : ℕ) (h : Rolled m x rows rows' o left count) where
+    o_is : o ≡ arrived
+    o_is = is ∙ sym (new_order_lem m u d p price q)
 
-    pub handed_is : rows' ≡ written rows met.rows
+    met_is : meet o (orders_in (orders_part m) (word m ORDERS)) ≡ met
+    met_is = ap (λ (y : OpenOrder). meet y (orders_in (orders_part m) (word m ORDERS))) o_is ∙ ap (meet arrived) (sym (orders_from m))
+
+    handed_is : rows' ≡ written rows met.rows
     handed_is = h.handed ∙ ap (λ (t : Met). written rows t.rows) met_is
 
-    pub count_is : count ≡ length met.rows
+    count_is : count ≡ length met.rows
     count_is = h.count ∙ ap (λ (t : Met). length t.rows) met_is
 
     orders_is : orders_in (orders_part x) (word x ORDERS) ≡ met.orders
@@ -160,9 +162,8 @@ module _ (m rows : List ℕ) (u d p price q : ℕ) (e : sound_in m ≡ true) (z 
             let k = passed.room (rest_needs (decode m) arrived (omega arith)) in
             omega arith
 
-    module _ (y : List ℕ) (w : OrdersPut x y (orders_in (orders_part x) (word x ORDERS) ++ waiting
-        (leaving (order_with (word m GIVEN + 1) u d p price q) left))) where
-      pub both_put : OrdersPut m y (met.orders ++ waiting (leaving arrived met.left))
+    module _ (y : List ℕ) (w : OrdersPut x y (orders_in (orders_part x) (word x ORDERS) ++ waiting (leaving o left))) where
+      both_put : OrdersPut m y (met.orders ++ waiting (leaving arrived met.left))
       both_put =
           record {
             long = w.long ∙ h.orders.long;
@@ -170,15 +171,15 @@ module _ (m rows : List ℕ) (u d p price q : ℕ) (e : sound_in m ≡ true) (z 
             high = λ i l. w.high i l ∙ h.orders.high i l;
             orders =
                 w.orders
-                ∙ ap (λ (t : List OpenOrder). t ++ waiting (leaving (order_with (word m GIVEN + 1) u d p price q) left)) orders_is
-                ∙ ap (λ (t : ℕ). met.orders ++ waiting (leaving (order_with (word m GIVEN + 1) u d p price q) t)) (h.left ∙ ap (λ (t : Met). t.left) met_is)
-                ∙ ap (λ (o : OpenOrder). met.orders ++ waiting (leaving o met.left)) (sym (new_order_lem m u d p price q));
+                ∙ ap (λ (t : List OpenOrder). t ++ waiting (leaving o left)) orders_is
+                ∙ ap (λ (t : ℕ). met.orders ++ waiting (leaving o t)) (h.left ∙ ap (λ (t : Met). t.left) met_is)
+                ∙ ap (λ (t : OpenOrder). met.orders ++ waiting (leaving t met.left)) o_is;
           }
 
       head_same : (i : ℕ) → i < 7 → word y i ≡ word m i
       head_same i l = both_put.low i (omega arith) (omega arith)
 
-      pub waits_readable : Readable y
+      waits_readable : Readable y
       waits_readable =
           let r = sound_readable m e in
           let l = both_put.long in
@@ -190,7 +191,7 @@ module _ (m rows : List ℕ) (u d p price q : ℕ) (e : sound_in m ≡ true) (z 
           let h6 = head_same OFFERS (omega arith) in
           record { days_from = omega arith; days_to = omega arith; units_to = omega arith; offers_to = omega arith; orders_to = omega arith; long = omega arith }
 
-      pub waits_small : Small y small_figures
+      waits_small : Small y small_figures
       waits_small k i hk hi =
           let h0 = head_same DAYS (omega arith) in
           let h5 = head_same UNITS (omega arith) in
@@ -200,7 +201,7 @@ module _ (m rows : List ℕ) (u d p price q : ℕ) (e : sound_in m ≡ true) (z 
           let c = both_put.high (figure_place k i + VOLUME) (omega arith) in
           record { raised = omega arith; lowered = omega arith; volume = omega arith }
 
-      pub waits_rows : RowsFit y rows' count
+      waits_rows : RowsFit y rows' count
       waits_rows k hk =
           let n = count_is in
           let f = each_at (RowFits m) met.rows k no_row each_fits (omega arith) in
@@ -221,15 +222,16 @@ module _ (m rows : List ℕ) (u d p price q : ℕ) (e : sound_in m ≡ true) (z 
                 arith;
           }
 
-      pub rows_room : (6 * count ≤ length rows') × (count ≤ 744)
-      rows_room =
+      -- what booking the rows asks
+      pub booking_room : (Readable y) × (6 * count ≤ length rows') × (count ≤ 744) × (RowsFit y rows' count) × (Small y small_figures)
+      booking_room =
           let n = count_is in
           let a = rows_few arrived (decode m).orders in
           let b = orders_held m in
           let c = (sound_readable m e).orders_to in
           let l = rows_lent in
           let s : length rows' ≡ length rows = ap (λ (t : List ℕ). length t) handed_is ∙ written-length rows met.rows (omega arith) in
-          (omega arith, omega arith)
+          (waits_readable, omega arith, omega arith, waits_rows, waits_small)
 
       module _ (v : List ℕ) (k : RowsTraded y v rows' count) where
         pub number_room : (amounts_start ≤ length v) × (word v GIVEN < 65535)

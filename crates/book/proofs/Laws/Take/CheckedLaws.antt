@@ -1,23 +1,23 @@
 -- The checks of a take, joined: before the fit, and the fit.
-use Rattle.std.proofs.Common.{◌≡◌, ℕ, ◌+◌, ◌<◌, ◌≤◌, Bool, true, false, cond, not, ◌&&◌, eqb, leb, List, ◌++◌, drop, None, sym, ap, ◌∙◌, arith, eqb-true, leb-true}
+use Rattle.std.proofs.Common.{◌≡◌, ℕ, ◌+◌, ◌<◌, ◌≤◌, Bool, true, false, cond, not, ◌&&◌, eqb, leb, List, ◌++◌, drop, sym, ap, ◌∙◌, arith, eqb-true, leb-true}
 use borrow.Author.Tests.{not-false}
 use Rattle.measures.specs.Ranges.{most_energy}
 use Rattle.measures.specs.Lists.{table}
 use Rattle.measures.specs.Sharing.{total, parts}
 use Rattle.measures.proofs.RangeLaws.{In, within}
-use Rattle.measures.proofs.ListLaws.{and_right, not_both}
+use Rattle.measures.proofs.ListLaws.{and_right}
 use Rattle.limits.specs.Units.{periods}
-use Rattle.book.specs.Book.{OpenOffer, known, offer_of, offer_open}
+use Rattle.book.specs.Book.{OpenOffer, known, offer_of}
 use Rattle.book.specs.Sound.{energy_in}
 use Rattle.book.specs.Refusals.{first_refusal, same_side, can_take}
 use Rattle.book.specs.Offer.{raising_amounts}
 use Rattle.book.specs.Take.{taken_parts}
 use Rattle.book.specs.Layout.{DAYS, UNITS, OFFERS, offer_place, UNIT, PARTNER, word, amount_at, decode}
 use Rattle.book.specs.Contract.{sound_in}
-use Rattle.book.specs.Inner.Search.{OfferHas, OfferFound}
+use Rattle.book.specs.Inner.Search.{OfferHas}
 use Rattle.book.specs.Inner.RowsIn.{takes, party_checks, fit_checks, parts_at, Nothing, TakeFit, TakeChecked}
 use Rattle.book.proofs.Laws.Memory.RangeFacts.{units_held}
-use Rattle.book.proofs.Laws.Take.FoundLaws.{found_offer, found_none}
+use Rattle.book.proofs.Laws.Take.FoundLaws.{found_offer}
 use Rattle.book.proofs.Laws.Take.PartyLaws.{AllFalse, all-false, first-after, first-before}
 
 -- what can be taken is there
@@ -58,11 +58,6 @@ module _ (m : List ℕ) (u n q lent : ℕ) (s : sound_in m ≡ true) where
         )
         (sym none ∙ e)
 
-    -- the offer is open
-    pub checked_finds : OfferFound m n None → ⊥
-    unfolding party_checks
-    checked_finds f = not_both (offer_open (decode m) n) (not-false _ passed.1.1.1.0) (found_none m n f)
-
     known_unit : In 1 (word m UNITS) u
     unfolding party_checks
     known_unit = within 1 (word m UNITS) u (rw (units_held m) at (not-false (known (decode m) u) passed.0))
@@ -79,9 +74,9 @@ module _ (m : List ℕ) (u n q lent : ℕ) (s : sound_in m ≡ true) where
           ∙ not-false (can_take (decode m) (offer_of (decode m) n) u q) passed.1.1.1.1.0
 
       pub fit_asks : (l : List ℕ) → Nothing l
-          → (sound_in m ≡ true) × (j < word m OFFERS) × (1 ≤ u) × (u ≤ word m UNITS) × (1 ≤ q) × (q ≤ total (table (periods (word m DAYS)) (amount_at m j)))
+          → (j < word m OFFERS) × (1 ≤ u) × (u ≤ word m UNITS) × (1 ≤ q) × (q ≤ total (table (periods (word m DAYS)) (amount_at m j)))
           × (Nothing l)
-      fit_asks l h = (s, f.there, known_unit.0, known_unit.1, energy_in_lem.0, takes-most m j u q can_take_lem, h)
+      fit_asks l h = (f.there, known_unit.0, known_unit.1, energy_in_lem.0, takes-most m j u q can_take_lem, h)
 
       parts_are : parts_at m j q ≡ taken_parts (decode m) n q
       unfolding parts_at

@@ -1,34 +1,41 @@
 -- From a take by place to the take of a number: what its effect promises.
-use Rattle.std.proofs.Common.{◌≡◌, ℕ, ◌+◌, ◌*◌, ◌<◌, ◌≤◌, min, true, not, eqb, List, ◌++◌, length, get_or, take, drop, set, None, refl}
-use Rattle.std.proofs.Common.{sym, ap, ◌∙◌, subst, arith, take_at, ltb-false, lt-ltb, eqb-true}
+use Rattle.std.proofs.Common.{◌≡◌, ℕ, ◌+◌, ◌*◌, ◌<◌, ◌≤◌, min, Bool, true, false, not, eqb, leb, List, ◌++◌, length, get_or, take, drop, set, refl}
+use Rattle.std.proofs.Common.{sym, ap, ◌∙◌, subst, arith, take_at, ltb-false, eqb-true}
 use lib.ListN.{get_or-append}
 use Rattle.measures.specs.Ranges.{most_energy}
 use Rattle.measures.specs.Lists.{keep, table}
 use Rattle.measures.specs.Sharing.{total, parts, less_each}
 use Rattle.measures.proofs.SharingLaws.{parts-length, no-part_exceeds, within_at}
 use Rattle.measures.proofs.LessLaws.{less-parts}
-use Rattle.measures.proofs.ListLaws.{table-length, table_at, not_both}
+use Rattle.measures.proofs.ListLaws.{table-length, table_at}
+use Rattle.measures.proofs.RangeLaws.{In}
 use Rattle.limits.specs.Units.{periods}
 use Rattle.matching.specs.Orders.{Row}
 use Rattle.matching.specs.Memory.{written}
-use Rattle.book.specs.Book.{OpenOffer, no_offer, offer_of, offer_open, with_offers}
+use Rattle.book.specs.Book.{OpenOffer, no_offer, offer_of, with_offers}
 use Rattle.book.specs.Trades.{rows_booked}
 use Rattle.book.specs.Take.{taken_parts, take_checks, take_refusal, take_rows, offer_less, offers_less}
 use Rattle.book.specs.Refusals.{first_refusal}
-use Rattle.book.specs.Layout.{DAYS, UNITS, OFFERS, word, amount_at, offer_at, decode}
+use Rattle.book.specs.Layout.{DAYS, UNITS, LAYOUT, offer_place, UNIT, amount_place, word, amount_at, offer_at, decode, Aside}
 use Rattle.book.specs.Contract.{sound_in}
-use Rattle.book.specs.Inner.Search.{OfferHas, OfferFound}
-use Rattle.book.specs.Inner.RowsIn.{parts_at, AmountsLeft, PartsThere, RowsPut, PartTaken, WholeTaken, PartsLent, TakeMade}
+use Rattle.book.specs.Inner.Readable.{Readable}
+use Rattle.book.specs.Inner.Search.{OfferHas}
+use Rattle.book.specs.Inner.RowsIn.{Small, RowsFit, small_figures, RowsTraded, parts_at, AmountsLeft, PartsThere, OfferLessened}
+use Rattle.book.specs.Inner.RowsIn.{RowsPut, PartsLent, TakeMade}
 use Rattle.book.proofs.Laws.Memory.RangeFacts.{units_held, offers_held, offer_at_lem}
 use Rattle.book.proofs.Laws.Answer.RefusalLaws.{none_applies}
 use Rattle.book.proofs.Laws.Sound.SoundLaws.{sound_facts}
-use Rattle.book.proofs.Laws.Answer.MadeLaws.{sound-book, chain_sound}
+use Rattle.book.proofs.Laws.Answer.MadeLaws.{sound-book, sound_readable, chain_sound}
 use Rattle.book.proofs.Laws.Memory.KeptLaws.{number_apart}
+use Rattle.book.proofs.Laws.Memory.WordLaws.{aside_by}
 use Rattle.book.proofs.Laws.Cancel.CancelLaws.{sound_rises}
 use Rattle.book.proofs.Laws.Take.PartyLaws.{offer_sound}
-use Rattle.book.proofs.Laws.Take.FoundLaws.{unmet_before, met_there, found_offer, found_none}
-use Rattle.book.proofs.Laws.Take.TakenLaws.{less_stays, less_goes}
+use Rattle.book.proofs.Laws.Memory.TestLaws.{within_most, over_most}
+use Rattle.book.proofs.Laws.Take.EnterLaws.{rows-asks, parts_first}
+use Rattle.book.proofs.Laws.Take.FoundLaws.{unmet_before, met_there, found_offer}
+use Rattle.book.proofs.Laws.Take.TakenLaws.{less_stays, less_goes, less-few}
 use Rattle.book.proofs.Laws.Take.TakingLaws.{TakePassed, take_passed}
+use Rattle.book.proofs.Laws.Take.EnteredLaws.{enter_asks, entered, entered_aside}
 
 pub left_some : (rs : List ℕ) (q : ℕ) → 1 ≤ q → q < total rs → total (less_each rs (parts q rs)) ≡ 0 → ⊥
 left_some rs q some less z = omega (arith, less-parts q rs (omega arith) (omega arith))
@@ -50,7 +57,7 @@ module _ (m : List ℕ) (n q j : ℕ) (f : OfferHas m n j) where
     parts-taken = ap (λ (t : List ℕ). take (24 * word m DAYS) t) e
         ∙ take_at (taken_parts (decode m) n q) (drop (periods (word m DAYS)) z) (24 * word m DAYS) taken_long
 
-    pub parts_there : 1 ≤ q → q ≤ total (table (periods (word m DAYS)) (amount_at m j)) → PartsThere m j l
+    parts_there : 1 ≤ q → q ≤ total (table (periods (word m DAYS)) (amount_at m j)) → PartsThere m j l
     parts_there some most p k =
         let a : get_or l p 0 ≡ get_or (taken_parts (decode m) n q) p 0 =
         ap (λ (t : List ℕ). get_or t p 0) e ∙ get_or-append (taken_parts (decode m) n q) (drop (periods (word m DAYS)) z) 0 p (omega (arith, taken_long)) in
@@ -93,47 +100,6 @@ module _ (m : List ℕ) (n q j : ℕ) (f : OfferHas m n j) where
         (eqb-true _ _ (met_there m n j f)))
         (left_of ∙ left_none (table (periods (word m DAYS)) (amount_at m j)) q some all))
 
-    -- a take of some or of all that is left is the take of the definition
-    module _ (x : List ℕ) (u : ℕ) (lent out : List ℕ) (k : ℕ) where
-      taken-rows : RowsPut lent out k (take_rows (decode m) (offer_at m (word m DAYS) j) u (take (24 * word m DAYS) l))
-          → RowsPut lent out k (take_rows (decode m) (offer_of (decode m) n) u (taken_parts (decode m) n q))
-      taken-rows r = record {
-        count = r.count ∙ ap (λ (rs : List Row). length rs) (rows_are u);
-        rows = r.rows
-            ∙ ap (λ (rs : List Row). written lent rs) (rows_are u);
-      }
-
-      taken-book : (os : List OpenOffer) → decode x ≡ rows_booked (take_rows (decode m) (offer_at m (word m DAYS) j) u (take (24 * word m DAYS) l))
-          (with_offers (decode m) os)
-          → os ≡ offers_less n (taken_parts (decode m) n q) (decode m).offers
-          → decode x ≡ rows_booked (take_rows (decode m) (offer_of (decode m) n) u (taken_parts (decode m) n q))
-          (with_offers (decode m) (offers_less n (taken_parts (decode m) n q) (decode m).offers))
-      taken-book os e g =
-          e ∙ ap (λ (rs : List Row). rows_booked rs (with_offers (decode m) os)) (rows_are u)
-          ∙ ap (λ (z : List OpenOffer). rows_booked (take_rows (decode m) (offer_of (decode m) n) u (taken_parts (decode m) n q)) (with_offers (decode m) z)) g
-
-      pub part_made : PartTaken m x u j l lent out k → 1 ≤ q → q < total (table (periods (word m DAYS)) (amount_at m j)) → TakeMade m x u n q lent out k
-      unfolding parts_at
-      part_made t some less = record {
-        book = taken-book (set (decode m).offers j (offer_less (offer_at m (word m DAYS) j) (take (24 * word m DAYS) l))) t.book (less_are some less);
-        rows = taken-rows t.rows;
-        aside = t.aside;
-        place = j;
-        found = f;
-        left = λ y. subst (AmountsLeft m x j) (parts-taken ∙ amounts_are) t.left;
-      }
-
-      pub whole_made : WholeTaken m x u n j l lent out k → sound_in m ≡ true → 1 ≤ q → q ≡ total (table (periods (word m DAYS)) (amount_at m j))
-          → TakeMade m x u n q lent out k
-      whole_made t s some all = record {
-        book = taken-book (keep (λ (o : OpenOffer). not (eqb o.number n)) (decode m).offers) t.book (gone_are s some all);
-        rows = taken-rows t.rows;
-        aside = t.aside;
-        place = j;
-        found = f;
-        left = λ y. absurd (omega arith);
-      }
-
 -- what a passed take asks of its effect
 module _ (m : List ℕ) (u n q lent : ℕ) (s : sound_in m ≡ true) (e : 0 ≡ first_refusal (take_checks (decode m) u n q lent)) where
   passed : TakePassed (decode m) u n q
@@ -141,21 +107,17 @@ module _ (m : List ℕ) (u n q lent : ℕ) (s : sound_in m ≡ true) (e : 0 ≡ 
   passed = take_passed (decode m) u n q lent (sound_facts (decode m) (sound-book m s))
       (chain_sound (decode m) (take_checks (decode m) u n q lent) (sound-book m s) ∙ sym e)
 
-  -- the offer is open
-  pub take_finds : OfferFound m n None → ⊥
-  take_finds f = not_both (offer_open (decode m) n) (lt-ltb _ _ passed.found) (found_none m n f)
-
-  pub lent_enough : 4464 ≤ lent
+  lent_enough : 4464 ≤ lent
   lent_enough =
       let t = none_applies (take_checks (decode m) u n q lent)
       (omega arith, (omega arith, (omega arith, (omega arith, (omega arith, (omega arith, (omega arith, (omega arith, tt)))))))) (sym e) in
       ltb-false lent 4464 t.1.0
 
-  pub take_some : 1 ≤ q
+  take_some : 1 ≤ q
   take_some = passed.some
 
   module _ (j : ℕ) (f : OfferHas m n j) where
-    pub take-most : q ≤ total (table (periods (word m DAYS)) (amount_at m j))
+    take-most : q ≤ total (table (periods (word m DAYS)) (amount_at m j))
     take-most = let a = passed.enough in let b = ap (λ (o : OpenOffer). total o.amounts) (found_offer m n j f).0 in omega arith
 
     -- all that is left, as the code sums it
@@ -163,33 +125,85 @@ module _ (m : List ℕ) (u n q lent : ℕ) (s : sound_in m ≡ true) (e : 0 ≡ 
         ≡ total (table (periods (word m DAYS)) (amount_at m j))
     take_all w h = let a = (offer_sound m j s (f.there)).whole in omega arith
 
-    pub take_whole : (w : ℕ) → w ≡ min (total (table (periods (word m DAYS)) (amount_at m j))) (most_energy + 1) → w ≤ q → q
+    take_whole : (w : ℕ) → w ≡ min (total (table (periods (word m DAYS)) (amount_at m j))) (most_energy + 1) → w ≤ q → q
         ≡ total (table (periods (word m DAYS)) (amount_at m j))
     take_whole w h l = omega (arith, take-most, take_all w h, l)
 
-    pub take_less : (w : ℕ) → w ≡ min (total (table (periods (word m DAYS)) (amount_at m j))) (most_energy + 1) → q < w → q
+    take_less : (w : ℕ) → w ≡ min (total (table (periods (word m DAYS)) (amount_at m j))) (most_energy + 1) → q < w → q
         < total (table (periods (word m DAYS)) (amount_at m j))
     take_less w h l = omega (arith, take_all w h, l)
 
-    pub part-asks : (l : List ℕ) → 744 ≤ length l → PartsLent m n q l → (sound_in m ≡ true) × (j < word m OFFERS) × (1 ≤ u) × (u ≤ word m UNITS) × (744 ≤ length l) × (4464 ≤ lent)
-        × (PartsThere m j l)
-    part-asks l room p =
-        let t = passed.taker in
-        let c = units_held m in
-        (s, f.there, omega arith, omega arith, room, lent_enough, parts_there m n q j f p.behind l p.parts take_some take-most)
+    taker : In 1 (word m UNITS) u
+    taker = let t = passed.taker in let c = units_held m in (omega arith, omega arith)
 
-    pub all-asks : (l : List ℕ) → 744 ≤ length l → PartsLent m n q l
-        → (sound_in m ≡ true) × (j < word m OFFERS) × (1 ≤ u) × (u ≤ word m UNITS) × (744 ≤ length l) × (4464 ≤ lent) × (PartsThere m j l)
-        × (offer_open (decode m) n ≡ true)
-    all-asks l room p =
-        let t = passed.taker in
-        let c = units_held m in (
-          s,
-          f.there,
-          omega arith,
-          omega arith,
-          room,
-          lent_enough,
-          parts_there m n q j f p.behind l p.parts take_some take-most,
-          (found_offer m n j f).1,
-        )
+    -- the take by parts that are lent
+    module _ (l : List ℕ) (room : 744 ≤ length l) (p : PartsLent m n q l) where
+      there : PartsThere m j l
+      there = parts_there m n q j f p.behind l p.parts take_some take-most
+
+      abbrev rs : List Row
+      rs = take_rows (decode m) (offer_at m (word m DAYS) j) u (take (24 * word m DAYS) l)
+
+      pub rows_asks : (rows : List ℕ) → lent ≡ length rows
+          → (j < 8) × (1 ≤ word m (offer_place j + UNIT)) × (word m (offer_place j + UNIT) ≤ word m UNITS) × (744 ≤ length l) × (4464 ≤ length rows)
+      rows_asks rows e = rows-asks m u j l s f.there taker room there rows (omega (arith, lent_enough))
+
+      -- what the offer becomes: all of it goes, or it stays with less
+      abbrev Gone : Bool → List ℕ → Type 0
+      Gone b x = b ≡ true → (decode x ≡ with_offers (decode m) (keep (λ (o : OpenOffer). not (eqb o.number n)) (decode m).offers)) × (Aside m x)
+
+      abbrev Less : Bool → List ℕ → Type 0
+      Less b x = b ≡ false → (ps : List ℕ) → ((i : ℕ) → i < 24 * word m DAYS → get_or l i 0 ≡ get_or ps i 0) → OfferLessened m x j ps
+
+      abbrev left : List OpenOffer
+      left = offers_less n (taken_parts (decode m) n q) (decode m).offers
+
+      -- what the offers come to, and what the take leaves in its place
+      module _ (b : Bool) (x : List ℕ) (w : ℕ) (hw : w ≡ min (total (table (periods (word m DAYS)) (amount_at m j))) (most_energy + 1))
+          (eb : b ≡ leb w q) (g : Gone b x) (h : Less b x) where
+        less_by : b ≡ false → OfferLessened m x j (take (24 * word m DAYS) l)
+        less_by z = h z (take (24 * word m DAYS) l) (parts_first m u j l s f.there taker room there)
+
+        offers_left : (decode x ≡ with_offers (decode m) left) × (Aside m x)
+        offers_left = go b refl
+          where
+            go : (t : Bool) → b ≡ t → (decode x ≡ with_offers (decode m) left) × (Aside m x)
+            go true z = (
+              (g z).0 ∙ ap (with_offers (decode m)) (gone_are m n q j f p.behind l p.parts s take_some (take_whole w hw (within_most eb z))),
+              (g z).1,
+            )
+            go false z = let t = less_by z in (
+              t.book ∙ ap (with_offers (decode m)) (less_are m n q j f p.behind l p.parts take_some (take_less w hw (over_most eb z))),
+              aside_by x m t.long (t.head LAYOUT (omega arith)) (λ i k. t.figures i (omega arith)),
+            )
+
+        amounts_left : q < total (table (periods (word m DAYS)) (amount_at m j)) → (y out : List ℕ) (k : ℕ) → RowsTraded x y out k
+            → AmountsLeft m y j (parts_at m j q)
+        unfolding parts_at
+        amounts_left y = go b refl
+          where
+            go : (t : Bool) → b ≡ t → (y out : List ℕ) (k : ℕ) → RowsTraded x y out k → AmountsLeft m y j (parts_at m j q)
+            go true z = absurd (omega (arith, take_whole w hw (within_most eb z)))
+            go false z = λ y out k t. let a = (less_by z).left in
+                subst (AmountsLeft m y j) (parts-taken m n q j f p.behind l p.parts ∙ amounts_are m n q j f)
+                (record {
+                  own = λ i k. t.kept.head (amount_place j i) (omega (arith, sound_readable m s)) ∙ a.own i k;
+                  others = λ i k v o. t.kept.head i k ∙ a.others i k v o;
+                })
+
+        module _ (lx : length x ≡ length m) (rows out : List ℕ) (k : ℕ) (r : RowsPut rows out k rs) where
+          pub booking_asks : lent ≡ length rows → (Readable x) × (6 * k ≤ length out) × (k ≤ 744) × (RowsFit x out k) × (Small x small_figures)
+          booking_asks y = enter_asks m u j l s f.there taker room there x left offers_left.0 (less-few n _ _) lx rows out k r (omega (arith, lent_enough))
+
+          pub take_made : (y : List ℕ) → RowsTraded x y out k → TakeMade m y u n q rows out k
+          take_made y t =
+              let is = rows_are m n q j f p.behind l p.parts u in
+              record {
+                book = entered m u j l s f.there taker room there x left offers_left.0 (less-few n _ _) lx y rows out k r t
+                    ∙ ap (λ (z : List Row). rows_booked z (with_offers (decode m) left)) is;
+                rows = record { count = r.count ∙ ap (λ (z : List Row). length z) is; rows = r.rows ∙ ap (λ (z : List Row). written rows z) is };
+                aside = entered_aside m u j l s f.there taker room there x left offers_left.0 (less-few n _ _) lx y out k offers_left.1 t;
+                place = j;
+                found = f;
+                left = λ z. amounts_left z y out k t;
+              }

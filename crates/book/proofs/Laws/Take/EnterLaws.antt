@@ -1,6 +1,6 @@
 -- A take's rows fit the book that they are entered in.
 use Rattle.std.proofs.Common.{◌≡◌, ℕ, zero, suc, ◌+◌, ◌*◌, ◌<◌, ◌≤◌, Bool, true, false, cond, eqb, List, [], ◌∷◌, length, get_or, take}
-use Rattle.std.proofs.Common.{sym, ap, ◌∙◌, subst, arith, length-take-le, get_or-take}
+use Rattle.std.proofs.Common.{sym, arith, length-take-le, get_or-take}
 use native.Mathlib.Decide.{dec_lt}
 use Rattle.measures.specs.Ranges.{most_energy}
 use Rattle.measures.specs.Lists.{table}
@@ -8,36 +8,13 @@ use Rattle.measures.proofs.RangeLaws.{In}
 use Rattle.measures.proofs.ListLaws.{cond_case, table_at, amount_le}
 use Rattle.limits.specs.Units.{periods, generator}
 use Rattle.matching.specs.Orders.{Row}
-use Rattle.matching.specs.Memory.{written, row_at, rows_in}
-use Rattle.matching.proofs.Laws.Orders.RowLaws.{written-length}
-use Rattle.book.specs.Book.{Book, unit_of}
-use Rattle.book.specs.Trades.{rows_booked}
+use Rattle.book.specs.Book.{unit_of}
 use Rattle.book.specs.Take.{way_of, take_rows_from, take_rows}
-use Rattle.book.specs.Layout.{
-  DAYS,
-  UNITS,
-  OFFERS,
-  ORDERS,
-  LAYOUT,
-  offer_place,
-  UNIT,
-  PRICE,
-  figure_place,
-  RAISED,
-  LOWERED,
-  VOLUME,
-  amount_place,
-  word,
-  amount_at,
-  offer_at,
-  decode,
-}
+use Rattle.book.specs.Layout.{DAYS, UNITS, OFFERS, offer_place, UNIT, PRICE, word, amount_at, offer_at, decode}
 use Rattle.book.specs.Contract.{sound_in}
-use Rattle.book.specs.Inner.Readable.{Readable}
-use Rattle.book.specs.Inner.RowsIn.{Small, RowFits, RowsFit, small_figures, RowsTraded, RowsPut, PartsThere, OfferLessened, PartTaken}
+use Rattle.book.specs.Inner.RowsIn.{RowFits, PartsThere}
 use Rattle.book.proofs.Laws.Answer.MadeLaws.{sound_readable}
-use Rattle.book.proofs.Laws.Memory.WordLaws.{aside_by}
-use Rattle.book.proofs.Laws.Rows.SmallLaws.{no_row, row_written, rows_written, sound-small}
+use Rattle.book.proofs.Laws.Rows.SmallLaws.{no_row}
 use Rattle.book.proofs.Laws.Take.PartyLaws.{offer_sound}
 use Rattle.book.proofs.Laws.Check.ShareLaws.{get_d_past}
 
@@ -115,86 +92,12 @@ module _ (m : List ℕ) (u j : ℕ) (l : List ℕ) (s : sound_in m ≡ true) (hj
       (take (24 * word m DAYS) l) 0 in omega
       arith)
 
-  -- what booking asks of the memory in between
-  pub enter_asks : (x lent out : List ℕ) (k : ℕ) (qs : List ℕ) → OfferLessened m x j qs
-      → RowsPut lent out k (take_rows (decode m) (offer_at m (word m DAYS) j) u (take (24 * word m DAYS) l)) → 4464 ≤ length lent
-      → (Readable x) × (6 * k ≤ length out) × (k ≤ 744) × (RowsFit x out k) × (Small x small_figures)
-  enter_asks x lent out k qs f r big =
-      let g = sound_readable m s in
-      let few = take_few in
-      let c = r.count in
-      let e0 = f.head DAYS (omega arith) in
-      let e5 = f.head UNITS (omega arith) in
-      let e6 = f.head OFFERS (omega arith) in
-      let e7 = f.head ORDERS (omega arith) in
-      let n = f.long in
-      let same : length out ≡ length lent = ap (λ (z : List ℕ). length z) r.rows
-      ∙ written-length lent (take_rows (decode m) (offer_at m (word m DAYS) j) u (take (24 * word m DAYS) l)) (omega arith) in (
-        record { days_from = omega arith; days_to = omega arith; units_to = omega arith; offers_to = omega arith; orders_to = omega arith; long = omega arith },
-        omega arith,
-        omega arith,
-        fit,
-        little,
-      )
-    where
-      fit : RowsFit x out k
-      fit i h =
-          let c = r.count in
-          let h' : i < length (take_rows (decode m) (offer_at m (word m DAYS) j) u (take (24 * word m DAYS) l)) = omega arith in
-          let t = take_fits i h' in
-          let e0 = f.head DAYS (omega arith) in
-          let e5 = f.head UNITS (omega arith) in
-          let y : RowFits x (get_or (take_rows (decode m) (offer_at m (word m DAYS) j) u (take (24 * word m DAYS) l)) i no_row) =
-          record {
-            period = omega arith;
-            seller_from = t.seller_from;
-            seller_to = omega arith;
-            buyer_from = t.buyer_from;
-            buyer_to = omega arith;
-            quantity =
-                t.quantity;
-          } in
-          subst (λ (z : Row). RowFits x z) (sym (ap (λ (z : List ℕ). row_at z i) r.rows
-          ∙ row_written lent (take_rows (decode m) (offer_at m (word m DAYS) j) u (take (24 * word m DAYS) l)) i h')) y
-
-      little : Small x small_figures
-      little v p hv hp =
-          let g = sound_readable m s in
-          let e0 = f.head DAYS (omega arith) in
-          let e5 = f.head UNITS (omega arith) in
-          let t = sound-small m s v p (omega arith) (omega arith) in
-          let a = f.figures (figure_place v p + RAISED) (omega arith) in
-          let b = f.figures (figure_place v p + LOWERED) (omega arith) in
-          let c = f.figures (figure_place v p + VOLUME) (omega arith) in
-          record { raised = omega arith; lowered = omega arith; volume = omega arith }
-
-  pub part-taken : (x y lent out : List ℕ) (k : ℕ) → OfferLessened m x j (take (24 * word m DAYS) l)
-      → RowsPut lent out k (take_rows (decode m) (offer_at m (word m DAYS) j) u (take (24 * word m DAYS) l))
-      → RowsTraded x y out k → PartTaken m y u j l lent out k
-  part-taken x y lent out k f r t =
-      let e0 = f.head DAYS (omega arith) in
-      let q : rows_in out k ≡ take_rows (decode m) (offer_at m (word m DAYS) j) u (take (24 * word m DAYS) l) =
-      ap (λ (z : List ℕ). rows_in z k) r.rows ∙ ap (λ (z : ℕ). rows_in
-      (written lent (take_rows (decode m) (offer_at m (word m DAYS) j) u (take (24 * word m DAYS) l))) z) r.count
-      ∙ rows_written lent (take_rows (decode m) (offer_at m (word m DAYS) j) u (take (24 * word m DAYS) l)) in
-      record {
-        rows = r;
-        book = t.book ∙ ap (λ (z : List Row). rows_booked z (decode x)) q
-            ∙ ap (λ (z : Book). rows_booked (take_rows (decode m) (offer_at m (word m DAYS) j) u (take (24 * word m DAYS) l)) z) f.book;
-        aside = aside_by y m (t.kept.long ∙ f.long) (t.kept.head LAYOUT (omega arith) ∙ f.head LAYOUT (omega arith))
-            (λ i h. t.kept.past i (omega arith) ∙ f.figures i (omega arith));
-        left = record {
-          own = λ p h. t.kept.head (amount_place j p) (omega (arith, sound_readable m s)) ∙ f.left.own p h;
-          others = λ i h n o. t.kept.head i h ∙ f.left.others i h n o;
-        };
-      }
-
   pub rows-asks : (rows : List ℕ) → 4464 ≤ length rows
-      → (Readable m) × (j < 8) × (1 ≤ word m (offer_place j + UNIT)) × (word m (offer_place j + UNIT) ≤ word m UNITS) × (744 ≤ length l) × (4464 ≤ length rows)
+      → (j < 8) × (1 ≤ word m (offer_place j + UNIT)) × (word m (offer_place j + UNIT) ≤ word m UNITS) × (744 ≤ length l) × (4464 ≤ length rows)
   rows-asks rows h =
       let g = sound_readable m s in
       let o = offer_sound m j s hj in
-      (g, omega arith, o.unit.0, o.unit.1, room, h)
+      (omega arith, o.unit.0, o.unit.1, room, h)
 
   -- the parts of the periods of the term
   pub parts_first : (p : ℕ) → p < 24 * word m DAYS → get_or l p 0 ≡ get_or (take (24 * word m DAYS) l) p 0

@@ -1,9 +1,8 @@
 -- An offer's amounts shared and lessened where they stand, and the fit of the parts.
 use Rattle.std.proofs.Common.{◌≡◌, ℕ, zero, suc, ◌+◌, ◌-◌, ◌*◌, ◌<◌, ◌≤◌, true, List, [], ◌∷◌, ◌++◌, length, get_or, take, drop, replicate, refl}
-use Rattle.std.proofs.Common.{sym, ap, ◌∙◌, arith, length-take-le, get_or-drop, get_or-take, get_or-append-add}
+use Rattle.std.proofs.Common.{sym, ap, ◌∙◌, arith, get_or-drop, get_or-take}
 use native.Mathlib.Decide.{dec_lt}
-use lib.ListN.{get_or-append}
-use borrow.Rule.Slice.PartMut.{put_mid, post_of, same_len_mid, mid_len, drop_put}
+use borrow.Rule.Slice.PartMut.{put_mid, same_len_mid, mid_len}
 use Rattle.measures.specs.Ranges.{most_energy}
 use Rattle.measures.specs.Lists.{table}
 use Rattle.measures.specs.Sharing.{total, parts, less_each, sharing, Is}
@@ -17,6 +16,7 @@ use Rattle.book.specs.Layout.{DAYS, UNITS, OFFERS, amounts_place, amount_place, 
 use Rattle.book.specs.Contract.{sound_in}
 use Rattle.book.specs.Inner.Readable.{Readable, declared, Fitted, small}
 use Rattle.book.specs.Inner.RowsIn.{fit_checks, parts_at, Nothing, TakeFit, AmountsLess}
+use Rattle.book.proofs.Laws.Memory.WordLaws.{word-before, word_behind, word_within}
 use Rattle.book.proofs.Laws.Check.MisfitLaws.{zeros_at, misfit_ext, misfit_declared}
 use Rattle.book.proofs.Laws.Take.PartyLaws.{offer_sound}
 use Rattle.book.proofs.Laws.Sound.RangedLaws.{sound_marks, sound_fits}
@@ -55,13 +55,12 @@ module _ (m : List ℕ) (j : ℕ) (g : Readable m) (hj : j < 8) where
     same : length ys ≡ length (take (e - a) (drop a m))
     same = ap (λ (l : List ℕ). length l) less ∙ less-length (take (e - a) (drop a m)) ps
 
-    before : length (take a m) ≡ a
-    before = length-take-le a m (omega (arith, fits))
+    as_many : length ys ≡ e - a
+    as_many = same ∙ mid_len a e m fits
 
     own : (p : ℕ) → p < 24 * word m DAYS → word (put_mid a (e - a) m ys) (amount_place j p) ≡ word m (amount_place j p) - get_or ps p 0
     own p h =
-        ap (λ (i : ℕ). get_or (put_mid a (e - a) m ys) (i + p) 0) (sym before) ∙ get_or-append-add (take a m) (ys ++ post_of a (e - a) m) p 0
-        ∙ get_or-append ys (post_of a (e - a) m) 0 p (omega (arith, same, mid_len a e m fits)) ∙ ap (λ (l : List ℕ). get_or l p 0) less
+        word_within a e m ys (omega arith) fits as_many p (omega arith) ∙ ap (λ (l : List ℕ). get_or l p 0) less
         ∙ less_at_lem (take (e - a) (drop a m)) ps p
         ∙ ap (λ (r : ℕ). r - get_or ps p 0) (get_or-take (e - a) (drop a m) p 0 (omega arith) ∙ get_or-drop a m p 0)
 
@@ -69,13 +68,9 @@ module _ (m : List ℕ) (j : ℕ) (g : Readable m) (hj : j < 8) where
     other i n = go (dec_lt i a) (dec_lt i e)
       where
         go : Dec (i < a) → Dec (i < e) → word (put_mid a (e - a) m ys) i ≡ word m i
-        go (yes h) z = get_or-append (take a m) (ys ++ post_of a (e - a) m) 0 i (omega (arith, before)) ∙ get_or-take a m i 0 h
+        go (yes h) z = word-before a e m ys (omega arith) fits as_many i h
         go (no h) (yes k) = absurd (n (i - a) (omega arith) (omega arith))
-        go (no h) (no k) =
-            let at : i ≡ e + (i - e) = omega arith in
-            ap (λ (l : ℕ). get_or (put_mid a (e - a) m ys) l 0) at ∙ sym (get_or-drop e (put_mid a (e - a) m ys) (i - e) 0)
-            ∙ ap (λ (l : List ℕ). get_or l (i - e) 0) (drop_put a e m ys (omega arith) fits (same ∙ mid_len a e m fits))
-            ∙ get_or-drop e m (i - e) 0 ∙ ap (λ (l : ℕ). get_or m l 0) (sym at)
+        go (no h) (no k) = word_behind a e m ys (omega arith) fits as_many i (omega arith)
 
     pub amounts_less_lem : AmountsLess m (put_mid a (e - a) m ys) j ps
     amounts_less_lem = record { long = same_len_mid a (e - a) m ys same; own = own; other = other }

@@ -1,15 +1,14 @@
 -- The checks of a take on a sound book in memory, one by one.
-use Rattle.std.proofs.Common.{◌≡◌, ℕ, ◌+◌, ◌<◌, ◌≤◌, Bool, true, false, cond, not, ltb, List, [], ◌∷◌, ◌++◌, None, sym, refl, ap, ◌∙◌, arith, le-ltb, lt-ltb}
+use Rattle.std.proofs.Common.{◌≡◌, ℕ, ◌+◌, ◌<◌, ◌≤◌, Bool, true, false, cond, not, ltb, List, [], ◌∷◌, ◌++◌, None, sym, refl, ap, ◌∙◌, arith, le-ltb}
 use Rattle.measures.specs.Ranges.{most_energy}
 use Rattle.measures.specs.Lists.{Each}
-use Rattle.measures.proofs.RangeLaws.{In, inside, outside}
+use Rattle.measures.proofs.RangeLaws.{In, inside}
 use Rattle.measures.proofs.ListLaws.{all_true, all_at}
 use Rattle.book.specs.Book.{OpenOffer, known, offer_of, offer_open}
 use Rattle.book.specs.Sound.{sound, energy_in, offer_in}
 use Rattle.book.specs.Refusals.{Check, check, first_refusal, can_take}
 use Rattle.book.specs.Layout.{DAYS, UNITS, OFFERS, offer_place, UNIT, word, offer_at, decode}
 use Rattle.book.specs.Contract.{sound_in}
-use Rattle.book.specs.Inner.Readable.{Readable}
 use Rattle.book.specs.Inner.RowsIn.{takes, party_checks}
 use Rattle.book.specs.Inner.Search.{OfferHas, OfferFound}
 use Rattle.book.proofs.Laws.Memory.RangeFacts.{units_held, OfferWords, offer_facts, offers_every}
@@ -64,30 +63,10 @@ module _ (m : List ℕ) (u n q lent : ℕ) where
   is_known : In 1 (word m UNITS) u → not (known (decode m) u) ≡ false
   is_known h = rw (units_held m) (rw (inside 1 (word m UNITS) u h) refl)
 
-  is_unknown : (In 1 (word m UNITS) u → ⊥) → not (known (decode m) u) ≡ true
-  is_unknown h = rw (units_held m) (rw (outside 1 (word m UNITS) u h) refl)
-
   is_energy : In 1 most_energy q → not (energy_in q) ≡ false
   is_energy h = rw (inside 1 most_energy q h) refl
 
-  no_energy : (In 1 most_energy q → ⊥) → not (energy_in q) ≡ true
-  no_energy h = rw (outside 1 most_energy q h) refl
-
-  pub party_unknown : (In 1 (word m UNITS) u → ⊥) → 6 ≡ first_refusal (party_checks (decode m) u n q lent)
-  unfolding party_checks
-  party_unknown h = first_hit 6 (not (known (decode m) u)) _ (is_unknown h)
-
   module _ (hu : In 1 (word m UNITS) u) where
-    pub party_few : lent < 4464 → 7 ≡ first_refusal (party_checks (decode m) u n q lent)
-    unfolding party_checks
-    party_few h = first_skip 6 (not (known (decode m) u)) _ (is_known hu) (first_hit 7 (ltb lent 4464) _ (lt-ltb lent 4464 h))
-
-    pub party_energy : 4464 ≤ lent → (In 1 most_energy q → ⊥) → 9 ≡ first_refusal (party_checks (decode m) u n q lent)
-    unfolding party_checks
-    party_energy h k =
-        first_skip 6 (not (known (decode m) u)) _ (is_known hu)
-        (first_skip 7 (ltb lent 4464) _ (le-ltb lent 4464 h) (first_hit 9 (not (energy_in q)) _ (no_energy k)))
-
     module _ (hl : 4464 ≤ lent) (hq : In 1 most_energy q) where
       skip_energy : (x : ℕ) (cs : List Check) → x ≡ first_refusal cs → x
           ≡ first_refusal (check 6 (not (known (decode m) u)) ∷ check 7 (ltb lent 4464) ∷ check 9 (not (energy_in q)) ∷ cs)
@@ -122,10 +101,10 @@ module _ (m : List ℕ) (u n q lent : ℕ) where
 
 -- what asking whether a unit can take needs
 pub can_asks : (m : List ℕ) (u q n r : ℕ) → sound_in m ≡ true → OfferHas m n r → In 1 (word m UNITS) u → q ≤ most_energy
-    → (Readable m) × (r < 8) × (1 ≤ word m (offer_place r + UNIT)) × (word m (offer_place r + UNIT) ≤ word m UNITS)
+    → (r < 8) × (1 ≤ word m (offer_place r + UNIT)) × (word m (offer_place r + UNIT) ≤ word m UNITS)
     × (1 ≤ u) × (u ≤ word m UNITS) × (q ≤ most_energy)
 can_asks m u q n r s f hu hq =
     let o = offer_sound m r s f.there in
     let g = sound_readable m s in
     let a = f.there in
-    (g, omega (arith, a, g.offers_to), o.unit.0, o.unit.1, hu.0, hu.1, hq)
+    (omega (arith, a, g.offers_to), o.unit.0, o.unit.1, hu.0, hu.1, hq)

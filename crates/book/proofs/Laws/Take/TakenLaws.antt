@@ -1,5 +1,6 @@
 -- A take's rows by the side of the offer's unit, and what is left of the offers.
-use Rattle.std.proofs.Common.{◌≡◌, ℕ, zero, suc, ◌+◌, ◌<◌, true, false, cond, not, eqb, List, [], ◌∷◌, length, get_or, set, sym, refl, ap, ◌∙◌, arith, eq-eqb, ne_eqb}
+use Rattle.std.proofs.Common.{◌≡◌, ℕ, zero, suc, ◌+◌, ◌<◌, ◌≤◌, Bool, true, false, cond, not, eqb}
+use Rattle.std.proofs.Common.{List, [], ◌∷◌, length, get_or, set, sym, refl, ap, ◌∙◌, arith, eq-eqb, ne_eqb}
 use Rattle.measures.specs.Lists.{keep}
 use Rattle.measures.specs.Sharing.{total}
 use Rattle.measures.proofs.ListLaws.{cond-true, cond-false}
@@ -68,3 +69,15 @@ module _ (n : ℕ) (ps : List ℕ) where
       cond-false (eqb o.number n) _ _ (u 0 (omega arith) (omega arith)) (ap (λ (l : List OpenOffer). o
       ∷ l) (less_goes os j (omega arith) e (λ i k z. u (suc i) (omega arith) (omega arith)) t))
       ∙ rw (u 0 (omega arith) (omega arith)) refl
+
+  -- no offer more
+  pub less-few : (os : List OpenOffer) → length (offers_less n ps os) ≤ length os
+  unfolding offers_less
+  less-few [] = omega arith
+  less-few (o ∷ os) = go (eqb o.number n) (eqb (total (offer_less o ps).amounts) 0) (less-few os)
+    where
+      go : (a z : Bool) → length (offers_less n ps os) ≤ length os
+          → length (cond a (cond z os (offer_less o ps ∷ os)) (o ∷ offers_less n ps os)) ≤ length (o ∷ os)
+      go true true k = omega arith
+      go true false k = omega arith
+      go false z k = omega arith

@@ -1,15 +1,13 @@
 -- Open offers of a sound book in memory: the offer at a place, the offer of a number, and the checks of a withdraw.
-use Rattle.std.proofs.Common.{◌≡◌, ℕ, ◌+◌, ◌<◌, Bool, true, false, cond, not, ◌&&◌, eqb, ltb, List, [], ◌∷◌, ◌++◌, length, take, drop, None, refl}
+use Rattle.std.proofs.Common.{◌≡◌, ℕ, ◌+◌, ◌<◌, true, not, eqb, List, [], ◌∷◌, ◌++◌, length, take, drop, refl}
 use Rattle.std.proofs.Common.{sym, ap, ◌∙◌, arith, eq-eqb, ne_eqb}
 use Rattle.measures.specs.Lists.{keep}
-use Rattle.measures.proofs.ListLaws.{not_both}
-use Rattle.measures.proofs.RangeLaws.{In, inside, outside}
-use Rattle.book.specs.Book.{OpenOffer, Book, no_offer, offer_open, offer_of, offers_of, known}
+use Rattle.measures.proofs.RangeLaws.{In, inside}
+use Rattle.book.specs.Book.{OpenOffer, no_offer, offers_of}
 use Rattle.book.specs.Layout.{DAYS, UNITS, OFFERS, offer_place, UNIT, TAKEN, word, offer_at, decode}
 use Rattle.book.specs.Refusals.{first_refusal}
 use Rattle.book.specs.Contract.{sound_in}
 use Rattle.book.specs.Withdraw.{withdraw_checks}
-use Rattle.book.specs.Inner.Search.{OfferFound}
 use Rattle.book.proofs.Laws.Memory.RangeFacts.{units_held, offers_held, offer_at_lem, offer_number}
 use Rattle.book.proofs.Laws.Memory.KeptLaws.{number_kept, number_gone, number_none}
 use Rattle.book.proofs.Laws.Cancel.CancelLaws.{sound_rises}
@@ -36,10 +34,6 @@ module _ (m : List ℕ) (s : sound_in m ≡ true) (n : ℕ) where
 
   -- the checks
   module _ (u : ℕ) where
-    pub withdraw_unknown : (In 1 (word m UNITS) u → ⊥) → 6 ≡ first_refusal (withdraw_checks (decode m) u n)
-    unfolding first_refusal
-    withdraw_unknown h = rw (units_held m) (rw (outside 1 (word m UNITS) u h) refl)
-
     pub withdraw_absent : In 1 (word m UNITS) u → ((j : ℕ) → j < word m OFFERS → word m (offer_place j) ≡ n → ⊥) → 11 ≡ first_refusal (withdraw_checks (decode m) u n)
     unfolding first_refusal
     withdraw_absent h a = rw (units_held m) (rw (inside 1 (word m UNITS) u h, offer_absent a) refl)
@@ -70,19 +64,3 @@ module _ (m : List ℕ) (s : sound_in m ≡ true) (n : ℕ) where
             ne_eqb
                 (word m (offer_place j + TAKEN)) 1 t,
           ) refl)
-
-  -- an open offer has a place
-  pub offer_placed : offer_open (decode m) n ≡ true → OfferFound m n None → ⊥
-  offer_placed o f =
-      let z : ltb 0 (length (offers_of (decode m) n)) ≡ false = rw (offer_absent f) refl in
-      not_both _ o z
-
--- where the checks of a withdraw give 0, the offer is open
-pub withdraw_open : (b : Book) (u n : ℕ) → 0 ≡ first_refusal (withdraw_checks b u n) → offer_open b n ≡ true
-unfolding first_refusal
-withdraw_open b u n e = go (not (known b u)) (offer_open b n) (eqb (offer_of b n).unit u) (eqb (offer_of b n).taken 1) refl e
-  where
-    go : (p q r t : Bool) → offer_open b n ≡ q → ◌≡◌ {A = ℕ} 0 (cond p 6 (cond (not (q && r)) 11 (cond t 13 0))) → offer_open b n ≡ true
-    go true q r t eq h = absurd (omega arith)
-    go false false r t eq h = absurd (omega arith)
-    go false true r t eq h = eq

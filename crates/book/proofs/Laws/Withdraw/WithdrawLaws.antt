@@ -1,6 +1,7 @@
 -- The book in memory without an offer.
 use Rattle.std.proofs.Common.{◌≡◌, ℕ, ◌+◌, ◌-◌, ◌*◌, ◌<◌, ◌≤◌, true, not, eqb, List, ◌++◌, length, get_or, take, drop, set}
-use Rattle.std.proofs.Common.{sym, ap, ◌∙◌, arith, length-append, length-drop, length-set, length-take, length-take-le, get_or-drop, get_or-set_other, get_or-take, get_or-set_same, get_or-append-add}
+use Rattle.std.proofs.Common.{sym, ap, ◌∙◌, arith, length-append, length-drop, length-set}
+use Rattle.std.proofs.Common.{length-take, length-take-le, get_or-drop, get_or-set_other, get_or-take, get_or-set_same, get_or-append-add}
 use native.Mathlib.Decide.{dec_lt}
 use lib.ListN.{get_or-append}
 use Rattle.measures.specs.Lists.{keep, table}

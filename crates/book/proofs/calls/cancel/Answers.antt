@@ -1,35 +1,29 @@
 -- `cancel`: not a sound book, a check that applies, or the effect.
 use Rattle.std.proofs.Common.{[], refl}
 use Rattle.matching.proofs.Laws.Orders.RowLaws.{written_none}
-use Rattle.book.specs.Layout.{decode}
 use Rattle.book.specs.Calls.{call_cancel}
 use Rattle.book.proofs.Laws.Answer.MadeLaws.{made_unsound, is_sound, made_checked, made_done}
-use Rattle.book.proofs.Laws.Cancel.CancelLaws.{cancel_open}
 use Rattle.std.proofs.lemmas.Result.{err_from_is_err_and}
 use Rattle.book.proofs.calls.cancel.Goals as goal
 
-pub returns-in_err-check_sound : goal.returns-in_err-check_sound
-returns-in_err-check_sound c =
+pub returns-in_err-sound : goal.returns-in_err-sound
+returns-in_err-sound c =
     let p = err_from_is_err_and c.from_residual.result c.from_residual.ensures.1 in
-    rw (p.1, p.2) (made_unsound _ _ _ _ c.in_err-check_sound.ensures)
+    rw (p.1, p.2) (made_unsound _ _ _ _ c.in_err-sound.ensures.refusal)
 
-pub cancel_checks-requires : goal.cancel_checks-requires
-cancel_checks-requires c = is_sound _ c.in_ok-check_sound.ensures
-
-pub returns-in_err-cancel_checks : goal.returns-in_err-cancel_checks
-returns-in_err-cancel_checks c =
-    let p = err_from_is_err_and c.from_residual-in_err-cancel_checks.result c.from_residual-in_err-cancel_checks.ensures.1 in
-    rw (p.1, p.2) (made_checked _ _ _ _ (is_sound _ c.in_ok-check_sound.ensures) c.in_err-cancel_checks.ensures)
+pub returns-in_err-k : goal.returns-in_err-k
+returns-in_err-k c =
+    let p = err_from_is_err_and c.from_residual-in_err-k.result c.from_residual-in_err-k.ensures.1 in
+    rw (p.1, p.2) (made_checked _ _ _ _ (is_sound _ c.in_ok-sound.ensures.refusal) (rw c.in_ok-sound.ensures.same at c.in_err-k.ensures.refusal))
 
 pub cancel_effect-requires : goal.cancel_effect-requires
-cancel_effect-requires c = (
-  (is_sound _ c.in_ok-check_sound.ensures),
-  cancel_open (decode c.args.book.now) c.args.unit c.args.number
-      c.in_ok-cancel_checks.ensures,
-)
+cancel_effect-requires c =
+    let h = rw c.in_ok-sound.ensures.same at c.in_ok-k.ensures.place in
+    (is_sound _ c.in_ok-sound.ensures.refusal, h.there)
 
 pub returns : goal.returns
 returns c =
     let w = c.cancel_effect in
-    made_done _ [] (call_cancel c.args.unit c.args.number) 0 [] _ 0 _ [] (is_sound _ c.in_ok-check_sound.ensures) c.in_ok-cancel_checks.ensures refl refl w.ensures.0 (written_none []) w.ensures.1
-    w.auto.book
+    let h = rw c.in_ok-sound.ensures.same at c.in_ok-k.ensures.place in
+    made_done _ [] (call_cancel c.args.unit c.args.number) 0 [] _ 0 _ [] (is_sound _ c.in_ok-sound.ensures.refusal)
+    (rw c.in_ok-sound.ensures.same at c.in_ok-k.ensures.refusal) refl refl (rw h.here at w.ensures.0) (written_none []) w.ensures.1 w.auto.book

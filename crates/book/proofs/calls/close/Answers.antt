@@ -10,12 +10,12 @@ use Rattle.book.proofs.calls.close.Goals as goal
 pub returns-in_err-check_sound : goal.returns-in_err-check_sound
 returns-in_err-check_sound c =
     let p = err_from_is_err_and c.from_residual.result c.from_residual.ensures.1 in
-    rw (p.1, p.2) (made_unsound _ _ _ _ c.in_err-check_sound.ensures)
+    rw (p.1, p.2) (made_unsound _ _ _ _ c.in_err-check_sound.ensures.refusal)
 
 pub close_day-requires : goal.close_day-requires
-close_day-requires c = let s = (is_sound _ c.in_ok-check_sound.ensures) in (sound_readable _ s, sound_netting _ s)
+close_day-requires c = let s = (is_sound _ c.in_ok-check_sound.ensures.refusal) in (sound_readable _ s, sound_netting _ s)
 
 pub returns : goal.returns
 returns c =
     let w = c.close_day in
-    made_done _ [] call_close 0 [] _ 0 _ [] (is_sound _ c.in_ok-check_sound.ensures) no_checks refl refl w.ensures.0 (written_none []) w.ensures.1 w.auto.book
+    made_done _ [] call_close 0 [] _ 0 _ [] (is_sound _ c.in_ok-check_sound.ensures.refusal) no_checks refl refl w.ensures.0 (written_none []) w.ensures.1 w.auto.book

@@ -7,32 +7,31 @@ use Rattle.book.proofs.Laws.Curve.CurveLaws.{curved_unsound, curved_checked, cur
 use Rattle.std.proofs.lemmas.Result.{err_from_is_err_and}
 use Rattle.book.proofs.calls.curve.Goals as goal
 
-pub returns-in_err-check_sound : goal.returns-in_err-check_sound
-returns-in_err-check_sound c =
+pub returns-in_err-sound : goal.returns-in_err-sound
+returns-in_err-sound c =
     let p = err_from_is_err_and c.from_residual.result c.from_residual.ensures.1 in
-    rw (p.1, p.2) (curved_unsound _ _ _ _ _ c.in_err-check_sound.ensures)
+    rw (p.1, p.2) (curved_unsound _ _ _ _ _ c.in_err-sound.ensures.refusal)
 
-pub curve_checks-requires : goal.curve_checks-requires
-curve_checks-requires c = sound_readable _ (is_sound _ c.in_ok-check_sound.ensures)
+pub invariant_of-readable : goal.invariant_of-readable
+invariant_of-readable c = record { readable = sound_readable _ c.in_ok-sound.sound.sound }
 
 pub returns-in_err-curve_checks : goal.returns-in_err-curve_checks
 returns-in_err-curve_checks c =
     let p = err_from_is_err_and c.from_residual-in_err-curve_checks.result c.from_residual-in_err-curve_checks.ensures.1 in
-    rw (p.1, p.2) (curved_checked _ _ _ _ _ (is_sound _ c.in_ok-check_sound.ensures) c.in_err-curve_checks.ensures)
+    rw (p.1, p.2) (curved_checked _ _ _ _ _ (is_sound _ c.in_ok-sound.ensures.refusal) (rw c.in_ok-sound.ensures.same at c.in_err-curve_checks.ensures))
 
 pub overflow_sub-unit : goal.overflow_sub-unit
-overflow_sub-unit c = let p = curve_passed _ _ _ _ c.in_ok-curve_checks.ensures in omega arith
+overflow_sub-unit c = let p = curve_passed _ _ _ _ (rw c.in_ok-sound.ensures.same at c.in_ok-curve_checks.ensures) in omega arith
 
 pub write_points-requires : goal.write_points-requires
 write_points-requires c =
     let p = curve_passed _ _ _ _ c.in_ok-curve_checks.ensures in
-    let s = is_sound _ c.in_ok-check_sound.ensures in
-    (sound_readable _ s, sound_netted _ _ s (omega arith), omega arith, omega arith, omega arith)
+    (sound_netted _ _ c.in_ok-sound.sound.sound (omega arith), omega arith, omega arith, omega arith)
 
 pub returns : goal.returns
 returns c =
-    let p = curve_passed _ _ _ _ c.in_ok-curve_checks.ensures in
+    let p = curve_passed _ _ _ _ (rw c.in_ok-sound.ensures.same at c.in_ok-curve_checks.ensures) in
     let e : c.args.unit - 1 + 1 ≡ c.args.unit = omega arith in
-    curved_drawn _ _ _ _ _ (is_sound _ c.in_ok-check_sound.ensures) c.in_ok-curve_checks.ensures
-    (c.write_points.ensures ∙ ap (λ (u : ℕ). points (decode c.args.book.now) u c.args.day
+    curved_drawn _ _ _ _ _ (is_sound _ c.in_ok-sound.ensures.refusal) (rw c.in_ok-sound.ensures.same at c.in_ok-curve_checks.ensures)
+    ((rw c.in_ok-sound.ensures.same at c.write_points.ensures) ∙ ap (λ (u : ℕ). points (decode c.args.book.now) u c.args.day
     ++ drop 48 c.args.points.now) e)

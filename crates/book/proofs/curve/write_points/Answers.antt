@@ -7,7 +7,7 @@ pub loop-h-preserved : goal.loop-h-preserved
 loop-h-preserved c =
     let l = c.loop-h in
     drawing_more _ _ _ _ _ _ _ l.invariant c.loop-h-test.true (omega arith)
-    (c.net_at-net.ensures ∙ net-figures c.args.book.now c.args.k (24 * c.args.day + l.h) (omega arith) (omega arith))
+    (c.net_at-net.ensures ∙ net-figures c.args.book.words.now c.args.k (24 * c.args.day + l.h) (omega arith) (omega arith))
 
 pub returns : goal.returns
 returns c = drawing_ends _ _ _ _ _ _ c.loop-h.invariant (omega arith)

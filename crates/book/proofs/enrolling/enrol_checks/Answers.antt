@@ -4,4 +4,4 @@ use Rattle.book.proofs.Laws.Answer.MadeLaws.{sound_readable}
 use Rattle.book.proofs.enrolling.enrol_checks.Goals as goal
 
 pub bounds-book-5 : goal.bounds-book-5
-bounds-book-5 c = let r = sound_readable c.args.book.now c.requires in omega arith
+bounds-book-5 c = let r = sound_readable c.args.book.words.now c.args.book.sound in omega arith

@@ -9,16 +9,16 @@ returns-then-not-offers_rise c = differ_offers _ (sym c.offers_rise.ensures ∙ 
 
 pub returns-then-not-numbers_rise : goal.returns-then-not-numbers_rise
 returns-then-not-numbers_rise c =
-    let p = c.requires in
+    let p = c.args.book.readable in
     let e = sym c.numbers_rise.ensures ∙ c.if-not-numbers_rise.true in
-    differ_orders c.args.book.now (rw (orders_from c.args.book.now)
+    differ_orders c.args.book.words.now (rw (orders_from c.args.book.words.now)
     (sym (rise_is _ _ p.orders_to (simp (length-take, length-drop) (omega arith))) ∙ e))
 
 pub returns : goal.returns
 returns c =
-    let p = c.requires in
+    let p = c.args.book.readable in
     let e = sym c.numbers_rise.ensures ∙ c.if-not-numbers_rise.false in
     c.numbers_free.ensures
-    ∙ differ_free c.args.book.now
+    ∙ differ_free c.args.book.words.now
     (sym c.offers_rise.ensures ∙ c.if-not-offers_rise.false)
-    (rw (orders_from c.args.book.now) (sym (rise_is _ _ p.orders_to (simp (length-take, length-drop) (omega arith))) ∙ e))
+    (rw (orders_from c.args.book.words.now) (sym (rise_is _ _ p.orders_to (simp (length-take, length-drop) (omega arith))) ∙ e))

@@ -3,7 +3,6 @@ use Rattle.std.proofs.Common.{◌≡◌, ℕ, get_or, replicate, arith}
 use Rattle.book.proofs.Laws.Answer.MadeLaws.{sound_readable}
 use Rattle.book.proofs.Laws.Check.MisfitLaws.{zeros_at, zeros_below}
 use Rattle.book.proofs.Laws.Offer.OfferFitLaws.{offer_fits, copied_over, copied_small}
-use Rattle.book.proofs.Laws.Sound.RangedLaws.{sound_ranged}
 use Rattle.book.proofs.offering.offer_fit.Goals as goal
 use Rattle.book.proofs.offering.offer_fit.Goals.{After-copy_amounts}
 
@@ -11,19 +10,19 @@ copied : (c : After-copy_amounts) → (k : ℕ) → get_or c.copy_amounts.new.co
 copied c k = rw c.copy_amounts.ensures (copied_over (replicate {A = ℕ} 744 0) c.args.amounts.now (zeros_at 744) k)
 
 pub copy_amounts-requires : goal.copy_amounts-requires
-copy_amounts-requires c = let r = sound_readable c.args.book.now c.requires.0 in omega arith
+copy_amounts-requires c = let r = sound_readable c.args.book.words.now c.args.book.sound in omega arith
 
 pub misfit-requires-clause-is_sound : goal.misfit-requires-clause-is_sound
-misfit-requires-clause-is_sound c = (c.requires.0, sound_ranged c.args.book.now c.requires.0, c.requires.1, c.requires.2)
+misfit-requires-clause-is_sound c = (c.requires.0, c.requires.1)
 
 pub misfit-requires-clause-amounts : goal.misfit-requires-clause-amounts
 misfit-requires-clause-amounts c = (
-  copied_small c.args.amounts.now c.copy_amounts.new.copy c.requires.4 (copied (goal.at.misfit-requires-clause-amounts c).After-copy_amounts),
+  copied_small c.args.amounts.now c.copy_amounts.new.copy c.requires.3 (copied (goal.at.misfit-requires-clause-amounts c).After-copy_amounts),
   zeros_below 744 _,
 )
 
 pub returns : goal.returns
 returns c =
     let a = c.args in
-    offer_fits a.book.now c.requires.0 a.unit (c.requires.1, c.requires.2) a.amounts.now c.copy_amounts.new.copy (replicate {A = ℕ} 744 0)
+    offer_fits a.book.words.now c.args.book.sound a.unit (c.requires.0, c.requires.1) a.amounts.now c.copy_amounts.new.copy (replicate {A = ℕ} 744 0)
     _ (copied (goal.at.returns c).After-copy_amounts) (zeros_at 744) c.misfit.ensures

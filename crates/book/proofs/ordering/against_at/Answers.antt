@@ -4,7 +4,7 @@ use Rattle.book.proofs.Laws.Order.OrderCheckLaws.{against_same, against_other}
 use Rattle.book.proofs.ordering.against_at.Goals as goal
 
 pub returns-then-book-at : goal.returns-then-book-at
-returns-then-book-at c = (omega arith, against_same _ _ _ _ _ (omega arith))
+returns-then-book-at c = against_other _ _ _ _ _ _ (omega arith) c.of_unit_at.ensures
 
-pub returns : goal.returns
-returns c = (c.of_unit_at.ensures.0, against_other _ _ _ _ _ _ (omega arith) c.of_unit_at.ensures.1)
+pub returns-else-book-at : goal.returns-else-book-at
+returns-else-book-at c = rw c.from.ensures (against_same _ _ _ _ _ (omega arith))

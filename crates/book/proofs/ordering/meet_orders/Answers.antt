@@ -9,7 +9,6 @@ use Rattle.book.specs.Layout.{orders_start, amounts_start}
 use Rattle.book.proofs.Laws.Answer.MadeLaws.{sound_readable}
 use Rattle.book.proofs.Laws.Order.RestWaitLaws.{met_unfit, met_rolled}
 use Rattle.book.proofs.ordering.meet_orders.Goals as goal
-use Rattle.book.proofs.ordering.meet_orders.Goals.{Start}
 
 pub bounds-book-7 : goal.bounds-book-7
 bounds-book-7 c = let r = sound_readable _ c.requires.0 in omega arith
@@ -17,17 +16,13 @@ bounds-book-7 c = let r = sound_readable _ c.requires.0 in omega arith
 pub slice_bounds-meet-end : goal.slice_bounds-meet-end
 slice_bounds-meet-end c = let r = sound_readable _ c.requires.0 in omega arith
 
-pub bounds-book-7-in-Some : goal.bounds-book-7-in-Some
-bounds-book-7-in-Some c =
-    let r = sound_readable _ c.requires.0 in omega arith
+pub unreachable-requires : goal.unreachable-requires
+unreachable-requires c =
+    met_unfit c.args.book.now c.meet-met.new.orders c.args.rows.now c.meet-met.new.rows (as_order c.args.o) c.meet-met.result
+    c.requires.0 c.requires.1 c.meet-met.ensures (ap (λ (x : Option Matched). (answer_of x).fits) c.in_default.is)
 
-pub returns-in-None : goal.returns-in-None
-returns-in-None c =
-    absurd (met_unfit c.args.book.now c.meet-met.new.orders c.args.rows.now c.meet-met.new.rows (as_order c.args.o) c.meet-met.result
-    c.requires.0 c.requires.1 c.meet-met.ensures (ap (λ (x : Option Matched). (answer_of x).fits) c.in-None.is))
-
-pub returns-in-Some : goal.returns-in-Some
-returns-in-Some c =
+pub returns : goal.returns
+returns c =
     let r = sound_readable _ c.requires.0 in
     met_rolled c.args.book.now c.meet-met.new.orders c.args.rows.now c.meet-met.new.rows (as_order c.args.o) c.meet-met.result
     c.requires.0 c.requires.1 c.meet-met.ensures _ _ _

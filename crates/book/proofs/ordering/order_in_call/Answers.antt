@@ -6,7 +6,6 @@ use Rattle.book.proofs.Laws.Memory.WordLaws.{aside_then}
 use Rattle.book.proofs.Laws.Order.WaitLaws.{put_aside, called}
 use Rattle.book.proofs.Laws.Order.RestWaitLaws.{put_same}
 use Rattle.book.proofs.ordering.order_in_call.Goals as goal
-use Rattle.book.proofs.ordering.order_in_call.Goals.{After-slice_known-2-1, Start}
 
 pub bounds-book-4 : goal.bounds-book-4
 bounds-book-4 c = let r = sound_readable _ c.requires.0 in omega arith

@@ -1,5 +1,5 @@
 -- `unit_orders`: the sums of the places passed.
-use Rattle.book.proofs.Laws.Order.OrderCheckLaws.{counting_more, counting_end}
+use Rattle.book.proofs.Laws.Order.OrderCheckLaws.{one_at_most, counting_more, counting_end}
 use Rattle.std.proofs.Common.{sym, arith}
 use Rattle.measures.proofs.ListLaws.{sum_none}
 use Rattle.book.proofs.ordering.unit_orders.Goals as goal
@@ -9,12 +9,11 @@ loop-k-init c = (omega arith, omega arith, sym (sum_none _), sym (sum_none _))
 
 pub loop-k-preserved : goal.loop-k-preserved
 loop-k-preserved c =
-    let l = c.loop-k in (
-      omega arith,
-      omega arith,
-      counting_more _ _ _ _ l.invariant.2 c.of_unit_at-stand.ensures.1,
-      counting_more _ _ _ _ l.invariant.3
-          c.against_at-against.ensures.1,
+    let g = c.loop-k.invariant in (
+      omega (arith, one_at_most c.of_unit_at.result),
+      omega (arith, one_at_most c.against_at.result),
+      counting_more _ _ _ _ _ g.2 c.from-stand.ensures c.of_unit_at.ensures,
+      counting_more _ _ _ _ _ g.3 c.from-against.ensures c.against_at.ensures,
     )
 
 pub returns : goal.returns

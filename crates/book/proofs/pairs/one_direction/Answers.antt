@@ -5,12 +5,10 @@ use Rattle.book.proofs.pairs.one_direction.Goals as goal
 
 pub returns-in_default : goal.returns-in_default
 returns-in_default c =
-    let g = c.requires in
-    let n = g.0.readable.orders_to in
+    let n = c.args.book.ranged.readable.orders_to in
     direction_alone _ _ (omega arith) c.in_default.ensures
 
 pub returns : goal.returns
 returns c =
-    let g = c.requires in
-    let n = g.0.readable.orders_to in
-    direction_tested _ _ (omega arith) _ c.in-Some.ensures g.3
+    let n = c.args.book.ranged.readable.orders_to in
+    direction_tested _ _ (omega arith) _ c.in-Some.ensures c.requires.2

@@ -3,11 +3,11 @@ use Rattle.book.proofs.Laws.Check.TogetherLaws.{stands_not, stands_called, stand
 use Rattle.book.proofs.pairs.order_stands.Goals as goal
 
 pub returns-then-not-one_direction : goal.returns-then-not-one_direction
-returns-then-not-one_direction c = stands_not _ _ _ _ _ c.one_direction.ensures c.if-not-one_direction.true
+returns-then-not-one_direction g c = stands_not _ _ _ _ _ c.one_direction.ensures c.if-not-one_direction.true
 
-pub returns-then-book-ne1 : goal.returns-then-book-ne1
-returns-then-book-ne1 c = stands_called _ _ _ _ _ c.one_direction.ensures c.if-not-one_direction.false c.if-book-ne1.true
+pub returns-then-book : goal.returns-then-book
+returns-then-book g c = stands_called _ _ _ _ _ c.one_direction.ensures c.if-not-one_direction.false c.if-book.true
 
 pub returns : goal.returns
-returns c =
-    stands_rolling _ _ _ _ _ _ c.one_direction.ensures c.if-not-one_direction.false c.if-book-ne1.false c.stands_apart.ensures
+returns g c =
+    stands_rolling _ _ _ _ _ _ c.one_direction.ensures c.if-not-one_direction.false c.if-book.false c.stands_apart.ensures

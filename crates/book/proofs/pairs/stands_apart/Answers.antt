@@ -3,9 +3,7 @@ use Rattle.book.proofs.Laws.Check.TogetherLaws.{priced}
 use Rattle.book.proofs.pairs.stands_apart.Goals as goal
 
 pub returns : goal.returns
-returns c =
-    let a = c.args in
-    let g = c.requires in
-    let n = c.note_price.ensures in
-    rw (n.0, n.1) (priced a.book.now g.0 a.k g.2 a.high.now a.low.now g.5 g.1 _ c.crosses.ensures c.if-crosses.false g.3
-    g.4)
+returns g c =
+    let b = c.args.book in
+    let n = c.note.ensures in
+    rw (n.0, n.1) (priced _ b.ranged _ c.requires.0 _ _ c.requires.2 b.priced _ c.crosses.ensures c.if-crosses.false)

@@ -4,4 +4,4 @@ use Rattle.book.proofs.Laws.Check.UnitLaws.{limits_more}
 use Rattle.book.proofs.pass.hour_limits.Goals as goal
 
 pub loop-h-preserved : goal.loop-h-preserved
-loop-h-preserved c = limits_more _ _ _ _ _ (omega arith) c.loop-h.invariant (rw (c.fresh-unit.ensures.0, c.fresh-unit.ensures.1) at c.hour_limit.ensures)
+loop-h-preserved c = limits_more _ _ _ _ _ (omega arith) c.loop-h.invariant c.hour_limit.ensures

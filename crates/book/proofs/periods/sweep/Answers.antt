@@ -23,19 +23,19 @@ overflow_mul-end c = let r = sound_readable _ c.requires.0 in omega arith
 pub slice_bounds-clear_periods-end : goal.slice_bounds-clear_periods-end
 slice_bounds-clear_periods-end c = let r = sound_readable _ c.requires.0 in omega arith
 
-pub bounds-book-7-in-Some : goal.bounds-book-7-in-Some
-bounds-book-7-in-Some c =
+pub bounds-book-7-2 : goal.bounds-book-7-2
+bounds-book-7-2 c =
     let r = sound_readable _ c.requires.0 in omega arith
 
-pub returns-in-None : goal.returns-in-None
-returns-in-None c =
-    all_fit _ _ _ _ _ _ _ (clear_fits _ _ c.requires.0 c.requires.1) c.clear_periods-t.ensures
-    (ap (λ (a : Option Matched). (answer_of a).fits) c.in-None.is)
+pub unreachable-requires : goal.unreachable-requires
+unreachable-requires c =
+    all_fit _ _ _ _ _ _ _ (clear_fits _ _ c.requires.0 c.requires.1) c.clear_periods.ensures
+    (ap (λ (a : Option Matched). (answer_of a).fits) c.in_default.is)
 
-pub returns-in-Some : goal.returns-in-Some
-returns-in-Some c =
+pub returns : goal.returns
+returns c =
     let r = sound_readable _ c.requires.0 in
-    let t = c.clear_periods-t in
+    let t = c.clear_periods in
     swept _ _ _ _ _ _ c.requires.0 (t.auto.orders ∙ mid_len orders_start amounts_start c.args.book.now (omega arith))
     (all_gives _ _ _ _ _ _ _ _ _ (clear_fits _ _ c.requires.0 c.requires.1) t.ensures (ap (λ (a : Option Matched). (answer_of a).count) c.in-Some.is)
     (ap (λ (a : Option Matched). (answer_of a).standing) c.in-Some.is))

@@ -1,11 +1,11 @@
 -- `head_in`: a test that fails contradicts one of the head's facts.
-use Rattle.std.proofs.Common.{◌≡◌, ◌≤◌, ltb, sym, arith, rules}
+use Rattle.std.proofs.Common.{◌≡◌, ◌≤◌, ltb, sym, ◌∙◌, arith, rules}
 use Rattle.book.proofs.Laws.Memory.RangeFacts.{head_fails, head_holds}
 use Rattle.measures.specs.Ranges.{most_price}
 use Rattle.measures.proofs.RangeLaws.{In}
 use Rattle.limits.specs.Units.{most_days}
 use Rattle.book.specs.Layout.{DAYS, FLOOR, CEILING, word}
-use Rattle.book.proofs.Laws.Memory.TestLaws.{is_in, not_in, not_below_lem, within_most, deny_below, deny_over}
+use Rattle.book.proofs.Laws.Memory.TestLaws.{is_in, not_in, not_below_lem, within_most, deny_below, deny_over, no_phase, some_phase}
 use Rattle.book.proofs.ranges.head_in.Goals as goal
 
 pub returns-then-not-in_range : goal.returns-then-not-in_range
@@ -19,8 +19,8 @@ returns-then-lt c =
 pub returns-then-not-in_range-2 : goal.returns-then-not-in_range-2
 returns-then-not-in_range-2 c = head_fails _ (λ h. deny_over h.ceiling c.in_range-2.ensures c.if-not-in_range-2.true)
 
-pub returns-then-book-gt1 : goal.returns-then-book-gt1
-returns-then-book-gt1 c = head_fails _ (λ h. omega (arith, h.phase, c.if-book-gt1.true))
+pub returns-then-is_err : goal.returns-then-is_err
+returns-then-is_err c = head_fails _ (λ h. let n = no_phase _ c.try_from.result c.try_from.ensures (sym c.is_err.ensures.value ∙ c.if-is_err.true) in omega (arith, h.phase))
 
 pub returns-then-book-gt-NUMBERS : goal.returns-then-book-gt-NUMBERS
 returns-then-book-gt-NUMBERS c = head_fails _ (λ h. omega (arith, h.given, c.if-book-gt-NUMBERS.true))
@@ -40,4 +40,5 @@ returns c =
     let prices : word m FLOOR ≤ word m CEILING = let e : c.lt.result ≡ ltb (word m CEILING) (word m FLOOR) = search rules in not_below_lem e c.if-lt.false in
     let ceiling : word m CEILING ≤ most_price = within_most c.in_range-2.ensures c.if-not-in_range-2.false in
     let days : In 1 most_days (word m DAYS) = is_in c.in_range.ensures c.if-not-in_range.false in
+    let phase = some_phase _ c.try_from.result c.try_from.ensures (sym c.is_err.ensures.value ∙ c.if-is_err.false) in
     sym (head_holds _ (omega arith))

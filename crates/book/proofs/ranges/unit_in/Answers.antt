@@ -9,7 +9,7 @@ use Rattle.book.proofs.ranges.unit_in.Goals as goal
 pub returns : goal.returns
 unfolding unit_fields_in
 returns c =
-    let u = c.fresh-unit.ensures in
-    let e : c.is_ok.result ≡ holds (kind_in c.fresh-unit.result.kind ∷ capacity_in c.fresh-unit.result.capacity ∷ asset_in c.fresh-unit.result.asset.0 ∷ []) =
-    c.is_ok.ensures.value ∙ checked_ok _ c.fresh-unit.result.kind c.fresh-unit.result.capacity c.fresh-unit.result.asset.0 c.checked.ensures.refusal in
+    let u = c.unit_at.ensures in
+    let e : c.is_ok.result ≡ holds (kind_in c.unit_at.result.kind ∷ capacity_in c.unit_at.result.capacity ∷ asset_in c.unit_at.result.asset.0 ∷ []) =
+    c.is_ok.ensures.value ∙ checked_ok _ c.unit_at.result.kind c.unit_at.result.capacity c.unit_at.result.asset.0 c.checked.ensures.refusal in
     rw (u.0, u.1, u.2) at e

@@ -4,4 +4,4 @@ use Rattle.book.proofs.Laws.Memory.RangeFacts.{units_held}
 use Rattle.book.proofs.ranges.unit_known.Goals as goal
 
 pub returns : goal.returns
-returns c = rw (units_held c.args.book.now) (search rules)
+returns c = rw (units_held c.args.book.words.now) (search rules)

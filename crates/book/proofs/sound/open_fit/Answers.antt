@@ -6,4 +6,4 @@ use Rattle.book.proofs.sound.open_fit.Goals as goal
 
 pub returns-then-book-eq0 : goal.returns-then-book-eq0
 returns-then-book-eq0 c =
-    c.units_fit.ensures ∙ sym (and_true-left _ _ (pairs_none c.args.book.now c.if-book-eq0.true))
+    c.units_fit.ensures ∙ sym (and_true-left _ _ (pairs_none c.args.book.words.now c.if-book-eq0.true))

@@ -35,33 +35,27 @@ overflow_add-days c =
 pub returns-then-book-days : goal.returns-then-book-days
 returns-then-book-days c = sound_fails c.args.book.now (λ s. let l = s.long in omega arith)
 
-pub units_in-requires : goal.units_in-requires
-units_in-requires c = readable _ (head_facts _ (sym c.head_in.ensures ∙ c.if-not-head_in.false)) (omega arith)
+pub invariant_of-readable : goal.invariant_of-readable
+invariant_of-readable c = record { readable = readable _ (head_facts _ (sym c.head_in.ensures ∙ c.if-not-head_in.false)) (omega arith) }
 
 pub returns-then-not-units_in : goal.returns-then-not-units_in
 returns-then-not-units_in c = sound_fails _ (λ s. not_both _ s.units (sym c.units_in.ensures ∙ c.if-not-units_in.true))
 
-pub offers_in-requires : goal.offers_in-requires
-offers_in-requires c = readable _ (head_facts _ (sym c.head_in.ensures ∙ c.if-not-head_in.false)) (omega arith)
-
 pub returns-then-not-offers_in : goal.returns-then-not-offers_in
 returns-then-not-offers_in c = sound_fails _ (λ s. not_both _ s.offers (sym c.offers_in.ensures ∙ c.if-not-offers_in.true))
-
-pub orders_in-requires : goal.orders_in-requires
-orders_in-requires c = readable _ (head_facts _ (sym c.head_in.ensures ∙ c.if-not-head_in.false)) (omega arith)
 
 pub returns-then-not-orders_in : goal.returns-then-not-orders_in
 returns-then-not-orders_in c = sound_fails _ (λ s. not_both _ s.orders (sym c.orders_in.ensures ∙ c.if-not-orders_in.true))
 
-pub numbers_differ-requires : goal.numbers_differ-requires
-numbers_differ-requires c = readable _ (head_facts _ (sym c.head_in.ensures ∙ c.if-not-head_in.false)) (omega arith)
-
 pub returns-then-not-numbers_differ : goal.returns-then-not-numbers_differ
 returns-then-not-numbers_differ c = sound_fails _ (λ s. not_both _ s.numbers (sym c.numbers_differ.ensures ∙ c.if-not-numbers_differ.true))
 
-pub open_fit-requires : goal.open_fit-requires
-open_fit-requires c =
-    (in_range (goal.at.open_fit-requires c).Else-not-orders_in, (head_facts _ (sym c.head_in.ensures ∙ c.if-not-head_in.false)).ceiling)
+pub invariant_of-open_fit : goal.invariant_of-open_fit
+invariant_of-open_fit c =
+    record {
+      ranged = in_range (goal.at.invariant_of-open_fit c).Else-not-orders_in;
+      priced = (head_facts _ (sym c.head_in.ensures ∙ c.if-not-head_in.false)).ceiling;
+    }
 
 pub returns : goal.returns
 returns c =

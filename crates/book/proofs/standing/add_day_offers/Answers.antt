@@ -9,6 +9,6 @@ loop-j-init c = offers_none _ _ _ _
 pub loop-j-preserved : goal.loop-j-preserved
 loop-j-preserved c =
     elim c.if-book-j.branch [
-      | then-book-j w ↦ rw w.raising-is (offers_own _ _ _ _ _ _ c.loop-j.invariant _ w.if-book-j.true w.add_amounts.ensures)
+      | then-book-j w ↦ rw w.raising-is (offers_own _ _ _ _ _ _ c.loop-j.invariant _ w.if-book-j.true w.add_day_offer.ensures)
       | else-book-j w ↦ rw w.raising-is (offers_other _ _ _ _ _ _ c.loop-j.invariant w.if-book-j.false)
     ]

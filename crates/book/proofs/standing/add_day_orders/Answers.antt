@@ -6,16 +6,17 @@ use Rattle.book.proofs.standing.add_day_orders.Goals as goal
 
 pub loop-next-init : goal.loop-next-init
 loop-next-init c =
-    let g = c.requires in
-    walking_starts _ _ _ g.0 g.1 _ _ _ _ c.day_head-next.ensures
+    walking_starts _ _ _ c.args.book.ranged c.requires.0 _ _ _ _ c.day_head-next.ensures
 
 pub loop-next-preserved : goal.loop-next-preserved
 loop-next-preserved c =
     let g = c.requires in
     let w = rw c.in-Some.is at c.loop-next.invariant in
-    rw c.before-next.ensures (walking_more _ _ _ g.0 g.1 _ _ _ _ _ _ _ _ _ w (g.3.chain _ (omega (arith, w.few))) c.add_day_order.ensures)
+    rw c.before-next.ensures
+    (walking_more _ _ _ c.args.book.ranged g.0 _ _ _ _ _ _ _ _ _ w (g.2.chain _ (omega (arith, w.few))) c.add_day_order.ensures)
 
 pub returns : goal.returns
 returns c =
-    let g = c.requires in
-    walking_ends _ _ _ g.0 g.1 _ _ _ _ _ (rw c.in_default.is at c.loop-next.invariant) (direction_is _ _ g.1 _ c.raising_direction-direction.ensures.1)
+    let u = c.requires.0 in
+    walking_ends _ _ _ c.args.book.ranged u _ _ _ _ _ (rw c.in_default.is at c.loop-next.invariant)
+    (direction_is _ _ u _ c.raising_direction-direction.ensures)

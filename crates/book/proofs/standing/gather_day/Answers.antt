@@ -4,5 +4,4 @@ use Rattle.book.proofs.standing.gather_day.Goals as goal
 
 pub returns : goal.returns
 returns c =
-    let g = c.requires in
-    gathered _ _ _ _ _ _ _ _ g.4 g.5 c.add_day_offers.ensures c.add_day_orders.ensures
+    gathered _ _ _ _ _ _ _ _ c.requires.3 c.requires.4 c.add_day_offers.ensures c.add_day_orders.ensures

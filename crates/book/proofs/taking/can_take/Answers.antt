@@ -10,11 +10,11 @@ not_all c = search rules
 
 pub returns-then-lt : goal.returns-then-lt
 returns-then-lt c =
-    takes_past _ _ _ _ _ c.offer_total-whole.ensures c.requires.6 (is_below (not_all (goal.at.returns-then-lt c).After-lt) c.if-lt.true)
+    takes_past _ _ _ _ _ c.offer_total-whole.ensures c.requires.5 (is_below (not_all (goal.at.returns-then-lt c).After-lt) c.if-lt.true)
 
 pub returns-then-partner-unit : goal.returns-then-partner-unit
 returns-then-partner-unit c =
-    takes_other _ _ _ _ _ c.offer_total-whole.ensures c.requires.6 (omega arith) (omega arith)
+    takes_other _ _ _ _ _ c.offer_total-whole.ensures c.requires.5 (omega arith) (omega arith)
 
 pub returns-then-partner-ne0 : goal.returns-then-partner-ne0
 returns-then-partner-ne0 c =
@@ -23,18 +23,18 @@ returns-then-partner-ne0 c =
     let e : c.le.result ≡ leb w.result.0 c.args.quantity.0 = search rules in
     settles _ _
     (λ t. let ge : w.result.0 ≤ c.args.quantity.0 = within_most e t in
-    sym (takes_whole _ _ _ _ _ w.ensures c.requires.6 (omega arith) (omega arith) (omega (arith, le, ge))))
+    sym (takes_whole _ _ _ _ _ w.ensures c.requires.5 (omega arith) (omega arith) (omega (arith, le, ge))))
     (λ t. let lt : c.args.quantity.0 < w.result.0 = over_most e t in
-    takes_unlike _ _ _ _ _ w.ensures c.requires.6 (omega arith) (omega (arith, lt)))
+    takes_unlike _ _ _ _ _ w.ensures c.requires.5 (omega arith) (omega (arith, lt)))
 
 pub returns-then-own : goal.returns-then-own
 returns-then-own c =
-    takes_load _ _ _ _ _ c.offer_total-whole.ensures c.requires.6 (omega arith) (not_below_lem (not_all (goal.at.returns-then-own c).After-lt) c.if-lt.false) _
+    takes_load _ _ _ _ _ c.offer_total-whole.ensures c.requires.5 (omega arith) (not_below_lem (not_all (goal.at.returns-then-own c).After-lt) c.if-lt.false) _
     (sym c.is_generator-own.ensures ∙ c.if-own.true)
     c.is_generator-other.ensures
 
 pub returns : goal.returns
 returns c =
-    takes-generator _ _ _ _ _ c.offer_total-whole.ensures c.requires.6 (omega arith) (not_below_lem (not_all (goal.at.returns c).After-lt) c.if-lt.false) _
+    takes-generator _ _ _ _ _ c.offer_total-whole.ensures c.requires.5 (omega arith) (not_below_lem (not_all (goal.at.returns c).After-lt) c.if-lt.false) _
     (sym c.is_generator-own.ensures ∙ c.if-own.false)
     c.is_generator-other.ensures

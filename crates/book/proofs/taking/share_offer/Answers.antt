@@ -4,6 +4,6 @@ use Rattle.book.proofs.taking.share_offer.Goals as goal
 
 pub returns : goal.returns
 returns c =
+    let b = c.args.book in
     let p = c.requires in
-    shared-parts c.args.book.now c.args.j p.0 p.1 _ _ _ _ p.2 p.3 p.4 p.5
-    c.share.ensures
+    shared-parts b.words.now c.args.j b.readable p.0 _ _ _ _ p.1 p.2 p.3 p.4 c.share.ensures

@@ -2,26 +2,24 @@
 use Rattle.std.proofs.Common.{refl}
 use Rattle.std.proofs.lemmas.Result.{err_from_is_err_and}
 use Rattle.measures.proofs.RefusedLaws.{number_above}
-use Rattle.book.proofs.Laws.Answer.MadeLaws.{sound_readable}
-use Rattle.book.proofs.Laws.Take.CheckedLaws.{checked_refused, checked_finds, fit_asks, checked_fit}
+use Rattle.book.proofs.Laws.Take.CheckedLaws.{checked_refused, fit_asks, checked_fit}
 use Rattle.book.proofs.taking.take_checks.Goals as goal
 
-pub returns-in_err-take_party : goal.returns-in_err-take_party
-returns-in_err-take_party c =
+pub returns-in_err-j-clause-checked : goal.returns-in_err-j-clause-checked
+returns-in_err-j-clause-checked c =
     let p = err_from_is_err_and c.from_residual.result c.from_residual.ensures.1 in
-    rw (p.1, p.2) (checked_refused _ _ _ _ _ c.requires.0 _ _ (number_above _) c.in_err-take_party.ensures)
-
-pub find_offer-requires : goal.find_offer-requires
-find_offer-requires c = sound_readable _ c.requires.0
-
-pub unreachable-requires : goal.unreachable-requires
-unreachable-requires c = checked_finds _ _ _ _ _ c.requires.0 _ refl c.in_ok-take_party.ensures c.in_default.ensures
+    rw (p.1, p.2) (checked_refused _ _ _ _ _ c.args.book.sound _ _ (number_above _) c.in_err-j.ensures.refusal)
 
 pub take_fit-requires : goal.take_fit-requires
 take_fit-requires c =
-    fit_asks _ _ _ _ _ c.requires.0 _ refl c.in_ok-take_party.ensures _ c.in-Some.ensures c.args.parts.now c.requires.1
+    fit_asks _ _ _ _ _ c.args.book.sound _ refl c.in_ok-j.ensures.refusal _ c.in_ok-j.ensures.place c.args.parts.now c.requires
 
-pub returns : goal.returns
-returns c =
-    checked_fit _ _ _ _ _ c.requires.0 _ refl c.in_ok-take_party.ensures _ c.in-Some.ensures _ _ _
-    c.take_fit.ensures
+pub returns-in_err-take_fit-clause-checked : goal.returns-in_err-take_fit-clause-checked
+returns-in_err-take_fit-clause-checked c =
+    let p = err_from_is_err_and c.from_residual-in_err-take_fit.result c.from_residual-in_err-take_fit.ensures.1 in
+    rw (p.1, p.2)
+    (checked_fit _ _ _ _ _ c.args.book.sound _ refl c.in_ok-j.ensures.refusal _ c.in_ok-j.ensures.place _ _ _ c.in_err-take_fit.ensures)
+
+pub returns-clause-checked : goal.returns-clause-checked
+returns-clause-checked c =
+    checked_fit _ _ _ _ _ c.args.book.sound _ refl c.in_ok-j.ensures.refusal _ c.in_ok-j.ensures.place _ _ _ c.in_ok-take_fit.ensures

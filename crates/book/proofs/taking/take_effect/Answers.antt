@@ -1,59 +1,40 @@
--- `take_effect`: all that is left, or a part of it.
-use Rattle.std.proofs.Common.{length, arith, rules, ◌≡◌, leb}
+-- `take_effect`: the rows, then what is left of the offer, then the rows in the figures.
+use Rattle.std.proofs.Common.{arith, refl, rules, ◌≡◌, leb}
 use Rattle.book.proofs.Laws.Answer.MadeLaws.{sound_readable}
-use Rattle.book.proofs.Laws.Take.EffectLaws.{take_finds, take_some, take_whole, take_less, part-asks, all-asks, part_made, whole_made}
-use Rattle.book.proofs.Laws.Memory.TestLaws.{within_most, over_most}
+use Rattle.book.proofs.Laws.Take.EffectLaws.{rows_asks, booking_asks, take_made}
 use Rattle.book.proofs.taking.take_effect.Goals as goal
 use Rattle.book.proofs.taking.take_effect.Goals.{After-le}
 
-all_of_it : (c : After-le) → c.le.result ≡ leb c.offer_total-whole.result.0 c.args.quantity.0
-all_of_it c = search rules
+is_all : (c : After-le) → c.le.result ≡ leb c.offer_total-whole.result.0 c.args.quantity.0
+is_all c = search rules
 
-pub find_offer-requires : goal.find_offer-requires
-find_offer-requires c = sound_readable _ c.requires.0
-
-pub unreachable-requires : goal.unreachable-requires
-unreachable-requires c =
-    let a = c.args in
-    let p = c.requires in
-    take_finds a.book.now a.unit a.number a.quantity.0 (length a.rows.now) p.0 p.1 c.in_default.ensures
+pub invariant_of-readable : goal.invariant_of-readable
+invariant_of-readable c = record { readable = sound_readable _ c.requires.0 }
 
 pub offer_total-whole-requires : goal.offer_total-whole-requires
 offer_total-whole-requires c =
     let r = sound_readable _ c.requires.0 in
-    let w = c.in-Some.ensures.there in
-    (r, omega arith)
+    let w = c.requires.1.there in
+    omega arith
 
-pub take_whole-requires : goal.take_whole-requires
-take_whole-requires c =
+pub take_rows-count-requires : goal.take_rows-count-requires
+take_rows-count-requires c =
     let a = c.args in
     let p = c.requires in
-    all-asks a.book.now a.unit a.number a.quantity.0 (length a.rows.now) p.0 p.1 _ c.in-Some.ensures a.parts.now (search rules) p.2
+    rows_asks a.book.now a.unit _ a.quantity.0 _ p.0 p.2 _ p.1 a.parts.now (search rules) p.3 _ refl
 
-pub returns-then-le : goal.returns-then-le
-returns-then-le c =
+pub book_rows-requires : goal.book_rows-requires
+book_rows-requires c =
     let a = c.args in
     let p = c.requires in
-    let f = c.in-Some.ensures in
-    whole_made a.book.now a.number a.quantity.0 _ f p.2.behind a.parts.now p.2.parts _ a.unit _ _ _
-    c.take_whole.ensures p.0
-    (take_some a.book.now a.unit a.number a.quantity.0 (length a.rows.now) p.0 p.1)
-    (take_whole a.book.now a.unit a.number a.quantity.0 (length a.rows.now) p.0 p.1 _ f _ c.offer_total-whole.ensures
-    (within_most (all_of_it (goal.at.returns-then-le c).After-le) c.if-le.true))
-
-pub take_part-requires : goal.take_part-requires
-take_part-requires c =
-    let a = c.args in
-    let p = c.requires in
-    part-asks a.book.now a.unit a.number a.quantity.0 (length a.rows.now) p.0 p.1 _ c.in-Some.ensures a.parts.now (search rules) p.2
+    let w = c.leave_offer in
+    booking_asks a.book.now a.unit _ a.quantity.0 _ p.0 p.2 _ p.1 a.parts.now (search rules) p.3 _ w.new.book _ c.offer_total-whole.ensures
+    (is_all (goal.at.book_rows-requires c).After-le) w.ensures.gone w.ensures.left w.auto.book a.rows.now _ _ c.take_rows-count.ensures refl
 
 pub returns : goal.returns
 returns c =
     let a = c.args in
     let p = c.requires in
-    let f = c.in-Some.ensures in
-    part_made a.book.now a.number a.quantity.0 _ f p.2.behind a.parts.now p.2.parts _ a.unit _ _ _
-    c.take_part.ensures
-    (take_some a.book.now a.unit a.number a.quantity.0 (length a.rows.now) p.0 p.1)
-    (take_less a.book.now a.unit a.number a.quantity.0 (length a.rows.now) p.0 p.1 _ f _ c.offer_total-whole.ensures
-    (over_most (all_of_it (goal.at.returns c).After-le) c.if-le.false))
+    let w = c.leave_offer in
+    take_made a.book.now a.unit _ a.quantity.0 _ p.0 p.2 _ p.1 a.parts.now (search rules) p.3 _ w.new.book _ c.offer_total-whole.ensures
+    (is_all (goal.at.returns c).After-le) w.ensures.gone w.ensures.left w.auto.book a.rows.now _ _ c.take_rows-count.ensures _ c.book_rows.ensures

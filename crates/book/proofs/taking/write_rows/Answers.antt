@@ -14,7 +14,7 @@ pub loop-p-preserved : goal.loop-p-preserved
 loop-p-preserved c =
     writing_row _ _ _ _ c.args.parts.now _ _ c.loop-p.p _ c.loop-p-test.true c.loop-p.invariant _
     c.if-part-eq0.false (search rules)
-    (c.put_row.ensures.row (room_there _ _ (omega arith)))
+    (rw c.from.ensures at (c.put_row.ensures.row (room_there _ _ (omega arith))))
 
 pub returns : goal.returns
 returns c = writing_end _ _ _ _ _ _ _ c.loop-p.p _ (omega arith) c.loop-p.invariant

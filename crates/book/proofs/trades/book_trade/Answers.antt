@@ -15,4 +15,4 @@ returns c =
     let f = c.figures_at-figures in
     trade_booked _ _ _ _ _ _ _ _ c.requires.0 c.requires.1 c.requires.2 c.requires.3
     (t.3 ∙ w ∙ ap (λ (g : Figures). mark_after c.args.row.way (direction_number c.args.direction) g.mark) f.ensures) r.result (as_figures f.result) _ _ _
-    f.ensures (rw c.from.ensures at r.ensures) t.0 t.1 t.2 c.requires.5 c.requires.4 c.put_figures.ensures
+    f.ensures r.ensures t.0 t.1 t.2 c.requires.5 c.requires.4 c.put_figures.ensures

@@ -4,10 +4,10 @@ use Rattle.measures.proofs.RefusedLaws.{done_zero}
 use Rattle.book.proofs.Laws.Check.VerdictLaws.{unfit_marks, sums_decide}
 use Rattle.book.proofs.whole.sums_fit.Goals as goal
 
-pub returns-then-s-gt-MOST_MARK : goal.returns-then-s-gt-MOST_MARK
-returns-then-s-gt-MOST_MARK c x y p = let s = c.requires in unfit_marks _ _ x y s.0 s.1 _ _ _ _ p (omega arith)
+pub returns-then-s-gt-BOTH_WAYS : goal.returns-then-s-gt-BOTH_WAYS
+returns-then-s-gt-BOTH_WAYS c x y p = unfit_marks _ _ x y c.args.book.ranged c.requires _ _ _ _ p (omega arith)
 
 pub returns : goal.returns
 returns c x y p =
-    let s = c.requires in
-    c.is_ok.ensures.value ∙ done_zero c.sums_came.result ∙ sums_decide _ _ x y s.0 s.1 _ _ _ _ p _ c.sums_came.ensures (omega arith)
+    c.is_ok.ensures.value ∙ done_zero c.sums_came.result
+    ∙ sums_decide _ _ x y c.args.book.ranged c.requires _ _ _ _ p _ c.sums_came.ensures (omega arith)

@@ -1,11 +1,16 @@
--- `put_rows`: one row more, of those that are still to come.
-use Rattle.lines.proofs.PuttingLaws.{rowed_more, rowed_all}
+-- `put_rows`: one row more.
+use native.Mathlib.Omega.{arith}
+use Rattle.lines.proofs.PuttingLaws.{joined_none, joined_more, joined_all}
 use Rattle.lines.proofs.printing.put_rows.Goals as goal
+
+pub loop-row-init : goal.loop-row-init
+loop-row-init c = (joined_none _ c.as_chunks.result.0.now, omega arith)
 
 pub loop-row-preserved : goal.loop-row-preserved
 loop-row-preserved c =
-    let s = c.in-Some.ensures.cases in
-    rowed_more _ _ _ _ _ _ _ c.loop-row.invariant s.0 s.1 s.2 c.put_row.ensures.puts c.put_row.ensures.short
+    let p = c.put_row.ensures in
+    let i = c.loop-row.invariant in
+    (joined_more _ c.as_chunks.result.0.now _ _ _ c.loop-row-test.true i.0 p.puts, omega (arith, p.short, i.1))
 
 pub returns : goal.returns
-returns c = rowed_all _ _ _ _ c.loop-row.invariant c.in_default.ensures.cases
+returns c = joined_all _ c.as_chunks.result.0.now _ _ _ _ c.as_chunks.ensures.front c.loop-row-test.false c.loop-row.invariant.0

@@ -1,9 +1,8 @@
-use lib.ListN.{length}
-use Rattle.lines.proofs.PuttingLaws.{Rowed}
+use Rattle.std.proofs.Common.{◌≡◌, ◌+◌, ◌*◌, ◌≤◌, ◌++◌, length, take}
+use Rattle.lines.proofs.PuttingLaws.{joined}
 use Rattle.lines.proofs.printing.put_rows.Given as goal
 
 abbrev pub invariant-loop-row : goal.invariant-loop-row
-invariant-loop-row l = Rowed l.initial.out.items l.rows l.out.items l.rest
-
-abbrev pub decreases-loop-row : goal.decreases-loop-row
-decreases-loop-row l = length l.rest
+invariant-loop-row l =
+    (l.out.items ≡ l.initial.out.items ++ joined (take l.row-index l.whole))
+    × (length l.out.items ≤ length l.initial.out.items + 128 * l.row-index)

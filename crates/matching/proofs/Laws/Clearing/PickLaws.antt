@@ -302,7 +302,8 @@ module _ (m ps : List ℕ) (n : ℕ) (d : Direction) (margin v : ℕ) (s : Stand
             (filled_join (orders_at m K) (orders_at m M) (open_at m K) (parts D R) (length_mapped (order_at m) K ∙ sym l_k)
             ∙ rw (open_orders_lem m K, open_orders_lem m M, picked_orders m (Better d) margin ps, picked_orders m Margin margin ps, e_d) refl)
 
-        pub side-filled : (all ≤ length ps) × (all ≤ length to₂) × (all ≤ length (put_mid better (all - better) am₁ ys)) × Filling (take all to₂) (take all (put_mid better (all - better) am₁ ys)) n
+        pub side-filled : (all ≤ length ps) × (all ≤ length to₂) × (all ≤ length (put_mid better (all - better) am₁ ys))
+            × Filling (take all to₂) (take all (put_mid better (all - better) am₁ ys)) n
             × (fills_at m (take all to₂) (take all (put_mid better (all - better) am₁ ys))
             ≡ fills_of v (keep (chosen (Better d) margin) (orders_at m ps)) (keep (chosen Margin margin) (orders_at m ps)))
         side-filled =

@@ -5,7 +5,7 @@ use mathlib.Core.Bool.{Bool, true, false, ◌&&◌}
 use mathlib.Core.List.{List, [], ◌∷◌}
 use native.Mathlib.Omega.{arith}
 use native.Mathlib.Nat.{not-suc-le-zero}
-use native.Mathlib.Decide.{dec_lt, dec_le}
+use native.Mathlib.Decide.{ℕ_discrete, dec_lt, dec_le}
 use borrow.Author.Tests.{lt-ltb, ltb-true, le-leb, lt-leb, leb-true}
 use lib.ListN.{length, get_or, drop, drop_of_length-le, length-map, get_or-map}
 use lib.Dec.{leb, ltb}
@@ -77,6 +77,16 @@ quantities-more m n k h =
 -- the numbers of the orders before place k rise by neighbours
 abbrev pub ClimbsTo : List ℕ → ℕ → Type 0
 ClimbsTo m k = (j : ℕ) → suc j < k → get_or m (6 * j) 0 < get_or m (6 * suc j) 0
+
+-- one order more, whose number is above the one before it
+pub climbs_more : (m : List ℕ) (k : ℕ) → 1 ≤ k → (order_at m (k - 1)).number < (order_at m k).number → ClimbsTo m k → ClimbsTo m (k + 1)
+climbs_more m k h e c j l = go (ℕ_discrete (suc j) k)
+  where
+    go : Dec (suc j ≡ k) → get_or m (6 * j) 0 < get_or m (6 * suc j) 0
+    go (yes q) =
+        let b : k - 1 ≡ j = omega arith in
+        rw (b, ← q) at e
+    go (no n) = c j (omega arith)
 
 pub climbs_rise : (m : List ℕ) (n : ℕ) → ClimbsTo m n → rising (numbers (orders_in m n)) ≡ true
 climbs_rise m n c = rising_by (numbers (orders_in m n)) at

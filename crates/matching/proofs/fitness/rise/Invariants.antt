@@ -3,4 +3,4 @@ use Rattle.matching.proofs.Laws.Orders.FitLaws.{ClimbsTo}
 use Rattle.matching.proofs.fitness.rise.Given as goal
 
 abbrev pub invariant-loop-k : goal.invariant-loop-k
-invariant-loop-k l = (1 ≤ l.k) × ClimbsTo l.orders l.k
+invariant-loop-k l = (1 ≤ l.k) × ClimbsTo l.orders.words.now l.k

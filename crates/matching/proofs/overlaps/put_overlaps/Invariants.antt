@@ -6,8 +6,8 @@ use Rattle.matching.proofs.overlaps.put_overlaps.Given as goal
 
 abbrev pub invariant-loop-i : goal.invariant-loop-i
 invariant-loop-i l =
-    let fb = fills_at l.orders l.bids.places.now l.bids.amounts.now in
-    let fa = fills_at l.orders l.asks.places.now l.asks.amounts.now in
+    let fb = fills_at l.orders.words.now l.bids.places.now l.bids.amounts.now in
+    let fa = fills_at l.orders.words.now l.asks.places.now l.asks.amounts.now in
     (l.i ≤ length l.bids.places.now) × (l.j ≤ length l.asks.places.now)
     × Rowing l.period l.price.0 fb fa l.initial.rows l.rows l.i l.j l.a.0 l.e.0 l.count
 

@@ -7,16 +7,15 @@ use Rattle.matching.proofs.periods.clear_each.Goals as goal
 pub loop-p-init : goal.loop-p-init
 loop-p-init c =
     let t = c.note_prices in
-    (passing_start _ _ _ _ c.requires.0, t.auto.high, t.auto.low, t.ensures)
+    let here = c.new-open.ensures in
+    (passing_start _ _ _ _ c.requires.0, rw (here.0, here.1) at t.ensures)
 
 pub loop-p-preserved : goal.loop-p-preserved
 loop-p-preserved c =
     let l = c.loop-p in
-    let t = c.clear_met-passed in (
+    let t = c.clear_met-cleared in (
       passing_more _ _ _ _ c.requires.0 _ _ _ _ _ l.invariant.0 _ _ _ _ c.loop-p-test.true t.ensures t.auto.orders t.auto.rows,
-      l.invariant.1,
-      l.invariant.2,
-      priced_after _ _ _ _ _ _ _ _ _ _ _ t.ensures l.invariant.3,
+      priced_after _ _ _ _ _ _ _ _ _ _ _ t.ensures l.invariant.1,
     )
 
 pub returns : goal.returns

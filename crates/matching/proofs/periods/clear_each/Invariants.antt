@@ -1,5 +1,3 @@
-use mathlib.Core.Path.{◌≡◌}
-use lib.ListN.{length}
 use Rattle.measures.specs.Lists.{Each}
 use Rattle.matching.specs.Memory.{orders_in}
 use Rattle.matching.specs.Inner.Periods.{PricedBy}
@@ -8,5 +6,5 @@ use Rattle.matching.proofs.periods.clear_each.Given as goal
 
 abbrev pub invariant-loop-p : goal.invariant-loop-p
 invariant-loop-p l =
-    (Passing l.initial.orders l.initial.rows l.n l.end l.orders l.rows l.passed.count l.passed.standing l.p) × (length l.high ≡ 744) × (length l.low ≡ 744)
-    × (Each (PricedBy l.high l.low) (orders_in l.orders l.passed.standing))
+    (Passing l.initial.orders l.initial.rows l.n l.end l.orders l.rows l.cleared.count l.cleared.standing l.p)
+    × (Each (PricedBy l.prices.high l.prices.low) (orders_in l.orders l.cleared.standing))

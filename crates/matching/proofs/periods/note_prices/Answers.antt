@@ -11,14 +11,14 @@ pub loop-k-preserved : goal.loop-k-preserved
 loop-k-preserved c =
     let l = c.loop-k in
     let o = c.read-o.ensures in
-    let d = c.note_price.ensures in
-    let w = c.type_inv.orders (6 * l.k + 4) in (
+    let d = c.note.ensures in
+    let w = c.args.orders.small (6 * l.k + 4) in (
       omega (arith, c.loop-k-test.true),
       rw (
-        d.0 ∙ ap (λ (o : Order). high_with o.direction o.period o.price l.high) o,
-        d.1 ∙ ap (λ (o : Order). low_with o.direction o.period o.price l.low) o,
+        d.0 ∙ ap (λ (o : Order). high_with o.direction o.period o.price l.prices.high) o,
+        d.1 ∙ ap (λ (o : Order). low_with o.direction o.period o.price l.prices.low) o,
       )
-          (noted_more c.args.orders.now l.high l.low l.k l.invariant.1 (omega (arith, w))),
+          (noted_more c.args.orders.words.now l.prices.high l.prices.low l.k l.invariant.1 (omega (arith, w))),
     )
 
 pub returns : goal.returns

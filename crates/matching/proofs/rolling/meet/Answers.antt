@@ -15,21 +15,29 @@ pub returns-then-eq : goal.returns-then-eq
 returns-then-eq c =
     meets_spent _ _ _ _ _ (sym c.fits.ensures ∙ c.if-not-fits.false) (eqb-true _ _ (sym c.eq.ensures ∙ c.if-eq.true)) refl
 
+pub new-open-requires : goal.new-open-requires
+new-open-requires c =
+    let f = fit_gives _ _ _ (sym c.fits.ensures ∙ c.if-not-fits.false) in
+    (f.inside, f.few)
+
 pub meet_in_turn-meeting-requires : goal.meet_in_turn-meeting-requires
 meet_in_turn-meeting-requires c =
     let f = fit_gives _ _ _ (sym c.fits.ensures ∙ c.if-not-fits.false) in
     let few = f.few in
     let z = eqb-false c.args.incoming.quantity.0 0 (sym c.eq.ensures ∙ c.if-eq.false) in
-    (f.inside, few, f.rises, c.in-Ok.ensures, omega (arith, z), omega arith, omega arith, f.lent)
+    let here = c.new-open.ensures in
+    rw (here.0, here.1) (f.rises, c.in-Ok.ensures, omega (arith, z), omega arith, omega arith, f.lent)
 
 pub leave_rests-standing-requires : goal.leave_rests-standing-requires
 leave_rests-standing-requires c =
     let e = sym c.fits.ensures ∙ c.if-not-fits.false in
     let f = fit_gives _ _ _ e in
     let few = f.few in
-    (f.inside, few, f.rises, turn_fills _ _ _ _ _ _ _ _ _ c.meet_in_turn-meeting.ensures e (omega arith) (omega arith), no_filling _)
+    let here = c.new-open.ensures in
+    (f.inside, few, f.rises, turn_fills _ _ _ _ _ _ _ _ _ (rw (here.0, here.1) at c.meet_in_turn-meeting.ensures) e (omega arith) (omega arith), no_filling _)
 
 pub returns : goal.returns
 returns c =
-    meets_turn _ _ _ _ _ _ _ _ _ c.meet_in_turn-meeting.ensures (sym c.fits.ensures ∙ c.if-not-fits.false) _ _ _ refl
+    let here = c.new-open.ensures in
+    meets_turn _ _ _ _ _ _ _ _ _ (rw (here.0, here.1) at c.meet_in_turn-meeting.ensures) (sym c.fits.ensures ∙ c.if-not-fits.false) _ _ _ refl
     (c.leave_rests-standing.ensures.0 ∙ no_rests _ _) c.leave_rests-standing.ensures.1

@@ -12,16 +12,17 @@ use Rattle.matching.proofs.rolling.meet_runs.Goals as goal
 
 pub meeting-init : goal.meeting-init
 meeting-init c =
-    (refl, refl, refl, refl, c.requires.3, meeting_start _ _ _ _ _ _ _ _ _ _ _ c.requires.12)
+    (omega arith, omega arith, refl, refl, refl, c.requires.1, meeting_start _ _ _ _ _ _ _ _ _ _ _ c.requires.5)
 
 pub loop-j-init : goal.loop-j-init
 loop-j-init c = (omega arith, found_start _ _ _ _ _ _ _ _ _)
 
 pub loop-j-preserved : goal.loop-j-preserved
 loop-j-preserved c =
-    let g = c.meeting.invariant.5 in (
+    let i = c.meeting.invariant in
+    let g = i.6 in (
       omega (arith, c.loop-j-test.true),
-      found_next _ _ _ _ _ _ _ _ _ g.runs c.requires.2 c.requires.5 _ c.loop-j-test.true _ _ c.loop-j.invariant.1 _ _
+      found_next _ _ _ _ _ _ _ _ _ g.runs c.requires.0 (omega (arith, i.0, c.args.orders.few)) _ c.loop-j-test.true _ _ c.loop-j.invariant.1 _ _
           c.nearer-best.ensures.0 c.nearer-best.ensures.1,
     )
 
@@ -29,46 +30,47 @@ pub match_at-x-requires : goal.match_at-x-requires
 match_at-x-requires c =
     let i = c.meeting.invariant in
     let l = c.loop-j in
-    let g = i.5 in
+    let g = i.6 in
     let few = g.runs.few in
-    let f = found_whole _ _ _ _ _ _ _ _ l.j _ _ g.runs c.requires.5 (omega (arith, few, i.0, c.requires.1, c.requires.7)) l.invariant.0
+    let f = found_whole _ _ _ _ _ _ _ _ l.j _ _ g.runs (omega (arith, i.0, c.args.orders.few)) (omega (arith, few, i.1, c.args.orders.few)) l.invariant.0
     (omega (arith, c.loop-j-test.false)) l.invariant.1 in
-    let w = meeting_room _ _ _ _ _ _ _ _ _ _ _ _ _ _ _ g _ 0 0 f c.if-best-runs.false c.requires.5 (omega (arith, few, i.0, c.requires.1, c.requires.7))
-    (omega (arith, c.requires.9, i.1)) (omega (arith, c.requires.10, i.2)) in
-    omega (arith, w, c.take_first-p.ensures.0, i.3, c.requires.0, c.requires.1, c.requires.11, c.meeting-test.true)
+    let w = meeting_room _ _ _ _ _ _ _ _ _ _ _ _ _ _ _ g _ 0 0 f c.if-best-runs.false (omega (arith, i.0, c.args.orders.few)) (omega (arith, few, i.1, c.args.orders.few))
+    (omega (arith, c.requires.2, i.2)) (omega (arith, c.requires.3, i.3)) in
+    omega (arith, w, c.take_first-p.ensures.0, i.4, c.args.orders.few, c.requires.4, c.meeting-test.true)
 
 pub meeting-preserved : goal.meeting-preserved
 meeting-preserved c =
     let i = c.meeting.invariant in
     let l = c.loop-j in
-    let g = i.5 in
+    let g = i.6 in
     let few = g.runs.few in
-    let f = found_whole _ _ _ _ _ _ _ _ l.j _ _ g.runs c.requires.5 (omega (arith, few, i.0, c.requires.1, c.requires.7)) l.invariant.0
+    let f = found_whole _ _ _ _ _ _ _ _ l.j _ _ g.runs (omega (arith, i.0, c.args.orders.few)) (omega (arith, few, i.1, c.args.orders.few)) l.invariant.0
     (omega (arith, c.loop-j-test.false)) l.invariant.1 in
     let t = c.take_first-p.ensures in
     let y = c.match_at-x.ensures in (
-      omega (arith, c.take_first-p.auto.heads, i.0),
-      simp length-set i.1,
+      rw t.1 i.0,
+      rw t.1 (simp length-set i.1),
       simp length-set i.2,
-      omega (arith, c.match_at-x.auto.rows, i.3),
+      simp length-set i.3,
+      omega (arith, c.match_at-x.auto.rows, i.4),
       omega (arith, eqb-false c.minus-left.result.0 0 (sym c.eq.ensures ∙ c.if-eq.false)),
-      rw c.minus-left.ensures
-          (meeting_more _ _ _ _ _ _ _ _ _ _ _ _ _ _ _ g l.best.run _ _ f c.if-best-runs.false c.requires.5
-          (omega (arith, few, i.0, c.requires.1, c.requires.7))
-          (omega (arith, c.requires.9, i.1)) (omega (arith, c.requires.10, i.2)) _ _ (omega (arith, i.4)) t.0 t.1 y.0
+      rw (t.1, c.minus-left.ensures)
+          (meeting_more _ _ _ _ _ _ _ _ _ _ _ _ _ _ _ g l.best.run _ _ f c.if-best-runs.false (omega (arith, i.0, c.args.orders.few))
+          (omega (arith, few, i.1, c.args.orders.few))
+          (omega (arith, c.requires.2, i.2)) (omega (arith, c.requires.3, i.3)) _ _ (omega (arith, i.5)) t.0 refl y.0
           (y.1 c.args.rows.now (map (match_row (as_order c.args.incoming)) g.done) g.counted g.handed)),
     )
 
 pub returns-after-meeting : goal.returns-after-meeting
-returns-after-meeting c = ends_full _ _ _ _ _ _ _ _ _ _ _ _ _ _ _ c.meeting.invariant.5 (omega (arith, c.meeting-test.false))
+returns-after-meeting c = ends_full _ _ _ _ _ _ _ _ _ _ _ _ _ _ _ c.meeting.invariant.6 (omega (arith, c.meeting-test.false))
 
 pub returns-then-best-runs : goal.returns-then-best-runs
 returns-then-best-runs c =
     let i = c.meeting.invariant in
     let l = c.loop-j in
-    let g = i.5 in
+    let g = i.6 in
     let few = g.runs.few in
-    let f = found_whole _ _ _ _ _ _ _ _ l.j _ _ g.runs c.requires.5 (omega (arith, few, i.0, c.requires.1, c.requires.7)) l.invariant.0
+    let f = found_whole _ _ _ _ _ _ _ _ l.j _ _ g.runs (omega (arith, i.0, c.args.orders.few)) (omega (arith, few, i.1, c.args.orders.few)) l.invariant.0
     (omega (arith, c.loop-j-test.false)) l.invariant.1 in
     ends_alone _ _ _ _ _ _ _ _ _ _ _ _ _ _ _ g (f.none c.if-best-runs.true)
 
@@ -76,16 +78,16 @@ pub returns-then-eq : goal.returns-then-eq
 returns-then-eq c =
     let i = c.meeting.invariant in
     let l = c.loop-j in
-    let g = i.5 in
+    let g = i.6 in
     let few = g.runs.few in
-    let f = found_whole _ _ _ _ _ _ _ _ l.j _ _ g.runs c.requires.5 (omega (arith, few, i.0, c.requires.1, c.requires.7)) l.invariant.0
+    let f = found_whole _ _ _ _ _ _ _ _ l.j _ _ g.runs (omega (arith, i.0, c.args.orders.few)) (omega (arith, few, i.1, c.args.orders.few)) l.invariant.0
     (omega (arith, c.loop-j-test.false)) l.invariant.1 in
     let t = c.take_first-p.ensures in
     let y = c.match_at-x.ensures in
     let z : c.minus-left.result.0 ≡ 0 = eqb-true _ _ (sym c.eq.ensures ∙ c.if-eq.true) in
     rw c.minus-left.ensures
     (ends_spent _ _ _ _ _ _ _ _ _ _ _ _ _ _ _
-    (meeting_more _ _ _ _ _ _ _ _ _ _ _ _ _ _ _ g l.best.run _ _ f c.if-best-runs.false c.requires.5 (omega (arith, few, i.0, c.requires.1, c.requires.7))
-    (omega (arith, c.requires.9, i.1)) (omega (arith, c.requires.10, i.2)) _ _ (omega (arith, i.4)) t.0 t.1 y.0
+    (meeting_more _ _ _ _ _ _ _ _ _ _ _ _ _ _ _ g l.best.run _ _ f c.if-best-runs.false (omega (arith, i.0, c.args.orders.few)) (omega (arith, few, i.1, c.args.orders.few))
+    (omega (arith, c.requires.2, i.2)) (omega (arith, c.requires.3, i.3)) _ _ (omega (arith, i.5)) t.0 refl y.0
     (y.1 c.args.rows.now (map (match_row (as_order c.args.incoming)) g.done) g.counted g.handed))
     (sym c.minus-left.ensures ∙ z))

@@ -8,12 +8,19 @@ use Rattle.matching.proofs.rolling.meet_runs.Given as goal
 
 abbrev pub invariant-loop-j : goal.invariant-loop-j
 invariant-loop-j l =
-    (l.j ≤ l.runs) × Found l.orders l.keys l.places l.heads l.ends (1 - l.incoming.direction) l.n l.runs l.runs l.j l.best.run l.best.key
+    let s = l.runs in
+    let d = 1 - l.incoming.direction in
+    (l.j ≤ s.count)
+    × Found l.orders.words.now s.keys s.places s.heads s.ends d l.orders.count s.count s.count l.j l.best.run l.best.key
 
 abbrev pub invariant-meeting : goal.invariant-meeting
 invariant-meeting l =
-    (length l.heads ≡ length l.initial.heads) × (length l.met ≡ length l.initial.met) × (length l.taken ≡ length l.initial.taken) × (length l.rows ≡ length l.initial.rows) × (0 < l.left.0)
-    × MetSoFar l.orders l.keys l.places l.ends (1 - l.incoming.direction) l.n l.runs (as_order l.incoming) l.initial.rows l.heads l.met l.taken l.rows l.left.0 l.count
+    let s = l.runs in
+    let d = 1 - l.incoming.direction in
+    (length s.places ≡ 256) × (length s.heads ≡ 16) × (length l.met ≡ length l.initial.met)
+    × (length l.taken ≡ length l.initial.taken) × (length l.rows ≡ length l.initial.rows) × (0 < l.left.0)
+    × MetSoFar l.orders.words.now s.keys s.places s.ends d l.orders.count s.count (as_order l.incoming) l.initial.rows s.heads
+    l.met l.taken l.rows l.left.0 l.count
 
 abbrev pub decreases-meeting : goal.decreases-meeting
-decreases-meeting l = l.n - l.count
+decreases-meeting l = l.orders.count - l.count

@@ -3,5 +3,5 @@ use native.Mathlib.Omega.{arith}
 use Rattle.measures.proofs.SharingLaws.{product_fits}
 use Rattle.measures.proofs.sharing.step.Goals as goal
 
-pub overflow_mul-far : goal.overflow_mul-far
-overflow_mul-far c = record { fits = product_fits _ _ (omega arith) (omega arith) }
+pub overflow_mul-width : goal.overflow_mul-width
+overflow_mul-width c = record { fits = product_fits _ _ (omega arith) (omega arith) }
