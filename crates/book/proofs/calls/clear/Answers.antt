@@ -28,5 +28,7 @@ clear_effect-count-requires c = (
 pub returns : goal.returns
 returns c =
     let w = c.clear_effect-count in
-    made_done _ _ (call_clear (length c.args.rows.now)) 0 _ _ _ _ _ (is_sound _ c.in_ok-sound.ensures.refusal) (rw c.in_ok-sound.ensures.same at c.in_ok-clear_checks.ensures) refl w.ensures.counted w.ensures.book w.ensures.handed
+    let sound = is_sound _ c.in_ok-sound.ensures.refusal in
+    let passed = rw c.in_ok-sound.ensures.same at c.in_ok-clear_checks.ensures in
+    made_done _ _ (call_clear (length c.args.rows.now)) 0 _ _ _ _ _ sound passed refl w.ensures.counted w.ensures.book w.ensures.handed
     w.ensures.aside w.auto.book

@@ -38,6 +38,8 @@ pub returns : goal.returns
 returns c =
     let u = c.fresh-unit.ensures in
     let w = c.enrol_effect in
-    made_done _ [] (call_enrol c.args.kind c.args.capacity c.args.asset) _ [] _ 0 _ [] (is_sound _ c.in_ok-sound.ensures.refusal) (rw (c.in_ok-sound.ensures.same, u.0, u.1, u.2) at c.in_ok-enrol_checks.ensures)
+    let sound = is_sound _ c.in_ok-sound.ensures.refusal in
+    let passed = rw (c.in_ok-sound.ensures.same, u.0, u.1, u.2) at c.in_ok-enrol_checks.ensures in
+    made_done _ [] (call_enrol c.args.kind c.args.capacity c.args.asset) _ [] _ 0 _ [] sound passed
     (enrol_number _ c.args.kind c.args.capacity c.args.asset) refl (rw (u.0, u.1, u.2) at w.ensures.0) (written_none []) w.ensures.1
     w.auto.book
