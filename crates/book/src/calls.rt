@@ -17,13 +17,13 @@ use crate::closing::close_day;
 use crate::curve::{curve_checks, write_points};
 use crate::enrolling::{enrol_checks, enrol_effect};
 use crate::lent::ReadableBook;
-use crate::offering::{Terms, offer_checks, offer_effect};
+use crate::offering::{Offer, offer_checks, offer_effect};
 use crate::ordering::{Wanted, order_checks, order_in_call, order_in_rolling};
 use crate::periods::{clear_checks, clear_effect};
 use crate::phase::Phase;
-use crate::places::{GIVEN, PHASE, UNITS};
+use crate::places::PHASE;
 use crate::sound::check_sound;
-use crate::taking::{take_checks, take_effect};
+use crate::taking::{Claim, take_checks, take_effect};
 use crate::withdrawing::{withdraw_checks, withdraw_effect};
 use crate::{Answer, Done};
 use limits::Unit;
@@ -47,8 +47,7 @@ pub fn enrol(book: &mut [u64], kind: u64, capacity: u64, asset: u64) -> Answer
     let sound = check_sound(book)?;
     let unit = Unit::fresh(kind, capacity, Energy(asset));
     enrol_checks(sound, unit)?;
-    let number = book[UNITS] + 1;
-    enrol_effect(book, unit);
+    let number = enrol_effect(book, unit);
     Ok(Done { number, count: 0 })
 }
 
@@ -57,14 +56,9 @@ pub fn offer(book: &mut [u64], unit: u64, partner: u64, price: u64, amounts: &[u
     ensures { Made book.old [] (call_offer unit partner price amounts.now) result book.new [] }
 {
     let sound = check_sound(book)?;
-    let terms = Terms {
-        unit,
-        partner,
-        price: Price(price),
-    };
+    let terms = Offer::fresh(unit, partner, Price(price));
     offer_checks(sound, terms, amounts)?;
-    let number = book[GIVEN] + 1;
-    offer_effect(book, terms, amounts);
+    let number = offer_effect(book, terms, amounts);
     Ok(Done { number, count: 0 })
 }
 
@@ -74,10 +68,14 @@ pub fn take(book: &mut [u64], unit: u64, number: u64, quantity: u64, rows: &mut 
         rows.new }
 {
     let sound = check_sound(book)?;
+    let claim = Claim {
+        unit,
+        number,
+        quantity: Energy(quantity),
+    };
     let mut parts = [0u64; 744];
-    let energy = Energy(quantity);
-    let j = take_checks(sound, unit, number, energy, rows.len(), &mut parts)?;
-    let count = take_effect(book, unit, j, energy, &parts, rows);
+    let offer = take_checks(sound, claim, rows.len(), &mut parts)?;
+    let count = take_effect(book, offer, claim, &parts, rows);
     Ok(Done { number: 0, count })
 }
 
@@ -142,11 +140,8 @@ pub fn order(
         quantity: Energy(quantity),
     };
     order_checks(sound, wanted, rows.len())?;
-    let number = book[GIVEN] + 1;
     if book[PHASE] == Phase::Call as u64 {
-        order_in_call(book, wanted);
-        return Ok(Done { number, count: 0 });
+        return Ok(order_in_call(book, wanted));
     }
-    let count = order_in_rolling(book, wanted, rows);
-    Ok(Done { number, count })
+    Ok(order_in_rolling(book, wanted, rows))
 }

@@ -15,7 +15,8 @@ use crate::places::{AMOUNTS, ORDER_TABLE, ORDER_WORDS, ORDERS, UNIT};
 use crate::ranges::unit_known;
 use measures::Refusal;
 
-// The checks of a cancel behind that of soundness; where none applies, the place of the order.
+// The checks of a cancel behind that of soundness; where none applies, the place of the order. One search of an own record for
+// this and a withdraw was tried: with its proofs it was longer.
 #[tactic(auto, using(crate::proofs::Laws::Memory::RangeFacts::held, crate::proofs::Laws::Answer::MadeLaws::sound_readable), unfolding(crate::specs::Refusals::first_refusal))]
 pub(crate) fn cancel_checks(book: SoundBook<'_>, unit: u64, number: u64) -> Result<usize, Refusal>
     ensures refusal { refusal_of result ≡ first_refusal (cancel_checks (decode book.entry.words.now) unit number) }

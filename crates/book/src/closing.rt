@@ -1,5 +1,5 @@
 // Closing the day: paper 01, "The eight calls", Close.
-ghost use Rattle.std.specs.Prelude.{◌≡◌, ◌+◌, ◌-◌, ◌*◌, ◌<◌, ◌≤◌, length};
+ghost use Rattle.std.specs.Prelude.{◌≡◌, ◌+◌, ◌-◌, ◌*◌, ◌<◌, ◌≤◌, false, length};
 ghost use Rattle.book.specs.Close.{day_closed};
 ghost use Rattle.book.specs.Layout.{DAYS, UNITS, block_words, VOLUME, word, decode, Aside};
 ghost use Rattle.book.specs.Inner.Readable.{Readable};
@@ -8,11 +8,13 @@ ghost use Rattle.book.specs.Inner.Closing.{hours, Untraded, BlockNetted, DayNett
 use crate::pass::joined;
 use crate::phase::Phase;
 use crate::places::{
-    BLOCK, DAY_WORDS, DAYS, FIGURES, GIVEN, HOURS, LOWERED, MARK, OFFERS, ORDERS, PHASE, RAISED,
-    UNITS, VOLUME,
+    BLOCK, DAY_WORDS, DAYS, FIGURES, GIVEN, HOURS, LOWERED, OFFERS, ORDERS, PHASE, RAISED, UNITS,
+    VOLUME,
 };
+use crate::words::empty;
 
-// The figures of a unit on a day, which begin at `at`: held becomes net, and nothing is traded today.
+// The figures of a unit on a day, which begin at `at`: held becomes net; raised, lowered and marks, which stand side by side, become 0.
+// A block is read and written at its place in the book, of whose words the definitions speak.
 fn close_block(book: &mut [u64], at: usize)
     requires { (at + block_words ≤ length book.old) × (at < 1000000) × (BlockNetted book.old at) }
     ensures { BlockClosed book.old book.new at hours }
@@ -20,22 +22,19 @@ fn close_block(book: &mut [u64], at: usize)
     for h in 0..HOURS {
         let i = at + h;
         book[i] = book[i] + book[i + RAISED] - book[i + LOWERED];
-        book[i + RAISED] = 0;
-        book[i + LOWERED] = 0;
-        book[i + MARK] = 0;
     }
+    empty(book, at + RAISED, at + VOLUME);
 }
 
-// The words of a unit's trades of a day joined: raised, lowered and marks, which stand side by side.
-fn traded(book: &[u64], at: usize) -> u64
+// Whether a unit traded on a day, whose figures begin at `at`: raised, lowered and marks are joined.
+fn traded(book: &[u64], at: usize) -> bool
     requires { (at + block_words ≤ length book.now) × (at < 1000000) }
-    ensures { result ≡ 0 → Untraded book.now at VOLUME }
+    ensures { result ≡ false → Untraded book.now at VOLUME }
 {
-    let mut all: u64 = 0;
-    for i in RAISED..VOLUME {
-        all = joined(all, book[at + i]);
-    }
-    all
+    book[at + RAISED..at + VOLUME]
+        .iter()
+        .fold(0, |all, word| joined(all, *word))
+        != 0
 }
 
 // The figures of a unit on a day, which begin at `at`; a day without trades stays as it is.
@@ -43,7 +42,7 @@ fn close_unit(book: &mut [u64], at: usize)
     requires { (at + block_words ≤ length book.old) × (at < 1000000) × (BlockNetted book.old at) }
     ensures { BlockClosed book.old book.new at hours }
 {
-    if traded(book, at) == 0 {
+    if !traded(book, at) {
         return;
     }
     close_block(book, at);

@@ -43,7 +43,8 @@ fn net_at(book: ReadableBook<'_>, k: usize, p: usize) -> Energy
     figures.net()
 }
 
-// Writes the 48 points of the unit at place k on a day.
+// Writes the 48 points of the unit at place k on a day, by the hour's index: `as_chunks_mut` and `chunks_exact_mut` were tried, and of
+// what is written through them a proof knows nothing.
 pub(crate) fn write_points(book: ReadableBook<'_>, k: usize, day: usize, points: &mut [u64])
     requires { (Netted book.words.now k) × (k < word book.words.now UNITS) × (day < word book.words.now DAYS) × (48 ≤ length points.old) }
     ensures { points.new ≡ points_of (decode book.entry.words.now) (k + 1) day ++ drop 48 points.old }

@@ -50,15 +50,18 @@ fn put_words(book: &mut [u64], at: usize, unit: Unit)
     book[at + ASSET] = unit.asset.0;
 }
 
-// One unit more stands behind the others.
+// One unit more stands behind the others; its name is its place among them, from 1.
 #[tactic(auto, using(crate::proofs::Laws::Answer::MadeLaws::sound_readable))]
-pub(crate) fn enrol_effect(book: &mut [u64], unit: Unit)
+pub(crate) fn enrol_effect(book: &mut [u64], unit: Unit) -> u64
     requires { (sound_in book.old ≡ true) × (word book.old UNITS < 64) }
-    ensures { (decode book.new ≡ enrolled (decode book.old) unit.kind unit.capacity unit.asset.0)
+    ensures number { result ≡ word book.old UNITS + 1 }
+    ensures book { (decode book.new ≡ enrolled (decode book.old) unit.kind unit.capacity unit.asset.0)
         × (Aside book.old book.new) }
 {
     let k = book[UNITS] as usize;
     empty_unit(book, k);
     put_words(book, UNIT_TABLE + UNIT_WORDS * k, unit);
-    book[UNITS] = k as u64 + 1;
+    let number = k as u64 + 1;
+    book[UNITS] = number;
+    number
 }

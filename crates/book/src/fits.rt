@@ -1,140 +1,73 @@
 // Whether a unit fits its limits, with what it has open and a declaration added: paper 01, "Limits".
-ghost use Rattle.std.specs.Prelude.{◌≡◌, ◌+◌, ◌*◌, ◌<◌, ◌≤◌, length, slice_index};
+ghost use Rattle.std.specs.Prelude.{◌≡◌, ◌+◌, ◌-◌, ◌*◌, ◌<◌, ◌≤◌, true, slice_index};
 ghost use Rattle.measures.specs.Ranges.{most_energy};
 ghost use Rattle.measures.specs.Lists.{sum};
 ghost use Rattle.measures.specs.Refused.{refusal_of};
-ghost use Rattle.limits.specs.Units.{periods};
 ghost use Rattle.matching.specs.Memory.{direction_number};
-ghost use Rattle.book.specs.Layout.{DAYS, UNITS, OFFERS, ORDERS, day_place, CAPACITY, ASSET, word, decode};
-ghost use Rattle.book.specs.Inner.Readable.{Fitted, declared, small};
-ghost use Rattle.book.specs.Inner.Fitting.{Below, Added, order_share, offer_share, term_at, volume_at, SumsCame, UnitCame};
-ghost use Rattle.book.specs.Inner.Pass.{most_open, Passed, day_cell, UnitPass, HourTable};
+ghost use Rattle.book.specs.Layout.{UNITS, ORDERS, word, decode};
+ghost use Rattle.book.specs.Contract.{sound_in};
+ghost use Rattle.book.specs.Inner.Readable.{Fitted, declared};
+ghost use Rattle.book.specs.Inner.Fitting.{order_share, term_at, volume_at, SumsCame, UnitCame};
+ghost use Rattle.book.specs.Inner.Pass.{most_open, UnitPass};
+ghost use Rattle.book.specs.Inner.Whole.{BothBelow, BothAdded};
 
 use crate::lent::{RangedBook, ReadableBook, SoundBook};
-use crate::pass::{Amounts, LOW, Sums, add_amounts, all_days, day_sums, hour_limits};
-use crate::places::{
-    AMOUNT_WORDS, AMOUNTS, BLOCK, DAY_WORDS, DAYS, DIRECTION, FIGURES, HOURS, OFFER_TABLE,
-    OFFER_WORDS, OFFERS, ORDER_TABLE, ORDER_WORDS, ORDERS, PERIOD, QUANTITY, UNIT,
-};
+use crate::pass::{Amounts, LOW, Sums, UnitAt, all_days, day_sums, hour_limits};
+use crate::places::{DAYS, HOURS, ORDER_TABLE, ORDER_WORDS, ORDERS, UNIT};
 use crate::ranges::{raising_direction, unit_at};
+use crate::standing::{add_offers, add_order};
 use limits::{Limits, Term, unit_limits};
 use matching::orders::Direction;
 use measures::Refusal;
 
-// What the order at place k has open of a unit in one direction goes to its period.
-#[tactic(auto, using(crate::proofs::Laws::Check::ShareLaws::order_ranges))]
-fn add_order(book: RangedBook<'_>, unit: u64, direction: Direction, k: usize, totals: &mut [u64])
-    requires ranged { k < word book.words.now ORDERS }
-    requires table { (length totals.old ≡ 744) × (Below 2000000000000 totals.old) }
-    ensures { Added (periods (word book.entry.words.now DAYS)) totals.old totals.new
-        (order_share book.entry.words.now unit (direction_number direction) k) most_energy }
-{
-    let at = ORDER_TABLE + ORDER_WORDS * k;
-    if book.words[at + UNIT] != unit {
-        return;
-    }
-    if book.words[at + DIRECTION] != u64::from(direction) {
-        return;
-    }
-    let p = book.words[at + PERIOD] as usize;
-    totals[p] += book.words[at + QUANTITY];
-}
-
-// All of a unit's orders in one direction.
-fn add_orders(book: RangedBook<'_>, unit: u64, direction: Direction, totals: &mut [u64])
-    requires table { (length totals.old ≡ 744) × (Below 40000000000 totals.old) }
-    ensures { Added (periods (word book.entry.words.now DAYS)) totals.old totals.new
-        (λ p. sum (word book.entry.words.now ORDERS) (λ k. order_share book.entry.words.now unit (direction_number direction) k p)) 1024000000000 }
+// What a unit's orders have open, by period: those of this direction raise.
+fn add_orders(book: RangedBook<'_>, unit: u64, direction: Direction, amounts: &mut Amounts<744>)
+    requires { BothBelow 36000000000 amounts.old }
+    ensures { BothAdded 744 amounts.old amounts.new
+        (λ p. sum (word book.entry.words.now ORDERS) (λ k. order_share book.entry.words.now unit (direction_number direction) k p))
+        (λ p. sum (word book.entry.words.now ORDERS) (λ k. order_share book.entry.words.now unit (1 - direction_number direction) k p))
+        1024000000000 }
 {
     let n = book.words[ORDERS] as usize;
     for k in 0..n {
-        add_order(book, unit, direction, k, totals);
+        if book.words[ORDER_TABLE + ORDER_WORDS * k + UNIT] == unit {
+            add_order(book, direction, k, amounts);
+        }
     }
 }
 
-// The amounts of the offer at place j go to their periods, if it is the unit's.
-fn add_offer(book: RangedBook<'_>, unit: u64, j: usize, totals: &mut [u64])
-    requires ranged { j < word book.words.now OFFERS }
-    requires table { (length totals.old ≡ 744) × (Below 2000000000000 totals.old) }
-    ensures { Added (periods (word book.entry.words.now DAYS)) totals.old totals.new (offer_share book.entry.words.now unit j)
-        most_energy }
+// The term and volume limit of a unit. Period 0 stands in every term; its hour limit is not read.
+fn bounds_of(unit: UnitAt<'_>) -> Limits
+    ensures { (result.term.0 ≡ term_at unit.entry.book.words.now unit.entry.place)
+        × (result.volume.0 ≡ volume_at unit.entry.book.words.now unit.entry.place) }
 {
-    if book.words[OFFER_TABLE + OFFER_WORDS * j + UNIT] != unit {
-        return;
-    }
-    let from = AMOUNTS + AMOUNT_WORDS * j;
-    let top = HOURS * (book.words[DAYS] as usize);
-    add_amounts(&book.words[from..from + top], totals);
-}
-
-// All of a unit's offers.
-fn add_offers(book: RangedBook<'_>, unit: u64, totals: &mut [u64])
-    requires table { (length totals.old ≡ 744) × (small totals.old) }
-    ensures { Added (periods (word book.entry.words.now DAYS)) totals.old totals.new
-        (λ p. sum (word book.entry.words.now OFFERS) (λ j. offer_share book.entry.words.now unit j p)) 32000000000 }
-{
-    let n = book.words[OFFERS] as usize;
-    for j in 0..n {
-        add_offer(book, unit, j, totals);
-    }
-}
-
-// The term and volume limit of the unit at place k.
-pub(crate) fn bounds_of(book: RangedBook<'_>, k: usize) -> Limits
-    requires { k < word book.words.now UNITS }
-    ensures { (result.term.0 ≡ term_at book.entry.words.now k) × (result.volume.0 ≡ volume_at book.entry.words.now k) }
-{
-    let unit = unit_at(ReadableBook { words: book.words }, k);
-    match unit_limits(Term(book.words[DAYS]), unit, 0) {
+    let words = unit.book.words;
+    let fields = unit_at(ReadableBook { words }, unit.place);
+    match unit_limits(Term(words[DAYS]), fields, 0) {
         Ok(limits) => limits,
         Err(_) => unreachable!(),
     }
 }
 
-// Day d of the unit at place k, with what raises and what lowers by period.
-fn period_day(
-    book: RangedBook<'_>,
-    k: usize,
-    d: usize,
-    limits: &[u64; 24],
-    amounts: &Amounts<744>,
-) -> Sums
-    requires ranged { (k < word book.words.now UNITS) × (d < word book.words.now DAYS) × (HourTable book.words.now k limits.now) }
-    requires amounts { (Below most_open amounts.now.raising) × (Below most_open amounts.now.lowering) }
-    ensures { Passed 24 (day_cell book.entry.words.now (day_place d k) limits.now (λ h. slice_index amounts.now.raising (24 * d + h))
-        (λ h. slice_index amounts.now.lowering (24 * d + h))) result }
+// All days of a unit, with what raises and what lowers by period.
+fn open_unit(unit: UnitAt<'_>, amounts: &Amounts<744>) -> Sums
+    requires { BothBelow most_open amounts.now }
+    ensures { UnitPass unit.entry.book.words.now unit.entry.place (λ p. slice_index amounts.now.raising p)
+        (λ p. slice_index amounts.now.lowering p) result }
 {
-    let at = FIGURES + DAY_WORDS * d + BLOCK * k;
-    day_sums(book.words, at, limits, |h| {
-        (
-            amounts.raising[HOURS * d + h],
-            amounts.lowering[HOURS * d + h],
-        )
+    all_days(unit.book.words[DAYS] as usize, |d| {
+        day_sums(unit, d, |h| amounts.at(HOURS * d + h))
     })
 }
 
-// All days of it.
-fn open_unit(book: RangedBook<'_>, k: usize, limits: &[u64; 24], amounts: &Amounts<744>) -> Sums
-    requires ranged { (k < word book.words.now UNITS) × (HourTable book.words.now k limits.now) }
-    requires amounts { (Below most_open amounts.now.raising) × (Below most_open amounts.now.lowering) }
-    ensures { UnitPass book.entry.words.now k (λ p. slice_index amounts.now.raising p) (λ p. slice_index amounts.now.lowering p)
-        result.bad result.marks result.whole result.volume }
-{
-    all_days(book.words[DAYS] as usize, |d| {
-        period_day(book, k, d, limits, amounts)
-    })
-}
-
-// What the sums of a pass over the unit at place k come to: the first that is past its limit, if one is.
-#[tactic(auto, unfolding(crate::specs::Refusals::first_refusal))]
-pub(crate) fn sums_came(book: RangedBook<'_>, k: usize, s: Sums) -> Result<(), Refusal>
-    requires { k < word book.words.now UNITS }
-    ensures { SumsCame book.entry.words.now k s.bad s.whole s.volume (refusal_of result) }
+// What the sums of a pass over a unit come to: the first that is past its limit, if one is.
+pub(crate) fn sums_came(unit: UnitAt<'_>, s: Sums) -> Result<(), Refusal>
+    ensures { SumsCame unit.entry.book.words.now unit.entry.place s (refusal_of result) }
 {
     if LOW < s.bad {
         return Err(Refusal::HourMisfit);
     }
-    let most = bounds_of(book, k);
+    let most = bounds_of(unit);
     if most.term.0 < s.whole {
         return Err(Refusal::TermMisfit);
     }
@@ -144,15 +77,22 @@ pub(crate) fn sums_came(book: RangedBook<'_>, k: usize, s: Sums) -> Result<(), R
     Ok(())
 }
 
-// What the unit at place k comes to with these amounts by period: what does not fit, if anything. The book is sound, so a fault is an hour's.
-fn fit_of(book: SoundBook<'_>, k: usize, amounts: &Amounts<744>) -> Result<(), Refusal>
-    requires is_sound { k < word book.words.now UNITS }
-    requires amounts { (Below most_open amounts.now.raising) × (Below most_open amounts.now.lowering) }
-    ensures { UnitCame book.entry.words.now k (λ p. slice_index amounts.now.raising p) (λ p. slice_index amounts.now.lowering p) (refusal_of result) }
+// What the unit at place k of a sound book comes to with these amounts by period: what does not fit, if anything. A fault is an hour's.
+// It takes a `RangedBook` and a clause: of a `SoundBook` it was tried, and a `UnitAt` whose book is made in the same function is refused.
+fn fit_of(book: RangedBook<'_>, k: usize, amounts: &Amounts<744>) -> Result<(), Refusal>
+    requires sound { sound_in book.words.now ≡ true }
+    requires place { k < word book.words.now UNITS }
+    requires amounts { BothBelow most_open amounts.now }
+    ensures { UnitCame book.entry.words.now k (λ p. slice_index amounts.now.raising p) (λ p. slice_index amounts.now.lowering p)
+        (refusal_of result) }
 {
-    let ranged = RangedBook { words: book.words };
-    let limits = hour_limits(unit_at(ReadableBook { words: book.words }, k));
-    sums_came(ranged, k, open_unit(ranged, k, &limits, amounts))
+    let limits = hour_limits(book, k);
+    let unit = UnitAt {
+        book,
+        place: k,
+        limits: &limits,
+    };
+    sums_came(unit, open_unit(unit, amounts))
 }
 
 // What a unit of a sound book comes to with a declaration lent as amounts by period: what does not fit, if
@@ -162,14 +102,14 @@ pub(crate) fn misfit(
     unit: u64,
     amounts: &mut Amounts<744>,
 ) -> Result<(), Refusal>
-    requires is_sound { (1 ≤ unit) × (unit ≤ word book.words.now UNITS) }
-    requires amounts { (small amounts.old.raising) × (small amounts.old.lowering) }
+    requires enrolled { (1 ≤ unit) × (unit ≤ word book.words.now UNITS) }
+    requires amounts { BothBelow most_energy amounts.old }
     ensures { Fitted (decode book.entry.words.now) unit (declared amounts.old.raising amounts.old.lowering) (refusal_of result) }
 {
     let ranged = RangedBook { words: book.words };
     let direction = raising_direction(ReadableBook { words: book.words }, unit);
-    add_offers(ranged, unit, &mut amounts.raising);
-    add_orders(ranged, unit, direction, &mut amounts.raising);
-    add_orders(ranged, unit, direction.opposite(), &mut amounts.lowering);
-    fit_of(book, unit as usize - 1, amounts)
+    let top = HOURS * book.words[DAYS] as usize;
+    add_offers(ranged, unit, 0, &mut amounts.raising[..top]);
+    add_orders(ranged, unit, direction, amounts);
+    fit_of(ranged, unit as usize - 1, amounts)
 }

@@ -28,7 +28,8 @@ mod words;
 
 use measures::Refusal;
 
-// What a call that is done answers: the number given, or 0, and the count of rows.
+// What a call that is done answers: the number given, or 0, and the count of rows. Paper 01 has the 0: "opening and the
+// other calls 0".
 #[derive(Clone, Copy, Debug, PartialEq, Eq)]
 pub struct Done {
     pub number: u64,

@@ -12,7 +12,7 @@ use crate::places::{AMOUNTS, OFFER_TABLE, OFFER_WORDS, OFFERS, ORDER_TABLE, ORDE
 use crate::ranges::every;
 
 // Whether the numbers of the open offers rise: each is above the one before it. The orders' numbers are matching's to test,
-// which reads them as orders.
+// which reads them as orders. By `every` the test would read the place before too, and leave out the first: no plainer.
 fn offers_rise(book: ReadableBook<'_>) -> bool
     ensures { result ≡ rising (offer_numbers (decode book.entry.words.now)) }
 {
@@ -28,6 +28,8 @@ fn offers_rise(book: ReadableBook<'_>) -> bool
 }
 
 // The first of n records, of so many words each, that has this number in the word looked at, which in the first stands at `table`.
+// Records are words, no items of a slice, so the test of a library's search would need clauses of its own. Numbers rise,
+// but the units that `has_offer` looks for do not, so it is no search by halves.
 pub(crate) fn find<const WORDS: usize>(
     book: &[u64],
     table: usize,

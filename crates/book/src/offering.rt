@@ -2,7 +2,7 @@
 ghost use Rattle.std.specs.Prelude.{◌≡◌, ℕ, ◌+◌, ◌-◌, ◌*◌, ◌<◌, ◌≤◌, true, [], ◌∷◌, length, ◌≢◌, ◌++◌, drop, slice_set};
 ghost use Rattle.measures.specs.Ranges.{most_energy};
 ghost use Rattle.measures.specs.Sharing.{total};
-ghost use Rattle.book.specs.Layout.{DAYS, UNITS, OFFERS, amount_place, word, decode, Aside};
+ghost use Rattle.book.specs.Layout.{DAYS, GIVEN, UNITS, OFFERS, amount_place, word, decode, Aside};
 ghost use Rattle.measures.specs.Refused.{refusal_of};
 ghost use Rattle.book.specs.Refusals.{
   first_refusal,
@@ -28,30 +28,50 @@ use crate::places::{
     AMOUNT_WORDS, AMOUNTS, DAYS, GIVEN, HOURS, OFFER_TABLE, OFFER_WORDS, OFFERS, PARTNER, PRICE,
     TAKEN, UNIT, UNITS,
 };
-use crate::ranges::{Offer, price_in, sides_fit, unit_known};
+use crate::ranges::{price_in, sides_fit, unit_known};
 use measures::{Price, Refusal, capped_total};
 
-// What an offer says beside its amounts; a partner of 0 is none, as in memory and in C.
+// What an offer says beside its number and its amounts; a partner of 0 is none, as in memory and in C.
 #[derive(Clone, Copy)]
-pub struct Terms {
+pub(crate) struct Offer {
     pub unit: u64,
     pub partner: u64,
     pub price: Price,
 }
 
+impl Offer {
+    // How many stand open at most.
+    pub const MOST: u64 = 8;
+
+    // The numbers of a day, of offers and orders in one series.
+    pub const NUMBERS: u64 = 65_535;
+
+    // An offer of these terms: a maker, as paper 01 names it.
+    pub(crate) fn fresh(unit: u64, partner: u64, price: Price) -> Offer
+        ensures { (result.unit ≡ unit) × (result.partner ≡ partner) × (result.price.0 ≡ price.0) }
+    {
+        Offer {
+            unit,
+            partner,
+            price,
+        }
+    }
+}
+
 // The checks of names, price and amounts.
 #[tactic(auto, using(crate::proofs::Laws::Memory::RangeFacts::held, crate::proofs::Laws::Answer::MadeLaws::sound_readable), unfolding(crate::specs::Refusals::first_refusal))]
-fn offer_terms(book: ReadableBook<'_>, terms: Terms, amounts: &[u64]) -> Result<(), Refusal>
-    ensures { refusal_of result ≡ first_refusal (unknown_unit (decode book.entry.words.now) terms.unit ∷ unknown_partner (decode book.entry.words.now) terms.partner
-        ∷ bad_price (decode book.entry.words.now) terms.price.0 ∷ bad_amounts (decode book.entry.words.now) amounts.now ∷ []) }
+fn offer_terms(book: ReadableBook<'_>, offer: Offer, amounts: &[u64]) -> Result<(), Refusal>
+    ensures { refusal_of result ≡ first_refusal (unknown_unit (decode book.entry.words.now) offer.unit
+        ∷ unknown_partner (decode book.entry.words.now) offer.partner ∷ bad_price (decode book.entry.words.now) offer.price.0
+        ∷ bad_amounts (decode book.entry.words.now) amounts.now ∷ []) }
 {
-    if !unit_known(book, terms.unit) {
+    if !unit_known(book, offer.unit) {
         return Err(Refusal::UnknownName);
     }
-    if book.words[UNITS] < terms.partner {
+    if book.words[UNITS] < offer.partner {
         return Err(Refusal::UnknownName);
     }
-    if !price_in(book, terms.price) {
+    if !price_in(book, offer.price) {
         return Err(Refusal::BadPrice);
     }
     if amounts.len() != HOURS * (book.words[DAYS] as usize) {
@@ -64,12 +84,12 @@ fn offer_terms(book: ReadableBook<'_>, terms: Terms, amounts: &[u64]) -> Result<
 }
 
 // The checks of sides and of room, for names that are known.
-fn offer_room(book: ReadableBook<'_>, terms: Terms) -> Result<(), Refusal>
-    requires { (1 ≤ terms.unit) × (terms.unit ≤ word book.words.now UNITS) × (terms.partner ≤ word book.words.now UNITS) }
-    ensures { refusal_of result ≡ first_refusal (wrong_partner (decode book.entry.words.now) terms.unit terms.partner ∷ offers_full (decode book.entry.words.now)
-        ∷ numbers_used (decode book.entry.words.now) ∷ []) }
+fn offer_room(book: ReadableBook<'_>, offer: Offer) -> Result<(), Refusal>
+    requires { (1 ≤ offer.unit) × (offer.unit ≤ word book.words.now UNITS) × (offer.partner ≤ word book.words.now UNITS) }
+    ensures { refusal_of result ≡ first_refusal (wrong_partner (decode book.entry.words.now) offer.unit offer.partner
+        ∷ offers_full (decode book.entry.words.now) ∷ numbers_used (decode book.entry.words.now) ∷ []) }
 {
-    if !sides_fit(book, terms.unit, terms.partner) {
+    if !sides_fit(book, offer.unit, offer.partner) {
         return Err(Refusal::WrongParty);
     }
     if Offer::MOST <= book.words[OFFERS] {
@@ -81,7 +101,8 @@ fn offer_room(book: ReadableBook<'_>, terms: Terms) -> Result<(), Refusal>
     Ok(())
 }
 
-// The amounts, copied to the front of a list that has room for them.
+// The amounts, copied to the front of a list that has room for them; a copy into the book is said by the book's places
+// (`put_amounts`).
 fn copy_amounts(amounts: &[u64], copy: &mut [u64])
     requires { length amounts.now ≤ length copy.old }
     ensures { copy.new ≡ amounts.now ++ drop (length amounts.now) copy.old }
@@ -89,7 +110,7 @@ fn copy_amounts(amounts: &[u64], copy: &mut [u64])
     copy[..amounts.len()].copy_from_slice(amounts);
 }
 
-// Whether the amounts fit the unit's limits.
+// Whether the amounts fit the unit's limits. That there are as many as periods ties them to a book, and stays a clause.
 fn offer_fit(book: SoundBook<'_>, unit: u64, amounts: &[u64]) -> Result<(), Refusal>
     requires { (1 ≤ unit) × (unit ≤ word book.words.now UNITS) × (length amounts.now ≡ 24 * word book.words.now DAYS)
         × (total amounts.now ≤ most_energy) }
@@ -108,15 +129,16 @@ fn offer_fit(book: SoundBook<'_>, unit: u64, amounts: &[u64]) -> Result<(), Refu
 // The checks of an offer behind that of soundness.
 pub(crate) fn offer_checks(
     book: SoundBook<'_>,
-    terms: Terms,
+    offer: Offer,
     amounts: &[u64],
 ) -> Result<(), Refusal>
-    ensures { refusal_of result ≡ first_refusal (offer_checks (decode book.entry.words.now) terms.unit terms.partner terms.price.0 amounts.now) }
+    ensures { refusal_of result ≡ first_refusal (offer_checks (decode book.entry.words.now) offer.unit offer.partner offer.price.0
+        amounts.now) }
 {
     let readable = ReadableBook { words: book.words };
-    offer_terms(readable, terms, amounts)?;
-    offer_room(readable, terms)?;
-    offer_fit(book, terms.unit, amounts)
+    offer_terms(readable, offer, amounts)?;
+    offer_room(readable, offer)?;
+    offer_fit(book, offer.unit, amounts)
 }
 
 // The amounts of the offer at place j.
@@ -129,32 +151,33 @@ fn put_amounts(book: &mut [u64], j: usize, amounts: &[u64])
     book[from..from + amounts.len()].copy_from_slice(amounts);
 }
 
-// The words of an offer beside its amounts; the first stands at `at`.
-fn put_words(book: &mut [u64], at: usize, o: Offer)
+// The words of an offer beside its amounts, of which nothing is taken; the first stands at `at`.
+fn put_words(book: &mut [u64], at: usize, number: u64, offer: Offer)
     requires { at + 8 ≤ length book.old }
-    ensures { book.new ≡ slice_set (slice_set (slice_set (slice_set (slice_set book.old at o.number) (at + UNIT) o.unit)
-        (at + PARTNER) o.partner) (at + PRICE) o.price.0) (at + TAKEN) o.taken }
+    ensures { book.new ≡ slice_set (slice_set (slice_set (slice_set (slice_set book.old at number) (at + UNIT) offer.unit)
+        (at + PARTNER) offer.partner) (at + PRICE) offer.price.0) (at + TAKEN) 0 }
 {
-    book[at] = o.number;
-    book[at + UNIT] = o.unit;
-    book[at + PARTNER] = o.partner;
-    book[at + PRICE] = o.price.0;
-    book[at + TAKEN] = o.taken;
+    book[at] = number;
+    book[at + UNIT] = offer.unit;
+    book[at + PARTNER] = offer.partner;
+    book[at + PRICE] = offer.price.0;
+    book[at + TAKEN] = 0;
 }
 
 // One offer more stands behind the others, under the next number.
 #[tactic(auto, using(crate::proofs::Laws::Answer::MadeLaws::sound_readable))]
-pub(crate) fn offer_effect(book: &mut [u64], terms: Terms, amounts: &[u64])
+pub(crate) fn offer_effect(book: &mut [u64], offer: Offer, amounts: &[u64]) -> u64
     requires { (sound_in book.old ≡ true) × (word book.old OFFERS < 8) × (length amounts.now ≡ 24 * word book.old DAYS) }
-    ensures { (decode book.new
-        ≡ offered (decode book.old) terms.unit terms.partner terms.price.0 amounts.now)
+    ensures number { result ≡ word book.old GIVEN + 1 }
+    ensures book { (decode book.new
+        ≡ offered (decode book.old) offer.unit offer.partner offer.price.0 amounts.now)
         × (Aside book.old book.new) }
 {
     let j = book[OFFERS] as usize;
     let number = book[GIVEN] + 1;
-    let o = Offer::fresh(number, terms.unit, terms.partner, terms.price);
     put_amounts(book, j, amounts);
-    put_words(book, OFFER_TABLE + OFFER_WORDS * j, o);
+    put_words(book, OFFER_TABLE + OFFER_WORDS * j, number, offer);
     book[OFFERS] = j as u64 + 1;
     book[GIVEN] = number;
+    number
 }

@@ -1,8 +1,9 @@
 // Opening a book: paper 01, "Units of measure and the book".
-ghost use Rattle.std.specs.Prelude.{◌≡◌, ◌+◌, ◌*◌, ◌<◌, ◌≤◌, length, drop};
+ghost use Rattle.std.specs.Prelude.{◌≡◌, ◌+◌, ◌*◌, ◌<◌, ◌≤◌, length, drop, true, false, MatchOption};
+ghost use Rattle.limits.specs.Units.{days_in};
 ghost use Rattle.book.specs.Book.{rules_of};
 ghost use Rattle.book.specs.Opening.{fresh, words_for, WithinBytes};
-ghost use Rattle.book.specs.Layout.{LAYOUT, layout_number, figures_start, word, decode};
+ghost use Rattle.book.specs.Layout.{LAYOUT, layout_number, figures_start, book_words, word, decode};
 ghost use Rattle.book.specs.Contract.{Opened};
 
 use crate::phase::Phase;
@@ -10,18 +11,30 @@ use crate::places::{
     CEILING, DAY_WORDS, DAYS, FIGURES, FLOOR, GIVEN, LAYOUT, LAYOUT_NUMBER, OFFERS, ORDERS, PHASE,
     UNITS,
 };
+use crate::ranges::prices_in_range;
 use crate::{Answer, Done};
 use limits::Term;
 use measures::{Price, Refusal};
 
-// How many words a book of these days needs; 0 where there is no such book, as C asks.
+// How many words a book of these days needs, where there is such a book.
+fn words_needed(days: u64) -> Option<usize>
+    ensures { MatchOption result (days_in days ≡ false)
+        (λ words. (days_in days ≡ true) × (words ≡ book_words days) × (WithinBytes words days)) }
+{
+    if !Term(days).in_range() {
+        return None;
+    }
+    Some(FIGURES + DAY_WORDS * (days as usize))
+}
+
+// The same for Rust and C; 0 where there is no such book, as C asks.
 pub fn book_words(days: u64) -> u64
     ensures { (result ≡ words_for days) × (WithinBytes result days) }
 {
-    if !Term(days).in_range() {
-        return 0;
+    match words_needed(days) {
+        Some(words) => words as u64,
+        None => 0,
     }
-    (FIGURES + DAY_WORDS * (days as usize)) as u64
 }
 
 // Writes the head of a fresh book.
@@ -45,16 +58,13 @@ fn write_head(book: &mut [u64], days: u64, floor: u64, ceiling: u64)
 pub fn open(book: &mut [u64], days: u64, floor: u64, ceiling: u64) -> Answer
     ensures { Opened book.old (rules_of days floor ceiling) result book.new }
 {
-    if !Term(days).in_range() {
+    let Some(words) = words_needed(days) else {
         return Err(Refusal::BadOpening);
-    }
-    if book.len() < FIGURES + DAY_WORDS * (days as usize) {
+    };
+    if book.len() < words {
         return Err(Refusal::UnsoundBook);
     }
-    if ceiling < floor {
-        return Err(Refusal::BadOpening);
-    }
-    if Price::MOST < ceiling {
+    if !prices_in_range(Price(floor), Price(ceiling)) {
         return Err(Refusal::BadOpening);
     }
     write_head(book, days, floor, ceiling);

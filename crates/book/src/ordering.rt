@@ -1,30 +1,34 @@
 // Order (paper 01): "a unit, a direction (0 sell, 1 buy), a period, a price, a quantity."
-ghost use Rattle.std.specs.Prelude.{◌≡◌, ◌+◌, ◌-◌, ◌*◌, ◌<◌, ◌≤◌, true, [], ◌∷◌, ◌++◌, length, if◌then◌else◌, nat_eq, cond, IfOk};
+ghost use Rattle.std.specs.Prelude.{◌≡◌, ◌+◌, ◌-◌, ◌*◌, ◌<◌, ◌≤◌, true, [], ◌∷◌, ◌++◌, length, ◌&&◌, nat_eq, nat_le, nat_lt, cond, IfOk};
 ghost use Rattle.measures.specs.Lists.{sum};
 ghost use Rattle.matching.specs.Orders.{order_with, leaving};
 ghost use Rattle.matching.specs.Memory.{direction_number, as_order, orders_in};
 ghost use Rattle.book.specs.Book.{numbered};
 ghost use Rattle.book.specs.Layout.{DAYS, PHASE, GIVEN, UNITS, ORDERS, amounts_start, word, orders_part, decode, Aside};
 ghost use Rattle.measures.specs.Refused.{refusal_of};
-ghost use Rattle.book.specs.Refusals.{first_refusal, marked_against, orders_full};
+ghost use Rattle.book.specs.Refusals.{first_refusal, orders_full};
 ghost use Rattle.book.specs.Contract.{sound_in};
 ghost use Rattle.book.specs.Order.{order_checks, new_order, ordered_in_call, waiting};
 ghost use Rattle.book.specs.Inner.Ordering.{day_checks, order_fit_checks, NameChecked, Named, of_unit_at, against_at, OrdersPut, Rolled, RolledOn};
 
+use crate::Done;
 use crate::fits::misfit;
 use crate::lent::{ReadableBook, SoundBook};
+use crate::offering::Offer;
 use crate::pass::Amounts;
 use crate::phase::Phase;
 use crate::places::{
-    AMOUNTS, BLOCK, DAY_WORDS, DAYS, DIRECTION, FIGURES, GIVEN, HOURS, MARK, ORDER_TABLE,
-    ORDER_WORDS, ORDERS, PERIOD, PHASE, ROOM_FOR_ROWS, UNIT,
+    AMOUNTS, DAYS, DIRECTION, GIVEN, ORDER_TABLE, ORDER_WORDS, ORDERS, PERIOD, PHASE,
+    ROOM_FOR_ROWS, UNIT,
 };
-use crate::ranges::{Offer, price_in, unit_known};
-use crate::trades::{BOTH_WAYS, book_rows, mark_of, raises_net};
+use crate::ranges::{price_in, unit_known};
+use crate::trades::{book_rows, figures_at, raises_net};
+use limits::Term;
 use matching::orders::{Direction, Matched, Order};
 use measures::{Energy, Price, Refusal};
 
-// What an order asks for; its direction is any number that a caller names.
+// What an order asks for; its direction is any number that a caller names. It is no `Order` yet: it has no number before its
+// checks pass.
 #[derive(Clone, Copy)]
 pub(crate) struct Wanted {
     pub unit: u64,
@@ -54,7 +58,8 @@ impl Wanted {
 #[tactic(auto, using(crate::proofs::Laws::Memory::RangeFacts::held), unfolding(crate::specs::Refusals::first_refusal, crate::specs::Inner::Ordering::name_checks))]
 fn order_names(book: ReadableBook<'_>, wanted: Wanted, lent: usize) -> Result<Direction, Refusal>
     ensures direction { IfOk result (λ direction. direction_number direction ≡ wanted.direction) }
-    ensures checked { NameChecked book.entry.words.now wanted.unit wanted.direction wanted.period wanted.price.0 wanted.quantity.0 lent (refusal_of result) }
+    ensures checked { NameChecked book.entry.words.now wanted.unit wanted.direction wanted.period wanted.price.0 wanted.quantity.0
+        lent (refusal_of result) }
 {
     if !unit_known(book, wanted.unit) {
         return Err(Refusal::UnknownName);
@@ -68,85 +73,68 @@ fn order_names(book: ReadableBook<'_>, wanted: Wanted, lent: usize) -> Result<Di
     if !wanted.quantity.can_be_declared() {
         return Err(Refusal::BadEnergy);
     }
-    if 24 * book.words[DAYS] <= wanted.period {
+    if !Term(book.words[DAYS]).has(wanted.period) {
         return Err(Refusal::BadPeriod);
     }
+    // `or` was tried in place of `let .. else`: a search does not find its proof, which would be longer
     let Ok(direction) = Direction::try_from(wanted.direction) else {
         return Err(Refusal::WrongParty);
     };
     Ok(direction)
 }
 
-// Whether the order at place k is the unit's and of the period.
-fn of_unit_at(book: ReadableBook<'_>, unit: u64, period: u64, k: usize) -> bool
+// Whether the order at place k is of the same unit and period.
+fn of_unit_at(book: ReadableBook<'_>, wanted: Wanted, k: usize) -> bool
     requires { k < word book.words.now ORDERS }
-    ensures { cond result 1 0 ≡ of_unit_at book.entry.words.now unit period k }
+    ensures { cond result 1 0 ≡ of_unit_at book.entry.words.now wanted.unit wanted.period k }
 {
     let at = ORDER_TABLE + ORDER_WORDS * k;
-    book.words[at + UNIT] == unit && book.words[at + PERIOD] == period
+    book.words[at + UNIT] == wanted.unit && book.words[at + PERIOD] == wanted.period
 }
 
 // Whether it goes the other way too.
-fn against_at(
-    book: ReadableBook<'_>,
-    unit: u64,
-    direction: Direction,
-    period: u64,
-    k: usize,
-) -> bool
+fn against_at(book: ReadableBook<'_>, wanted: Wanted, k: usize) -> bool
     requires { k < word book.words.now ORDERS }
-    ensures { cond result 1 0 ≡ against_at book.entry.words.now unit (direction_number direction) period k }
+    ensures { cond result 1 0 ≡ against_at book.entry.words.now wanted.unit wanted.direction wanted.period k }
 {
     let at = ORDER_TABLE + ORDER_WORDS * k;
-    book.words[at + DIRECTION] != u64::from(direction) && of_unit_at(book, unit, period, k)
+    book.words[at + DIRECTION] != wanted.direction && of_unit_at(book, wanted, k)
 }
 
-// How many open orders a unit has in a period, and how many of these go the other way.
+// How many open orders a unit has in a period, and whether one of these goes the other way.
 #[derive(Clone, Copy)]
 struct Seen {
     stand: u64,
-    against: u64,
+    against: bool,
 }
 
-fn unit_orders(book: ReadableBook<'_>, unit: u64, direction: Direction, period: u64) -> Seen
-    ensures { (result.stand ≡ sum (word book.entry.words.now ORDERS) (of_unit_at book.entry.words.now unit period))
-        × (result.against ≡ sum (word book.entry.words.now ORDERS) (against_at book.entry.words.now unit (direction_number direction) period)) }
+fn unit_orders(book: ReadableBook<'_>, wanted: Wanted) -> Seen
+    ensures { (result.stand ≡ sum (word book.entry.words.now ORDERS) (of_unit_at book.entry.words.now wanted.unit wanted.period))
+        × (result.against ≡ nat_lt 0 (sum (word book.entry.words.now ORDERS)
+        (against_at book.entry.words.now wanted.unit wanted.direction wanted.period))) }
 {
     let n = book.words[ORDERS] as usize;
     let mut stand: u64 = 0;
-    let mut against: u64 = 0;
+    let mut against = false;
     for k in 0..n {
-        stand += u64::from(of_unit_at(book, unit, period, k));
-        against += u64::from(against_at(book, unit, direction, period, k));
+        stand += u64::from(of_unit_at(book, wanted, k));
+        against |= against_at(book, wanted, k);
     }
     Seen { stand, against }
 }
 
-// How many open orders count against two: none in the rolling phase.
-fn counted(book: ReadableBook<'_>, stand: u64) -> u64
-    ensures { result ≡ (if nat_eq (word book.entry.words.now PHASE) 0 then stand else 0) }
+// Whether two of a unit stand open already, in the call phase.
+fn two_open(book: ReadableBook<'_>, stand: u64) -> bool
+    ensures { result ≡ (nat_eq (word book.entry.words.now PHASE) 0 && nat_le 2 stand) }
 {
-    if book.words[PHASE] != Phase::Call as u64 {
-        return 0;
-    }
-    stand
-}
-
-// Whether today's mark has the other direction.
-fn marked_against(direction: Direction, mark: u64) -> bool
-    ensures { result ≡ marked_against (direction_number direction) mark }
-{
-    if mark == BOTH_WAYS {
-        return true;
-    }
-    mark == mark_of(direction.opposite())
+    book.words[PHASE] == Phase::Call as u64 && 1 < stand
 }
 
 // Whether 256 orders stand open and this one, or some of it, would wait. Its number is not given yet; matching does not ask
 // for it.
 fn lacks_place(book: ReadableBook<'_>, wanted: Wanted) -> bool
-    ensures { result ≡ (orders_full (decode book.entry.words.now) (new_order (decode book.entry.words.now) wanted.unit wanted.direction wanted.period
-        wanted.price.0 wanted.quantity.0)).applies }
+    ensures { result ≡ (orders_full (decode book.entry.words.now) (new_order (decode book.entry.words.now) wanted.unit wanted.direction
+        wanted.period wanted.price.0 wanted.quantity.0)).applies }
 {
     if book.words[ORDERS] < Order::MOST {
         return false;
@@ -160,26 +148,25 @@ fn lacks_place(book: ReadableBook<'_>, wanted: Wanted) -> bool
     left != Energy(0)
 }
 
-// The checks of the day and the tables.
+// The checks of the day and the tables. The direction that was read stands beside what was asked for here and in `order_fit`
+// alone.
 fn order_days(book: ReadableBook<'_>, wanted: Wanted, direction: Direction) -> Result<(), Refusal>
     requires { (1 ≤ wanted.unit) × (wanted.unit ≤ word book.words.now UNITS) × (direction_number direction ≡ wanted.direction)
         × (wanted.period < 24 * word book.words.now DAYS) }
-    ensures { refusal_of result ≡ first_refusal (day_checks (decode book.entry.words.now) wanted.unit wanted.direction wanted.period wanted.price.0
-        wanted.quantity.0) }
+    ensures { refusal_of result ≡ first_refusal (day_checks (decode book.entry.words.now) wanted.unit wanted.direction wanted.period
+        wanted.price.0 wanted.quantity.0) }
 {
-    let seen = unit_orders(book, wanted.unit, direction, wanted.period);
-    if 0 < seen.against {
+    let seen = unit_orders(book, wanted);
+    if seen.against {
         return Err(Refusal::OtherDirection);
     }
     let p = wanted.period as usize;
     let k = wanted.unit as usize - 1;
-    let at = FIGURES + DAY_WORDS * (p / HOURS) + BLOCK * k + p % HOURS;
-    let mark = book.words[at + MARK];
-    if marked_against(direction, mark) {
+    let mark = figures_at(book.words, k, p).mark;
+    if mark.is_against(direction) {
         return Err(Refusal::OtherDirection);
     }
-    let two = counted(book, seen.stand);
-    if 1 < two {
+    if two_open(book, seen.stand) {
         return Err(Refusal::TwoOpen);
     }
     if lacks_place(book, wanted) {
@@ -194,8 +181,10 @@ fn order_days(book: ReadableBook<'_>, wanted: Wanted, direction: Direction) -> R
 // The checks of the limits: the quantity stands alone in its period, raising or lowering.
 #[tactic(auto, using(crate::proofs::Laws::Answer::MadeLaws::sound_readable))]
 fn order_fit(book: SoundBook<'_>, wanted: Wanted, direction: Direction) -> Result<(), Refusal>
-    requires { (direction_number direction ≡ wanted.direction) × (Named book.words.now wanted.unit wanted.direction wanted.period wanted.quantity.0) }
-    ensures { refusal_of result ≡ first_refusal (order_fit_checks (decode book.entry.words.now) wanted.unit wanted.direction wanted.period wanted.quantity.0) }
+    requires { (direction_number direction ≡ wanted.direction)
+        × (Named book.words.now wanted.unit wanted.direction wanted.period wanted.quantity.0) }
+    ensures { refusal_of result ≡ first_refusal (order_fit_checks (decode book.entry.words.now) wanted.unit wanted.direction wanted.period
+        wanted.quantity.0) }
 {
     let mut declared = Amounts {
         raising: [0; 744],
@@ -211,8 +200,8 @@ fn order_fit(book: SoundBook<'_>, wanted: Wanted, direction: Direction) -> Resul
 
 // The checks of an order behind that of soundness.
 pub(crate) fn order_checks(book: SoundBook<'_>, wanted: Wanted, lent: usize) -> Result<(), Refusal>
-    ensures { refusal_of result ≡ first_refusal (order_checks (decode book.entry.words.now) wanted.unit wanted.direction wanted.period wanted.price.0
-        wanted.quantity.0 lent) }
+    ensures { refusal_of result ≡ first_refusal (order_checks (decode book.entry.words.now) wanted.unit wanted.direction wanted.period
+        wanted.price.0 wanted.quantity.0 lent) }
 {
     let readable = ReadableBook { words: book.words };
     let direction = order_names(readable, wanted, lent)?;
@@ -237,27 +226,28 @@ fn append(book: &mut [u64], o: Order)
     book[ORDERS] = n + 1;
 }
 
-// One number more is given.
-fn next_number(book: &mut [u64])
-    requires { (amounts_start ≤ length book.old) × (word book.old GIVEN < 65535) }
+// The next number is given: the order has it already.
+fn give_number(book: &mut [u64], number: u64)
+    requires { (amounts_start ≤ length book.old) × (number ≡ word book.old GIVEN + 1) }
     ensures { (decode book.new ≡ numbered (decode book.old))
         × (Aside book.old book.new) }
 {
-    let given = book[GIVEN];
-    book[GIVEN] = given + 1;
+    book[GIVEN] = number;
 }
 
 // "Call phase: it only waits."
-pub(crate) fn order_in_call(book: &mut [u64], wanted: Wanted)
+pub(crate) fn order_in_call(book: &mut [u64], wanted: Wanted) -> Done
     requires { (sound_in book.old ≡ true) × (word book.old ORDERS < 256) × (word book.old GIVEN < 65535) }
-    ensures { (decode book.new ≡ (ordered_in_call (decode book.old)
+    ensures done { (result.number ≡ word book.old GIVEN + 1) × (result.count ≡ 0) }
+    ensures book { (decode book.new ≡ (ordered_in_call (decode book.old)
         (new_order (decode book.old) wanted.unit wanted.direction wanted.period wanted.price.0 wanted.quantity.0)).book)
         × (Aside book.old book.new) }
 {
     let number = book[GIVEN] + 1;
     let o = wanted.numbered(number);
     append(book, o);
-    next_number(book);
+    give_number(book, number);
+    Done { number, count: 0 }
 }
 
 // An order meets those that stand open.
@@ -286,17 +276,21 @@ fn rest_waits(book: &mut [u64], o: Order, left: Energy)
 }
 
 // "Rolling phase: it meets opposite orders of its period"
-pub(crate) fn order_in_rolling(book: &mut [u64], wanted: Wanted, rows: &mut [u64]) -> usize
+pub(crate) fn order_in_rolling(book: &mut [u64], wanted: Wanted, rows: &mut [u64]) -> Done
     requires { (sound_in book.old ≡ true) × (0 ≡ first_refusal (order_checks (decode book.old) wanted.unit wanted.direction wanted.period
         wanted.price.0 wanted.quantity.0 (length rows.old))) }
-    ensures { RolledOn book.old rows.old wanted.unit wanted.direction wanted.period wanted.price.0
-        wanted.quantity.0 result book.new rows.new }
+    ensures number { result.number ≡ word book.old GIVEN + 1 }
+    ensures rolled { RolledOn book.old rows.old wanted.unit wanted.direction wanted.period wanted.price.0
+        wanted.quantity.0 result.count book.new rows.new }
 {
     let number = book[GIVEN] + 1;
     let o = wanted.numbered(number);
     let met = meet_orders(book, o, rows);
     rest_waits(book, o, met.left);
     book_rows(book, rows, met.count);
-    next_number(book);
-    met.count
+    give_number(book, number);
+    Done {
+        number,
+        count: met.count,
+    }
 }

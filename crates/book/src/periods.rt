@@ -10,6 +10,7 @@ ghost use Rattle.book.specs.Inner.Periods.{Swept, AllCleared};
 use crate::lent::ReadableBook;
 use crate::phase::Phase;
 use crate::places::{AMOUNTS, DAYS, ORDER_TABLE, ORDERS, PHASE, ROOM_FOR_ROWS};
+use crate::trades::book_rows;
 use matching::periods::clear_periods;
 use measures::Refusal;
 
@@ -27,7 +28,8 @@ pub(crate) fn clear_checks(book: ReadableBook<'_>, lent: usize) -> Result<(), Re
     Ok(())
 }
 
-// Clears the book's orders, and counts those that stand.
+// Clears the book's orders and counts those that stand; how many rows there are. That 4,464 words of rows are lent stays a
+// clause: an array cut off the lent rows would have to be joined with the rest of them in each contract.
 fn sweep(book: &mut [u64], rows: &mut [u64]) -> usize
     requires { (sound_in book.old ≡ true) × (4464 ≤ length rows.old) }
     ensures { Swept book.old rows.old result book.new rows.new }
@@ -47,7 +49,7 @@ pub(crate) fn clear_effect(book: &mut [u64], rows: &mut [u64]) -> usize
     ensures { AllCleared book.old rows.old result book.new rows.new }
 {
     let count = sweep(book, rows);
-    crate::trades::book_rows(book, rows, count);
+    book_rows(book, rows, count);
     book[PHASE] = Phase::Rolling as u64;
     count
 }

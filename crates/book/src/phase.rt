@@ -3,7 +3,8 @@ ghost use Rattle.book.specs.Inner.Phases.{PhaseOf};
 
 use measures::Refusal;
 
-// In the call phase orders wait; a clear begins the rolling phase. In memory these are 0 and 1.
+// In the call phase orders wait; a clear begins the rolling phase. In memory these are 0 and 1. A phase is compared as the word that
+// it is in memory, and held by no one: read as the enum first, it would be tested twice.
 #[derive(Clone, Copy, Debug, PartialEq, Eq)]
 pub(crate) enum Phase {
     Call = 0,

@@ -1,5 +1,7 @@
 // Where memory holds a book. Each place is written here and in specs/Layout.antt, and nowhere else, but for the words of an order, which
-// matching has as `Order::WORDS` and those below it. Records in words of lent memory are walked by their number: they are no items of a slice.
+// matching has. Records in words of lent memory are walked by their number: they are no items of a slice. A sum of these places is
+// written where it is used: a function for each would have a contract that says the same sum.
+use matching::orders::Order;
 
 // The book's own words.
 pub const DAYS: usize = 0;
@@ -32,28 +34,28 @@ pub const CAPACITY: usize = 1;
 
 pub const ASSET: usize = 2;
 
-// Offers and orders, of which each begins with its number.
+// Offers and orders, of which each begins with its number; the unit and the price stand at one place in both.
 pub const OFFER_TABLE: usize = 1_344;
 
 pub const OFFER_WORDS: usize = 8;
 
-pub const ORDER_TABLE: usize = 1_536;
-
-pub const ORDER_WORDS: usize = 6;
-
-pub const UNIT: usize = 1;
+pub const UNIT: usize = Order::UNIT;
 
 pub const PARTNER: usize = 2;
 
 pub const TAKEN: usize = 3;
 
-pub const DIRECTION: usize = 2;
+pub const PRICE: usize = Order::PRICE;
 
-pub const PERIOD: usize = 3;
+pub const ORDER_TABLE: usize = 1_536;
 
-pub const PRICE: usize = 4;
+pub const ORDER_WORDS: usize = Order::WORDS;
 
-pub const QUANTITY: usize = 5;
+pub const DIRECTION: usize = Order::DIRECTION;
+
+pub const PERIOD: usize = Order::PERIOD;
+
+pub const QUANTITY: usize = Order::QUANTITY;
 
 // Amounts of offers, by period.
 pub const AMOUNTS: usize = 3_072;

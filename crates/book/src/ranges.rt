@@ -6,11 +6,12 @@ ghost use Rattle.measures.specs.Sharing.{total};
 ghost use Rattle.limits.specs.Units.{periods, generator};
 ghost use Rattle.matching.specs.Memory.{direction_number, order_at};
 ghost use Rattle.book.specs.Book.{known, unit_of};
-ghost use Rattle.book.specs.Sound.{head_in, offer_in, order_in};
+ghost use Rattle.book.specs.Sound.{prices_in, head_in, offer_in, order_in};
 ghost use Rattle.book.specs.Layout.{DAYS, unit_place, CAPACITY, ASSET, FLOOR, CEILING, GIVEN, UNITS, word, amount_at, offer_at, orders_part, decode};
 ghost use Rattle.book.specs.Inner.Readable.{unit_fields_in, units_fields_in, sides_in};
 
 use crate::lent::ReadableBook;
+use crate::offering::Offer;
 use crate::phase::Phase;
 use crate::places::{
     AMOUNT_WORDS, AMOUNTS, ASSET, CAPACITY, CEILING, DAYS, DIRECTION, FLOOR, GIVEN, HOURS,
@@ -20,37 +21,6 @@ use crate::places::{
 use limits::{Kind, Term, Unit};
 use matching::orders::{Direction, Order};
 use measures::{Energy, Price, capped_total};
-
-// An open offer; its amounts stand by period.
-#[derive(Clone, Copy)]
-pub struct Offer {
-    pub number: u64,
-    pub unit: u64,
-    pub partner: u64,
-    pub price: Price,
-    pub taken: u64,
-}
-
-impl Offer {
-    // How many stand open at most.
-    pub const MOST: u64 = 8;
-
-    // The numbers of a day, of offers and orders in one series.
-    pub const NUMBERS: u64 = 65_535;
-
-    // An offer of which nothing is taken.
-    pub fn fresh(number: u64, unit: u64, partner: u64, price: Price) -> Offer
-        ensures { (result.number ≡ number) × (result.unit ≡ unit) × (result.partner ≡ partner) × (result.price.0 ≡ price.0) × (result.taken ≡ 0) }
-    {
-        Offer {
-            number,
-            unit,
-            partner,
-            price,
-            taken: 0,
-        }
-    }
-}
 
 // Whether each of the first n numbers passes a test: `(0..n).all(test)`, of which the proof was tried and did not close.
 pub(crate) fn every<F: Fn(usize) -> bool>(n: usize, test: F) -> bool
@@ -65,7 +35,8 @@ pub(crate) fn every<F: Fn(usize) -> bool>(n: usize, test: F) -> bool
     true
 }
 
-// Whether a number is that of an enrolled unit.
+// Whether a number is that of an enrolled unit. It is handed on as it is: rows, orders and definitions name a unit by it, not by
+// its place.
 pub(crate) fn unit_known(book: ReadableBook<'_>, unit: u64) -> bool
     ensures { result ≡ known (decode book.entry.words.now) unit }
 {
@@ -86,6 +57,13 @@ fn number_given(book: ReadableBook<'_>, number: u64) -> bool
     (1..=book.words[GIVEN]).contains(&number)
 }
 
+// Whether a floor is not above its ceiling, and this in its range.
+pub(crate) fn prices_in_range(floor: Price, ceiling: Price) -> bool
+    ensures { result ≡ prices_in floor.0 ceiling.0 }
+{
+    floor <= ceiling && ceiling.in_range()
+}
+
 // The book's own figures.
 pub(crate) fn head_in(book: &[u64]) -> bool
     requires { 8 ≤ length book.now }
@@ -94,11 +72,7 @@ pub(crate) fn head_in(book: &[u64]) -> bool
     if !Term(book[DAYS]).in_range() {
         return false;
     }
-    let ceiling = Price(book[CEILING]);
-    if ceiling < Price(book[FLOOR]) {
-        return false;
-    }
-    if !ceiling.in_range() {
+    if !prices_in_range(Price(book[FLOOR]), Price(book[CEILING])) {
         return false;
     }
     if Phase::try_from(book[PHASE]).is_err() {
@@ -126,11 +100,11 @@ pub(crate) fn unit_at(book: ReadableBook<'_>, k: usize) -> Unit
         × (result.asset.0 ≡ word book.entry.words.now (unit_place k + ASSET)) }
 {
     let at = UNIT_TABLE + UNIT_WORDS * k;
-    Unit::fresh(
-        book.words[at],
-        book.words[at + CAPACITY],
-        Energy(book.words[at + ASSET]),
-    )
+    Unit {
+        kind: book.words[at],
+        capacity: book.words[at + CAPACITY],
+        asset: Energy(book.words[at + ASSET]),
+    }
 }
 
 // The kind, capacity and asset of the unit at place k.
@@ -164,10 +138,7 @@ pub(crate) fn is_generator(book: ReadableBook<'_>, unit: u64) -> bool
     ensures { result ≡ generator (unit_of (decode book.entry.words.now) unit).kind }
 {
     let kind = book.words[UNIT_TABLE + UNIT_WORDS * (unit as usize - 1)];
-    match Kind::try_from(kind) {
-        Ok(kind) => kind.is_generator(),
-        Err(_) => false,
-    }
+    Kind::try_from(kind).is_ok_and(Kind::is_generator)
 }
 
 // The direction that raises a unit's net: a generator sells, a load buys.
@@ -248,7 +219,7 @@ fn order_in(book: ReadableBook<'_>, k: usize) -> bool
     if Direction::try_from(book.words[at + DIRECTION]).is_err() {
         return false;
     }
-    if 24 * book.words[DAYS] <= book.words[at + PERIOD] {
+    if !Term(book.words[DAYS]).has(book.words[at + PERIOD]) {
         return false;
     }
     if !price_in(book, Price(book.words[at + PRICE])) {

@@ -6,12 +6,12 @@ ghost use Rattle.book.specs.Contract.{sound_in};
 ghost use Rattle.book.specs.Inner.Readable.{units_whole, pairs_fit};
 ghost use Rattle.book.specs.Inner.Fitting.{Below};
 
-use crate::lent::{RangedBook, ReadableBook, SoundBook};
+use crate::lent::{ChainedBook, RangedBook, ReadableBook, SoundBook};
 use crate::numbers::numbers_differ;
 use crate::pairs::orders_fit;
 use crate::places::{DAY_WORDS, DAYS, FIGURES, LAYOUT, LAYOUT_NUMBER, ORDERS};
 use crate::ranges::{head_in, offers_in, orders_in, units_in};
-use crate::standing::{Chains, Links, link_orders};
+use crate::standing::{Links, link_orders};
 use crate::whole::units_fit;
 use measures::Refusal;
 
@@ -30,7 +30,12 @@ fn linked_fit(book: RangedBook<'_>, last: &mut [u64], firsts: &mut [u64]) -> boo
         last: firsts,
         before: &peers,
     };
-    if !orders_fit(book, Chains { days, periods }) {
+    let chained = ChainedBook {
+        words: book.words,
+        days,
+        periods,
+    };
+    if !orders_fit(chained) {
         return false;
     }
     units_fit(book, days)
@@ -47,15 +52,15 @@ fn linked_fit_in<const LAST: usize, const FIRSTS: usize>(book: RangedBook<'_>) -
     linked_fit(book, &mut last, &mut firsts)
 }
 
-// The same: without orders nothing is linked, and a week asks for small tables.
+// The same: without orders nothing is linked, and a week asks for small tables. With the large ones alone, a check of a day's book with 64
+// orders took 1.83 µs in place of 1.08 and missed its bar of 1.6 times the second engine.
 fn open_fit(book: RangedBook<'_>) -> bool
     ensures { result ≡ (pairs_fit (word book.entry.words.now PHASE) (decode book.entry.words.now).orders && units_whole (decode book.entry.words.now)) }
 {
     if book.words[ORDERS] == 0 {
-        let none = [0u64; 1];
         let unlinked = Links {
-            last: &none,
-            before: &none,
+            last: &[],
+            before: &[],
         };
         return units_fit(book, unlinked);
     }
@@ -66,7 +71,7 @@ fn open_fit(book: RangedBook<'_>) -> bool
 }
 
 // Whether the memory is long enough and holds a sound book.
-pub fn sound_book(book: &[u64]) -> bool
+fn sound_book(book: &[u64]) -> bool
     ensures { result ≡ sound_in book.now }
 {
     if book.len() < FIGURES {

@@ -4,9 +4,11 @@ ghost use Rattle.measures.specs.Ranges.{most_energy, most_number};
 ghost use Rattle.matching.specs.Memory.{direction_number, row_words, as_row, row_at};
 ghost use Rattle.book.specs.Book.{unit_of};
 ghost use Rattle.book.specs.Trades.{raises, mark_with, mark_after};
+ghost use Rattle.book.specs.Refusals.{marked_against};
 ghost use Rattle.book.specs.Layout.{DAYS, UNITS, figure_place, VOLUME, word, figures_at, decode};
 ghost use Rattle.book.specs.Inner.Readable.{Readable};
-ghost use Rattle.book.specs.Inner.RowsIn.{as_figures, Small, SmallAt, FiguresPut, Traded, RowTraded, RowFits, RowsFit, small_figures, RowsTraded};
+ghost use Rattle.book.specs.Inner.RowsIn.{as_figures, figures_from, Small, SmallAt, FiguresPut, Traded};
+ghost use Rattle.book.specs.Inner.RowsIn.{RowTraded, RowFits, RowsFit, small_figures, RowsTraded};
 
 use crate::lent::ReadableBook;
 use crate::places::{
@@ -24,46 +26,63 @@ pub(crate) fn raises_net(book: ReadableBook<'_>, unit: u64, direction: Direction
     direction == raising_direction(book, unit)
 }
 
-// The mark of trades both ways. A mark is a word of memory, in which any number may stand.
-pub(crate) const BOTH_WAYS: u64 = 3;
+// Today's trades of a unit in a period: none, sold, bought or both; a word of memory, in which any number may stand.
+#[derive(Clone, Copy, PartialEq, Eq)]
+pub(crate) struct Mark(pub u64);
 
-// The mark of trades in one direction: 1 sold, 2 bought.
-pub(crate) fn mark_of(direction: Direction) -> u64
-    ensures { result ≡ direction_number direction + 1 }
-{
-    u64::from(direction) + 1
+impl Mark {
+    const NONE: Mark = Mark(0);
+
+    pub(crate) const BOTH: Mark = Mark(3);
+
+    // Trades in one direction: 1 sold, 2 bought.
+    fn of(direction: Direction) -> Mark
+        ensures { result.0 ≡ direction_number direction + 1 }
+    {
+        Mark(u64::from(direction) + 1)
+    }
+
+    // With one direction more.
+    fn with(self, direction: Direction) -> Mark
+        ensures { result.0 ≡ mark_with (direction_number direction) self.0 }
+    {
+        if self == Mark::NONE {
+            return Mark::of(direction);
+        }
+        if self == Mark::of(direction.opposite()) {
+            return Mark::BOTH;
+        }
+        self
+    }
+
+    // After a trade.
+    fn after(self, way: u64, direction: Direction) -> Mark
+        ensures { result.0 ≡ mark_after way (direction_number direction) self.0 }
+    {
+        if way < Way::Clear as u64 {
+            return self;
+        }
+        self.with(direction)
+    }
+
+    // Whether it has the other direction.
+    pub(crate) fn is_against(self, direction: Direction) -> bool
+        ensures { result ≡ marked_against (direction_number direction) self.0 }
+    {
+        if self == Mark::BOTH {
+            return true;
+        }
+        self == Mark::of(direction.opposite())
+    }
 }
 
-// A mark with one direction more.
-fn mark_with(direction: Direction, mark: u64) -> u64
-    ensures { result ≡ mark_with (direction_number direction) mark }
-{
-    if mark == 0 {
-        return mark_of(direction);
-    }
-    if mark == mark_of(direction.opposite()) {
-        return BOTH_WAYS;
-    }
-    mark
-}
-
-// Today's mark of a unit after a trade.
-fn mark_after(way: u64, direction: Direction, mark: u64) -> u64
-    ensures { result ≡ mark_after way (direction_number direction) mark }
-{
-    if way < Way::Clear as u64 {
-        return mark;
-    }
-    mark_with(direction, mark)
-}
-
-// The figures of a unit in a period. The mark stays a word of memory, in which any number may stand.
+// The figures of a unit in a period.
 #[derive(Clone, Copy)]
 pub(crate) struct Figures {
     pub held: Energy,
     pub raised: Energy,
     pub lowered: Energy,
-    pub mark: u64,
+    pub mark: Mark,
     pub volume: Energy,
 }
 
@@ -76,27 +95,38 @@ impl Figures {
         whole.minus(self.lowered)
     }
 
-    // The figures after a trade that raises or lowers, with a new mark.
-    fn traded(self, raises: bool, quantity: Energy, mark: u64) -> Figures
-        ensures { (result.raised.0 ≡ (if raises then min (self.raised.0 + quantity.0) most_number else self.raised.0))
-            × (result.lowered.0 ≡ (if raises then self.lowered.0 else min (self.lowered.0 + quantity.0) most_number))
-            × (result.volume.0 ≡ min (self.volume.0 + quantity.0) most_number) × (result.mark ≡ mark) }
+    // With more raised. It and `lowered_by` are mirror images: one function of both would take a flag to choose between them.
+    fn raised_by(self, quantity: Energy) -> Figures
+        ensures { (result.raised.0 ≡ min (self.raised.0 + quantity.0) most_number) × (result.lowered.0 ≡ self.lowered.0) }
     {
-        let volume = self.volume.plus(quantity);
-        if raises {
-            return Figures {
-                raised: self.raised.plus(quantity),
-                mark,
-                volume,
-                ..self
-            };
-        }
         Figures {
-            lowered: self.lowered.plus(quantity),
-            mark,
-            volume,
+            raised: self.raised.plus(quantity),
             ..self
         }
+    }
+
+    // With more lowered.
+    fn lowered_by(self, quantity: Energy) -> Figures
+        ensures { (result.raised.0 ≡ self.raised.0) × (result.lowered.0 ≡ min (self.lowered.0 + quantity.0) most_number) }
+    {
+        Figures {
+            lowered: self.lowered.plus(quantity),
+            ..self
+        }
+    }
+}
+
+// The figures that begin at a place.
+pub(crate) fn figures_from(book: &[u64], at: usize) -> Figures
+    requires { at + VOLUME < length book.now }
+    ensures { as_figures result ≡ figures_from book.now at }
+{
+    Figures {
+        held: Energy(book[at]),
+        raised: Energy(book[at + RAISED]),
+        lowered: Energy(book[at + LOWERED]),
+        mark: Mark(book[at + MARK]),
+        volume: Energy(book[at + VOLUME]),
     }
 }
 
@@ -106,25 +136,19 @@ pub(crate) fn figures_at(book: &[u64], k: usize, p: usize) -> Figures
     ensures { as_figures result ≡ figures_at book.now k p }
 {
     let at = FIGURES + DAY_WORDS * (p / HOURS) + BLOCK * k + p % HOURS;
-    Figures {
-        held: Energy(book[at]),
-        raised: Energy(book[at + RAISED]),
-        lowered: Energy(book[at + LOWERED]),
-        mark: book[at + MARK],
-        volume: Energy(book[at + VOLUME]),
-    }
+    figures_from(book, at)
 }
 
 // New figures of the unit at place k in period p; what it holds stays.
 fn put_figures(book: &mut [u64], k: usize, p: usize, figures: Figures)
     requires { (figure_place k p + VOLUME < length book.old) × (k < 64) × (p < 744) }
     ensures { FiguresPut book.old book.new k p figures.raised.0 figures.lowered.0 figures.volume.0
-        figures.mark }
+        figures.mark.0 }
 {
     let at = FIGURES + DAY_WORDS * (p / HOURS) + BLOCK * k + p % HOURS;
     book[at + RAISED] = figures.raised.0;
     book[at + LOWERED] = figures.lowered.0;
-    book[at + MARK] = figures.mark;
+    book[at + MARK] = figures.mark.0;
     book[at + VOLUME] = figures.volume.0;
 }
 
@@ -136,10 +160,20 @@ fn book_trade(book: &mut [u64], row: Row, direction: Direction, unit: u64)
 {
     let k = unit as usize - 1;
     let p = row.period as usize;
-    let figures = figures_at(book, k, p);
-    let raises = raises_net(ReadableBook { words: book }, unit, direction);
-    let mark = mark_after(row.way, direction, figures.mark);
-    put_figures(book, k, p, figures.traded(raises, row.quantity, mark));
+    let before = figures_at(book, k, p);
+    let figures = if raises_net(ReadableBook { words: book }, unit, direction) {
+        before.raised_by(row.quantity)
+    } else {
+        before.lowered_by(row.quantity)
+    };
+    let mark = before.mark.after(row.way, direction);
+    let volume = before.volume.plus(row.quantity);
+    let after = Figures {
+        mark,
+        volume,
+        ..figures
+    };
+    put_figures(book, k, p, after);
 }
 
 // The row at place i of the lent rows.

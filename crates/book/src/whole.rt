@@ -3,87 +3,76 @@ ghost use Rattle.std.specs.Prelude.{◌≡◌, ℕ, ◌+◌, ◌<◌, false};
 ghost use Rattle.book.specs.Layout.{DAYS, UNITS, OFFERS, word, decode};
 ghost use Rattle.book.specs.Inner.Readable.{units_whole};
 ghost use Rattle.book.specs.Inner.Fitting.{unit_holds};
-ghost use Rattle.book.specs.Inner.Pass.{UnitPass, HourTable};
+ghost use Rattle.book.specs.Inner.Pass.{UnitPass};
 ghost use Rattle.book.specs.Inner.Whole.{DayLinks, open_up, open_down, OffersOther, DayPass};
 
 use crate::fits::sums_came;
-use crate::lent::{RangedBook, ReadableBook};
-use crate::pass::{Amounts, Sums, all_days, day_sums, hour_limits};
-use crate::places::{BLOCK, DAY_WORDS, DAYS, FIGURES, UNITS};
-use crate::ranges::{every, unit_at};
-use crate::standing::{Links, day_open, gather_day, has_offer};
-use crate::trades::BOTH_WAYS;
+use crate::lent::RangedBook;
+use crate::pass::{Amounts, Sums, UnitAt, all_days, day_sums, hour_limits};
+use crate::places::{DAYS, UNITS};
+use crate::ranges::every;
+use crate::standing::{LinkedUnit, Links, day_open, gather_day, has_offer};
+use crate::trades::Mark;
 
-// Day d of the unit at place k, with what it has open.
-fn full_day(book: RangedBook<'_>, k: usize, d: usize, limits: &[u64; 24], days: Links<'_>) -> Sums
-    requires { (k < word book.words.now UNITS) × (d < word book.words.now DAYS) × (HourTable book.words.now k limits.now)
-        × (DayLinks book.words.now days) }
-    ensures { DayPass book.entry.words.now k d limits.now result.bad result.marks result.whole result.volume }
+// A unit's day d, with what it has open.
+fn full_day(unit: LinkedUnit<'_>, d: usize) -> Sums
+    requires { d < word unit.at.book.words.now DAYS }
+    ensures { DayPass unit.entry.at.book.words.now unit.entry.at.place d unit.entry.at.limits.now result }
 {
     let mut amounts = Amounts {
         raising: [0; 24],
         lowering: [0; 24],
     };
-    gather_day(book, k, d, days, &mut amounts);
-    let at = FIGURES + DAY_WORDS * d + BLOCK * k;
-    day_sums(book.words, at, limits, |h| {
-        (amounts.raising[h], amounts.lowering[h])
-    })
+    gather_day(unit, d, &mut amounts);
+    day_sums(unit.at, d, |h| amounts.at(h))
 }
 
 // The same, where a day with nothing open is passed without tables.
-fn whole_day(
-    book: RangedBook<'_>,
-    k: usize,
-    d: usize,
-    offered: bool,
-    limits: &[u64; 24],
-    days: Links<'_>,
-) -> Sums
-    requires { (k < word book.words.now UNITS) × (d < word book.words.now DAYS) × (HourTable book.words.now k limits.now)
-        × (DayLinks book.words.now days) × (offered ≡ false → OffersOther book.words.now (k + 1) (word book.words.now OFFERS)) }
-    ensures { DayPass book.entry.words.now k d limits.now result.bad result.marks result.whole result.volume }
+fn whole_day(unit: LinkedUnit<'_>, d: usize, offered: bool) -> Sums
+    requires { (d < word unit.at.book.words.now DAYS)
+        × (offered ≡ false → OffersOther unit.at.book.words.now (unit.at.place + 1) (word unit.at.book.words.now OFFERS)) }
+    ensures { DayPass unit.entry.at.book.words.now unit.entry.at.place d unit.entry.at.limits.now result }
 {
-    if day_open(book, k, d, offered, days) {
-        return full_day(book, k, d, limits, days);
+    if offered || day_open(unit, d) {
+        return full_day(unit, d);
     }
-    let at = FIGURES + DAY_WORDS * d + BLOCK * k;
-    day_sums(book.words, at, limits, |_| (0, 0))
+    day_sums(unit.at, d, |_| (0, 0))
 }
 
-// All days of the unit at place k.
-fn whole_unit(book: RangedBook<'_>, k: usize, limits: &[u64; 24], days: Links<'_>) -> Sums
-    requires { (k < word book.words.now UNITS) × (HourTable book.words.now k limits.now)
-        × (DayLinks book.words.now days) }
-    ensures { UnitPass book.entry.words.now k (open_up book.entry.words.now k) (open_down book.entry.words.now k) result.bad result.marks result.whole
-        result.volume }
+// All days of a unit.
+fn whole_unit(unit: LinkedUnit<'_>) -> Sums
+    ensures { UnitPass unit.entry.at.book.words.now unit.entry.at.place (open_up unit.entry.at.book.words.now unit.entry.at.place)
+        (open_down unit.entry.at.book.words.now unit.entry.at.place) result }
 {
-    let offered = has_offer(book, k as u64 + 1);
-    all_days(book.words[DAYS] as usize, |d| {
-        whole_day(book, k, d, offered, limits, days)
+    let offered = has_offer(unit.at.book, unit.at.number());
+    all_days(unit.at.book.words[DAYS] as usize, |d| {
+        whole_day(unit, d, offered)
     })
 }
 
-// Whether the unit at place k fits, by what the pass over its periods came to.
-fn sums_fit(book: RangedBook<'_>, k: usize, s: Sums) -> bool
-    requires { k < word book.words.now UNITS }
-    ensures { (x y : ℕ → ℕ) → UnitPass book.entry.words.now k x y s.bad s.marks s.whole s.volume
-        → result ≡ unit_holds book.entry.words.now k x y }
+// Whether a unit fits, by what the pass over its periods came to.
+fn sums_fit(unit: UnitAt<'_>, s: Sums) -> bool
+    ensures { (x y : ℕ → ℕ) → UnitPass unit.entry.book.words.now unit.entry.place x y s
+        → result ≡ unit_holds unit.entry.book.words.now unit.entry.place x y }
 {
-    if BOTH_WAYS < s.marks {
+    if Mark::BOTH.0 < s.marks {
         return false;
     }
-    sums_came(book, k, s).is_ok()
+    sums_came(unit, s).is_ok()
 }
 
 // Whether the unit at place k fits with what it has open.
-fn unit_fits(book: RangedBook<'_>, k: usize, days: Links<'_>) -> bool
+fn unit_fits<'a>(book: RangedBook<'a>, k: usize, days: Links<'a>) -> bool
     requires { (k < word book.words.now UNITS) × (DayLinks book.words.now days) }
     ensures { result ≡ unit_holds book.entry.words.now k (open_up book.entry.words.now k) (open_down book.entry.words.now k) }
 {
-    let limits = hour_limits(unit_at(ReadableBook { words: book.words }, k));
-    let s = whole_unit(book, k, &limits, days);
-    sums_fit(book, k, s)
+    let limits = hour_limits(book, k);
+    let at = UnitAt {
+        book,
+        place: k,
+        limits: &limits,
+    };
+    sums_fit(at, whole_unit(LinkedUnit { at, days }))
 }
 
 // Whether all units do, where the orders are linked by unit and day.

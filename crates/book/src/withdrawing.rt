@@ -16,7 +16,8 @@ use crate::ranges::unit_known;
 use crate::words::shift;
 use measures::Refusal;
 
-// The checks of a withdraw behind that of soundness; where none applies, the place of the offer.
+// The checks of a withdraw behind that of soundness; where none applies, the place of the offer. One search of an own record for
+// this and a cancel was tried: with its proofs it was longer.
 #[tactic(auto, using(crate::proofs::Laws::Memory::RangeFacts::held, crate::proofs::Laws::Answer::MadeLaws::sound_readable), unfolding(crate::specs::Refusals::first_refusal))]
 pub(crate) fn withdraw_checks(book: SoundBook<'_>, unit: u64, number: u64) -> Result<usize, Refusal>
     ensures refusal { refusal_of result ≡ first_refusal (withdraw_checks (decode book.entry.words.now) unit number) }
@@ -38,7 +39,7 @@ pub(crate) fn withdraw_checks(book: SoundBook<'_>, unit: u64, number: u64) -> Re
     Ok(j)
 }
 
-// The open offer at place j goes.
+// The open offer at place j goes, out of the table of offers and out of that of their amounts.
 #[tactic(auto, using(crate::proofs::Laws::Answer::MadeLaws::sound_readable))]
 pub(crate) fn withdraw_effect(book: &mut [u64], j: usize)
     requires { (sound_in book.old ≡ true) × (j < word book.old OFFERS) }

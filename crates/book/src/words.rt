@@ -1,4 +1,4 @@
-// Runs of words of a book's memory.
+// Runs of words of a book's memory: methods of a slice, with what they leave said by a definition.
 ghost use Rattle.std.specs.Prelude.{◌+◌, ◌≤◌, length};
 ghost use Rattle.book.specs.Inner.Runs.{Emptied, Shifted};
 

@@ -1,10 +1,10 @@
 -- Laws of the limits, by cases, and their bounds.
 use Prim.Native.Nat.{ℕ, ◌*◌, ◌/◌, ◌^◌, ◌≤◌, ◌<◌, min}
-use mathlib.Core.Path.{◌≡◌}
+use mathlib.Core.Path.{◌≡◌, sym}
 use mathlib.Core.Bool.{Bool, true, false, cond}
 use mathlib.Core.Logic.{◌⊎◌, inl, inr}
-use lib.Dec.{eqb, lit≤, lit<}
-use borrow.Author.Tests.{eq-eqb, ne_eqb, le-leb, lt-leb, lt-ltb, le-ltb}
+use lib.Dec.{eqb, ltb, lit≤, lit<}
+use borrow.Author.Tests.{eq-eqb, ne_eqb, le-leb, lt-leb, lt-ltb, le-ltb, ltb-true, ltb-false}
 use native.Mathlib.Nat.{mul-le-mul, lt_of_le_of_lt}
 use native.Mathlib.Omega.{arith}
 use Rattle.measures.specs.Ranges.{between, most_energy}
@@ -28,6 +28,14 @@ term-small c k d hc hk hd = mul-le-mul (mul-le-mul hc hk) hd
 
 pub term_fits_lem : (c k d : ℕ) → c ≤ most_capacity → k ≤ 24 → d ≤ most_days → c * k * d < 2 ^ 64
 term_fits_lem c k d hc hk hd = lt_of_le_of_lt (term-small c k d hc hk hd) (lit< tt)
+
+-- a day is of a term where its period is: both tests give the same
+day_test : (b : Bool) (p d : ℕ) → ltb (p / 24) d ≡ b → b ≡ ltb p (24 * d)
+day_test true p d e = let h = ltb-true _ _ e in sym (lt-ltb _ _ (omega arith))
+day_test false p d e = let h = ltb-false _ _ e in sym (le-ltb _ _ (omega arith))
+
+pub period_divided : (p d : ℕ) → ltb (p / 24) d ≡ ltb p (24 * d)
+period_divided p d = day_test _ p d refl
 
 -- a choice of two numbers that are at most n
 cond_le : (b : Bool) (x y n : ℕ) → x ≤ n → y ≤ n → cond b x y ≤ n

@@ -4,7 +4,7 @@
 ghost use Rattle.std.specs.Prelude.{◌≡◌, ◌≤◌, IfOk};
 ghost use Rattle.measures.specs.Ranges.{most_energy};
 ghost use Rattle.measures.specs.Refused.{refusal_of};
-ghost use Rattle.limits.specs.Units.{most_capacity, most_days, days_in, generator};
+ghost use Rattle.limits.specs.Units.{most_capacity, most_days, days_in, period_in, generator};
 ghost use Rattle.limits.specs.Kinds.{kind_number, KindOf, unit_refusal};
 ghost use Rattle.limits.specs.Answers.{answer_of};
 ghost use Rattle.limits.specs.Limits.{limits_at, hour_limit, term_limit, volume_limit};
@@ -42,6 +42,20 @@ impl Kind {
         ensures { result ≡ generator (kind_number self) }
     {
         matches!(self, Kind::Solar | Kind::Generator)
+    }
+
+    // The hour limit: a solar generator's is 0 outside hours 6 to 19.
+    #[tactic(auto, unfolding(crate::specs::Limits::hour_limit))]
+    pub fn hour_limit(self, capacity: u64, hour: u64) -> Energy
+        ensures { result.0 ≡ hour_limit (kind_number self) capacity hour }
+    {
+        match self {
+            Kind::Solar => match hour {
+                6..=19 => Energy(capacity),
+                _ => Energy(0),
+            },
+            _ => Energy(capacity),
+        }
     }
 
     // The term limit.
@@ -85,7 +99,7 @@ impl Unit {
     // The largest capacity, in kW.
     pub const MOST_CAPACITY: u64 = 5_000_000;
 
-    // A unit of these fields.
+    // A unit of these fields: a maker, as paper 01 names it.
     pub fn fresh(kind: u64, capacity: u64, asset: Energy) -> Unit
         ensures { (result.kind ≡ kind) × (result.capacity ≡ capacity) × (result.asset.0 ≡ asset.0) }
     {
@@ -108,17 +122,14 @@ impl Unit {
         Ok(kind)
     }
 
-    // The hour limit: a solar generator's is 0 outside hours 6 to 19.
+    // The hour limit, where its kind may be any number. No function here calls it: it is public, and promises what it promised.
     #[tactic(auto, unfolding(crate::specs::Limits::hour_limit))]
     pub fn hour_limit(self, hour: u64) -> Energy
         ensures { result.0 ≡ hour_limit self.kind self.capacity hour }
     {
         match Kind::try_from(self.kind) {
-            Ok(Kind::Solar) => match hour {
-                6..=19 => Energy(self.capacity),
-                _ => Energy(0),
-            },
-            _ => Energy(self.capacity),
+            Ok(kind) => kind.hour_limit(self.capacity, hour),
+            Err(_) => Energy(self.capacity),
         }
     }
 }
@@ -136,6 +147,13 @@ impl Term {
         ensures { result ≡ days_in self.0 }
     {
         (1..=Term::MOST).contains(&self.0)
+    }
+
+    // Whether a period is of the term. The period is divided, since 24 times any number of days could overflow.
+    pub fn has(self, period: u64) -> bool
+        ensures { result ≡ period_in self.0 period }
+    {
+        period / 24 < self.0
     }
 }
 
@@ -156,12 +174,12 @@ pub fn unit_limits(term: Term, unit: Unit, period: u64) -> Result<Limits, Refusa
         return Err(Refusal::BadOpening);
     }
     let kind = unit.checked()?;
-    if 24 * term.0 <= period {
+    if !term.has(period) {
         return Err(Refusal::BadPeriod);
     }
     let whole = kind.term_limit(unit.capacity, unit.asset, term.0);
     Ok(Limits {
-        hour: unit.hour_limit(period % 24),
+        hour: kind.hour_limit(unit.capacity, period % 24),
         term: whole,
         volume: kind.volume_limit(whole),
     })

@@ -1,37 +1,38 @@
 -- Laws of answering a line.
-use Prim.Native.Nat.{ℕ, ◌*◌, ◌/◌, ◌≤◌, ◌<◌}
+use Prim.Native.Nat.{ℕ, ◌*◌, ◌≤◌, ◌<◌}
 use mathlib.Core.Path.{◌≡◌, refl, sym, ap, ap₂, ◌∙◌}
-use mathlib.Core.Bool.{Bool, true, false, cond, not, ◌&&◌, ◌||◌}
+use mathlib.Core.Bool.{Bool, true, false, cond, not, ◌&&◌, ◌||◌, or-true, or-false}
 use mathlib.Core.List.{List, [], ◌∷◌, ◌++◌}
 use native.Mathlib.Omega.{arith}
 use native.Mathlib.Decide.{ℕ_discrete}
-use borrow.Author.Tests.{eq-eqb, ne_eqb, eqb-true, lt-ltb, le-ltb, le-leb}
-use lib.Dec.{eqb, leb}
+use borrow.Author.Tests.{eq-eqb, ne_eqb, eqb-true, lt-ltb, le-ltb, le-leb, ltb-true, ltb-false}
+use lib.Dec.{eqb, leb, ltb}
 use lib.ListN.{length, get_or, take, drop, length-append, length-take, length-drop}
 use lib.Seq.{take_all, get_or-take}
-use Rattle.std.specs.Prelude.{Option, Some, None}
-use Rattle.std.specs.Option.{option_eq}
-use Rattle.std.proofs.Math.Seq.{take-append_seam}
+use Rattle.std.specs.Prelude.{Option, Some, None, MatchOption}
 use Rattle.measures.proofs.ListLaws.{table-length, both_ways}
 use Rattle.matching.specs.Orders.{Row}
 use Rattle.matching.specs.Memory.{flat, written}
 use Rattle.matching.proofs.Laws.Orders.RowLaws.{flat-length, written_none}
 use Rattle.book.specs.Book.{Rules, rules_of, Book}
 use Rattle.book.specs.Refusals.{Outcome}
-use Rattle.std.proofs.Common.{Ok, Err}
+use Rattle.std.proofs.Common.{Ok, Err, IfOk, is_ok}
 use Rattle.measures.specs.declared.refusals.Refusal.{Refusal}
 use Rattle.measures.specs.Refused.{number_of}
 use Rattle.book.specs.declared.Done.{Done}
 use Rattle.book.specs.Layout.{DAYS, LAYOUT, layout_number, book_words, word, decode}
 use Rattle.book.specs.Opening.{fresh, opening_refusal}
-use Rattle.book.specs.Calls.{Call, call_enrol, call_offer, call_take, call_withdraw, call_order, call_cancel, call_clear, call_close, outcome}
+use Rattle.book.specs.Calls.{Call, call_enrol, call_offer, call_take, call_withdraw, call_order, call_cancel, outcome}
 use Rattle.book.specs.Contract.{Answer, Told, Made, Opened, outcome_on}
 use Rattle.book.proofs.Laws.Opening.OpeningLaws.{no_such_days}
 use Rattle.lines.specs.Lines.{Line, unknown, opening, calling, count_of, is_call, call_of, line_of, called}
 use Rattle.lines.specs.Printed.{printed_rows, printed_ok, printed_no}
-use Rattle.lines.specs.Inner.Puts.{rows_text, ok_text}
+use Rattle.lines.specs.Inner.Puts.{rows_text, ok_text, answer_text}
 use Rattle.lines.specs.Answers.{Stands, no_book, standing, refuses, accepts, is_enrol, given, opening_said, call_said, said_to, after, printed}
 use Rattle.lines.specs.Stepping.{one_day, stands_in, Answered}
+use Rattle.lines.specs.declared.answering.Letter.{Letter}
+use Rattle.lines.specs.declared.answering.Letter.TheVariants.{Open, Enrol, Offer, Take, Withdraw, Order, Cancel, Clear, Close}
+use Rattle.lines.specs.Inner.Letters.{byte_of, begins, beyond, MadeBy}
 use Rattle.lines.proofs.PuttingLaws.{rows_printed}
 use Rattle.book.proofs.Laws.Answer.RulesLaws.{rules_stay}
 
@@ -45,7 +46,7 @@ no_rows : (rows : List ℕ) (rs : List Row) → [] ≡ written [] rs → rows �
 unfolding written
 no_rows rows rs e = rw (flat_none rs (drop (6 * length rs) []) e) (written_none rows)
 
-pub made_beside : (m rows : List ℕ) (c : Call) (a : Answer) (m' : List ℕ) → Made m [] c a m' [] → Made m rows c a m' rows
+made_beside : (m rows : List ℕ) (c : Call) (a : Answer) (m' : List ℕ) → Made m [] c a m' [] → Made m rows c a m' rows
 made_beside m rows c a m' f =
     record {
       answer = f.answer;
@@ -57,7 +58,7 @@ made_beside m rows c a m' f =
     }
 
 -- as many rows as there is room for
-pub rows_fit : (rows : List ℕ) (rs : List Row) (rows' : List ℕ) → rows' ≡ written rows rs → length rows' ≡ length rows → 6 * length rs ≤ length rows
+rows_fit : (rows : List ℕ) (rs : List Row) (rows' : List ℕ) → rows' ≡ written rows rs → length rows' ≡ length rows → 6 * length rs ≤ length rows
 unfolding written
 rows_fit rows rs rows' e l =
     let a = ap length e in
@@ -130,15 +131,18 @@ module _ (said-by : Line) (l n : ℕ) (ns : List ℕ) (p : said-by ≡ called l 
   unfolding called
   right_count e = let k = taken_long in p ∙ rw (eq-eqb (length (take n ns)) (count_of l) (omega arith)) (line_kept l n ns e long)
 
--- a letter that begins a line, with as many numbers as it asks for
-asked_alike : (b : Bool) (k n : ℕ) → option_eq eqb (cond b (Some k) None) (Some n) ≡ (b && eqb k n)
-asked_alike true k n = refl
-asked_alike false k n = refl
-
-both_hold : (b e : Bool) → not (b && e) ≡ false → (b ≡ true) × (e ≡ true)
-both_hold true true h = (refl, refl)
-both_hold true false h = both_ways h
-both_hold false e h = both_ways h
+-- each letter begins a line
+letter_begins : (k : Letter) → begins (byte_of k) ≡ true
+unfolding is_call
+letter_begins Open = refl
+letter_begins Enrol = refl
+letter_begins Offer = refl
+letter_begins Take = refl
+letter_begins Withdraw = refl
+letter_begins Order = refl
+letter_begins Cancel = refl
+letter_begins Clear = refl
+letter_begins Close = refl
 
 not_begun : (o c t : Bool) (x y : Line) → (o || c) ≡ false → cond t (cond o x (cond c y unknown)) unknown ≡ unknown
 not_begun true c t x y h = both_ways h
@@ -146,81 +150,40 @@ not_begun false true t x y h = both_ways h
 not_begun false false true x y h = refl
 not_begun false false false x y h = refl
 
-module _ (said-by : Line) (l n : ℕ) (ns : List ℕ) (p : said-by ≡ called l (take n ns)) (up : n ≤ 27) (long : length ns ≡ 27)
-    (asked : Option ℕ) (a : asked ≡ cond (eqb l 79 || is_call l) (Some (count_of l)) None) (differs : Bool)
-    (d : differs ≡ not (option_eq eqb asked (Some n))) where
-  tested : differs ≡ not ((eqb l 79 || is_call l) && eqb (count_of l) n)
-  tested = d ∙ rw a (ap not (asked_alike (eqb l 79 || is_call l) (count_of l) n))
-
-  pub not_said : differs ≡ true → said-by ≡ unknown
+module _ (said-by : Line) (l n : ℕ) (ns : List ℕ) (p : said-by ≡ called l (take n ns)) (up : n ≤ 27) (long : length ns ≡ 27) where
+  not_said : (begins l && eqb (count_of l) n) ≡ false → said-by ≡ unknown
   unfolding called line_of
-  not_said h = go (eqb l 79 || is_call l) refl
+  not_said h = go (begins l) refl
     where
-      go : (b : Bool) → (eqb l 79 || is_call l) ≡ b → said-by ≡ unknown
-      go true q = wrong_count said-by l n ns p up long (λ e. both_ways (sym h ∙ tested ∙ rw (q, eq-eqb (count_of l) n (sym e)) refl))
+      go : (b : Bool) → begins l ≡ b → said-by ≡ unknown
+      go true q = wrong_count said-by l n ns p up long (λ e. both_ways (rw (q, eq-eqb (count_of l) n (sym e)) at h))
       go false q = p ∙ not_begun (eqb l 79) (is_call l) (eqb (length (take n ns)) (count_of l)) _ _ q
 
-  begins : differs ≡ false → ((eqb l 79 || is_call l) ≡ true) × (eqb (count_of l) n ≡ true)
-  begins h = both_hold (eqb l 79 || is_call l) (eqb (count_of l) n) (sym tested ∙ h)
+  -- a line says what its letter does, where as many numbers follow as it asks for
+  pub heard : (r : Option Letter) → MatchOption r ((begins l && eqb (count_of l) n) ≡ false) (λ k. (l ≡ byte_of k) × (count_of l ≡ n))
+      → MatchOption r (said-by ≡ unknown) (λ k. said-by ≡ line_of (byte_of k) ns)
+  heard None h = not_said h
+  heard (Some k) h = right_count said-by l n ns p up long (sym h.1) ∙ ap (λ (x : ℕ). line_of x ns) h.0
 
-  pub said_opening : differs ≡ false → l ≡ 79 → said-by ≡ opening (get_or ns 0 0) (get_or ns 1 0) (get_or ns 2 0)
-  unfolding line_of
-  said_opening h e = right_count said-by l n ns p up long (sym (eqb-true (count_of l) n (begins h).1)) ∙ rw (eq-eqb l 79 e) refl
+-- a letter makes its call, with the lent rows or beside them
+module _ (l : ℕ) (ns m rows : List ℕ) (a : Answer) (m' : List ℕ) (ne : l ≡ 79 → ⊥) where
+  pub by_call : (rows' : List ℕ) → Made m rows (call_of l ns) a m' rows' → MadeBy l ns m rows a m' rows'
+  by_call rows' f = record { opens = λ e. absurd (ne e); calls = λ h. f }
 
-  pub said_call : differs ≡ false → (l ≡ 79 → ⊥) → said-by ≡ calling (call_of l ns)
-  unfolding line_of
-  said_call h ne =
-      let c : is_call l ≡ true = rw (ne_eqb l 79 ne) at (begins h).0 in
-      right_count said-by l n ns p up long (sym (eqb-true (count_of l) n (begins h).1)) ∙ rw (ne_eqb l 79 ne, c) refl
-
--- which call a letter makes
-module _ (l : ℕ) (ns m rows : List ℕ) (a : Answer) (m' : List ℕ) where
-  pub made_enrol : l ≡ 69 → Made m [] (call_enrol (get_or ns 0 0) (get_or ns 1 0) (get_or ns 2 0)) a m' [] → Made m rows (call_of l ns) a m' rows
-  unfolding call_of
-  made_enrol e f = rw (eq-eqb l 69 e) (made_beside m rows _ a m' f)
-
-  pub made_offer : (amounts : List ℕ) → l ≡ 76 → amounts ≡ drop 3 ns → Made m [] (call_offer (get_or ns 0 0) (get_or ns 1 0) (get_or ns 2 0) amounts) a m' []
-      → Made m rows (call_of l ns) a m' rows
-  unfolding call_of
-  made_offer amounts e d f = rw e (made_beside m rows _ a m' (rw d at f))
-
-  pub made_withdraw : l ≡ 87 → Made m [] (call_withdraw (get_or ns 0 0) (get_or ns 1 0)) a m' [] → Made m rows (call_of l ns) a m' rows
-  unfolding call_of
-  made_withdraw e f = rw e (made_beside m rows _ a m' f)
-
-  pub made_cancel : l ≡ 88 → Made m [] (call_cancel (get_or ns 0 0) (get_or ns 1 0)) a m' [] → Made m rows (call_of l ns) a m' rows
-  unfolding call_of
-  made_cancel e f = rw e (made_beside m rows _ a m' f)
-
-  pub made_close : (l ≡ 69 → ⊥) → (l ≡ 76 → ⊥) → (l ≡ 84 → ⊥) → (l ≡ 87 → ⊥) → (l ≡ 82 → ⊥) → (l ≡ 88 → ⊥) → (l ≡ 67 → ⊥)
-      → Made m [] call_close a m' [] → Made m rows (call_of l ns) a m' rows
-  unfolding call_of
-  made_close e₁ e₂ e₃ e₄ e₅ e₆ e₇ f =
-      rw (ne_eqb l 69 e₁, ne_eqb l 76 e₂, ne_eqb l 84 e₃, ne_eqb l 87 e₄, ne_eqb l 82 e₅, ne_eqb l 88 e₆, ne_eqb l 67 e₇)
-      (made_beside m rows call_close a m' f)
-
-  module _ (rows' : List ℕ) (lent : length rows ≡ 4_464) where
-    pub made_take : l ≡ 84 → Made m rows (call_take (get_or ns 0 0) (get_or ns 1 0) (get_or ns 2 0) (length rows)) a m' rows'
-        → Made m rows (call_of l ns) a m' rows'
-    unfolding call_of
-    made_take e f = rw e (rw lent at f)
-
-    pub made_order : l ≡ 82 → Made m rows (call_order (get_or ns 0 0) (get_or ns 1 0) (get_or ns 2 0) (get_or ns 3 0) (get_or ns 4 0) (length rows)) a m' rows'
-        → Made m rows (call_of l ns) a m' rows'
-    unfolding call_of
-    made_order e f = rw e (rw lent at f)
-
-    pub made_clear : l ≡ 67 → Made m rows (call_clear (length rows)) a m' rows' → Made m rows (call_of l ns) a m' rows'
-    unfolding call_of
-    made_clear e f = rw e (rw lent at f)
+  pub by_call-beside : Made m [] (call_of l ns) a m' [] → MadeBy l ns m rows a m' rows
+  by_call-beside f = by_call rows (made_beside m rows (call_of l ns) a m' f)
 
 -- an enrol when 8 units stand
 units_counted : (m : List ℕ) → length (decode m).units ≡ get_or m 5 0
 unfolding decode
 units_counted m = table-length (get_or m 5 0) _
 
-pub beyond_enrol : (l : ℕ) (m : List ℕ) → l ≡ 69 → leb 8 (get_or m 5 0) ≡ (eqb l 69 && leb 8 (length (decode m).units))
-beyond_enrol l m e = rw (eq-eqb l 69 e, units_counted m)
+pub beyond_opening : (k : Letter) (ns m : List ℕ) (started : Bool) → k ≡ Open → ltb 1 (get_or ns 0 0) ≡ beyond (byte_of k) ns started m
+beyond_opening k ns m started e = rw e refl
+
+pub beyond_enrol : (k : Letter) (ns m : List ℕ) (started : Bool) → k ≡ Enrol → (started && one_day m) ≡ true
+    → leb 8 (get_or m 5 0) ≡ beyond (byte_of k) ns started m
+beyond_enrol k ns m started e h = rw (e, h, units_counted m) refl
 
 other_call : (t : Bool) (x y : Call) → is_enrol x ≡ false → is_enrol y ≡ false → is_enrol (cond t x y) ≡ false
 other_call true x y h k = h
@@ -242,7 +205,7 @@ enrol_letter l ns =
     (other_call (eqb l 67) _ _ refl refl))))))
 
 -- which book stands
-pub no-book : (started : Bool) (m : List ℕ) → (started && one_day m) ≡ false → stands_in started m ≡ no_book
+no-book : (started : Bool) (m : List ℕ) → (started && one_day m) ≡ false → stands_in started m ≡ no_book
 unfolding stands_in
 no-book started m e = rw e
 
@@ -255,16 +218,13 @@ pub layout_decides : (started : Bool) (m : List ℕ) → started ≡ true → eq
     → eqb (word m LAYOUT) layout_number ≡ (started && one_day m)
 layout_decides started m s d = rw (s, d) refl
 
-pub has_started : (started : Bool) (m : List ℕ) → (started && one_day m) ≡ true → started ≡ true
-has_started started m e = (both_true started (one_day m) e).0
-
 one_days : (m : List ℕ) → one_day m ≡ true → word m DAYS ≡ 1
 one_days m e = eqb-true (word m DAYS) 1 (both_true (eqb (word m DAYS) 1) (eqb (word m LAYOUT) layout_number) e).0
 
 one_layout : (m : List ℕ) → one_day m ≡ true → word m LAYOUT ≡ layout_number
 one_layout m e = eqb-true (word m LAYOUT) layout_number (both_true (eqb (word m DAYS) 1) (eqb (word m LAYOUT) layout_number) e).1
 
-pub a-book : (m : List ℕ) → one_day m ≡ true → stands_in true m ≡ standing (decode m)
+a-book : (m : List ℕ) → one_day m ≡ true → stands_in true m ≡ standing (decode m)
 unfolding stands_in
 a-book m e = rw e
 
@@ -284,7 +244,7 @@ module _ (s : Stands) where
   unfolding said_to
   unknown_down line e = rw e
 
-  pub days_down : (days floor ceiling : ℕ) → 1 < days → said_to s (opening days floor ceiling) ≡ refuses 0
+  days_down : (days floor ceiling : ℕ) → 1 < days → said_to s (opening days floor ceiling) ≡ refuses 0
   unfolding said_to opening_said
   days_down days floor ceiling h = rw (lt-ltb 1 days h)
 
@@ -299,23 +259,23 @@ module _ (s : Stands) where
     unfolding said_to opening_said
     opening_accepts e = rw (le-ltb 1 days up) (rw (eq-eqb (opening_refusal (book_words 1) (rules_of days floor ceiling)) 0 e))
 
-pub early_down : (s : Stands) (line : Line) (c : Call) → s ≡ no_book → line ≡ calling c → said_to s line ≡ refuses 0
+early_down : (s : Stands) (line : Line) (c : Call) → s ≡ no_book → line ≡ calling c → said_to s line ≡ refuses 0
 unfolding said_to call_said
 early_down s line c n e = rw (n, e)
 
 module _ (m : List ℕ) (day : one_day m ≡ true) (l : ℕ) (ns : List ℕ) where
-  pub beyond_down : (eqb l 69 && leb 8 (length (decode m).units)) ≡ true → said_to (stands_in true m) (calling (call_of l ns)) ≡ refuses 0
+  beyond_down : (eqb l 69 && leb 8 (length (decode m).units)) ≡ true → said_to (stands_in true m) (calling (call_of l ns)) ≡ refuses 0
   unfolding said_to call_said
   beyond_down h = rw (a-book m day) (rw (enrol_letter l ns, h))
 
-  pub within_taken : (eqb l 69 && leb 8 (length (decode m).units)) ≡ false
+  within_taken : (eqb l 69 && leb 8 (length (decode m).units)) ≡ false
       → said_to (stands_in true m) (calling (call_of l ns)) ≡ given (outcome (decode m) (call_of l ns))
   unfolding said_to call_said
   within_taken h = rw (a-book m day) (rw (enrol_letter l ns, h))
 
 -- the answer's promise, for `no` and for `ok`
 module _ (started : Bool) (m : List ℕ) (line : Line) (started' : Bool) (m' text : List ℕ) where
-  pub answered-no : (r : ℕ) → said_to (stands_in started m) line ≡ refuses r → started' ≡ started → m' ≡ m → text ≡ printed_no r
+  answered-no : (r : ℕ) → said_to (stands_in started m) line ≡ refuses r → started' ≡ started → m' ≡ m → text ≡ printed_no r
       → Answered started m line started' m' text
   unfolding printed after
   answered-no r e s k t =
@@ -348,12 +308,9 @@ unfolding given
 given-ok o e = rw (eq-eqb o.refusal 0 e)
 
 -- rows in memory print as the outcome's rows
-ok_rows : (n k : ℕ) (rows ws : List ℕ) (rs : List Row) → k ≡ length rs → ws ≡ written rows rs → ok_text n (length (take (6 * k) ws) / 6) (take (6 * k) ws) ≡ printed_ok n rs
+ok_rows : (n k : ℕ) (rows ws : List ℕ) (rs : List Row) → k ≡ length rs → ws ≡ written rows rs → ok_text n k ws ≡ printed_ok n rs
 unfolding ok_text printed_ok written
-ok_rows n k rows ws rs e w =
-    let t : take (6 * k) ws ≡ flat rs = rw (e, w, ← flat-length rs) (take-append_seam (flat rs) (drop (length (flat rs)) rows)) in
-    let q : length (flat rs) / 6 ≡ length rs = omega (arith, flat-length rs) in
-    rw (t, q, rows_printed rs)
+ok_rows n k rows ws rs e w = rw (w, e, rows_printed rs (drop (6 * length rs) rows))
 
 -- memory of one day is laid out for its book
 on_book : (m : List ℕ) (c : Call) → one_day m ≡ true → length m ≡ book_words 1 → outcome_on m c ≡ outcome (decode m) c
@@ -378,11 +335,19 @@ module _ (m rows : List ℕ) (c : Call) (a : Answer) (m' rows' : List ℕ) (f : 
     told_count : d.count ≡ length (outcome_on m c).rows
     told_count = ap (λ (t : Told). t.count) (rw e at f.answer)
 
-    pub room : length rows ≡ 4_464 → length rows' ≡ length rows → 6 * d.count ≤ 4_464
+    room : length rows ≡ 4_464 → length rows' ≡ length rows → 6 * d.count ≤ length rows'
     room long same =
         let t = told_count in
         let w = rows_fit rows (outcome_on m c).rows rows' (f.handed told_ok) same in
         omega arith
+
+  -- the rows that are counted stand in the lent memory
+  call_counts : length rows ≡ 4_464 → length rows' ≡ length rows → IfOk a (λ d. 6 * d.count ≤ length rows')
+  call_counts long same = go a refl
+    where
+      go : (x : Answer) → a ≡ x → IfOk x (λ d. 6 * d.count ≤ length rows')
+      go (Ok d) e = room d e long same
+      go (Err r) e = tt
 
   module _ (day : one_day m ≡ true) (long : length m ≡ book_words 1) (s : said_to (stands_in true m) (calling c) ≡ given (outcome (decode m) c)) where
     said_on : said_to (stands_in true m) (calling c) ≡ given (outcome_on m c)
@@ -392,20 +357,26 @@ module _ (m rows : List ℕ) (c : Call) (a : Answer) (m' rows' : List ℕ) (f : 
     after_day = ap (λ (o : Outcome). o.book.rules.days) (on_book m c day long) ∙ ap (λ (r : Rules). r.days) (rules_stay (decode m) c)
         ∙ sym (days_held m) ∙ one_days m day
 
-    pub call_no : (r : Refusal) (text : List ℕ) → a ≡ Err r → text ≡ printed_no (number_of r) → Answered true m (calling c) true m' text
+    call_no : (r : Refusal) (text : List ℕ) → a ≡ Err r → text ≡ printed_no (number_of r) → Answered true m (calling c) true m' text
     call_no r text e t =
         answered-no true m (calling c) true m' text (outcome_on m c).refusal (said_on ∙ given-no (outcome_on m c) (told_nonzero r e)) refl
         (f.refused (told_nonzero r e)).0 (t ∙ ap printed_no (told_no r e))
 
-    pub call_ok : (d : Done) (text : List ℕ) → a ≡ Ok d
-        → text ≡ ok_text d.number (length (take (6 * d.count) rows') / 6) (take (6 * d.count) rows')
-        → Answered true m (calling c) true m' text
+    call_ok : (d : Done) (text : List ℕ) → a ≡ Ok d → text ≡ ok_text d.number d.count rows' → Answered true m (calling c) true m' text
     call_ok d text e t =
         let y = told_ok d e in
         let rs = (outcome_on m c).rows in
         answered-ok true m (calling c) true m' text (outcome_on m c).number rs (outcome_on m c).book (said_on ∙ given-ok (outcome_on m c) y)
         (book_held m' (outcome_on m c).book (f.accepted y) after_day (f.aside.layout ∙ one_layout m day))
         (t ∙ ok_rows d.number d.count rows rows' rs (told_count d e) (f.handed y) ∙ ap (λ (x : ℕ). printed_ok x rs) (told_number d e))
+
+    call_answered : (text : List ℕ) → text ≡ answer_text a rows' → Answered true m (calling c) true m' text
+    unfolding answer_text
+    call_answered text t = go a refl
+      where
+        go : (x : Answer) → a ≡ x → Answered true m (calling c) true m' text
+        go (Ok d) e = call_ok d text e (rw e at t)
+        go (Err r) e = call_no r text e (rw e at t)
 
 -- an accepted opening is of one day
 one_day_lem : (days floor ceiling : ℕ) → days ≤ 1 → opening_refusal (book_words 1) (rules_of days floor ceiling) ≡ 0 → days ≡ 1
@@ -423,7 +394,7 @@ module _ (started : Bool) (m : List ℕ) (days floor ceiling : ℕ) (a : Answer)
   same_refusal : opening_refusal (length m) (rules_of days floor ceiling) ≡ refusal
   same_refusal = ap (λ (k : ℕ). opening_refusal k (rules_of days floor ceiling)) long
 
-  pub opening_no : (r : Refusal) (text : List ℕ) → a ≡ Err r → text ≡ printed_no (number_of r) → Answered started m (opening days floor ceiling) started m' text
+  opening_no : (r : Refusal) (text : List ℕ) → a ≡ Err r → text ≡ printed_no (number_of r) → Answered started m (opening days floor ceiling) started m' text
   opening_no r text e t =
       let q : number_of r ≡ refusal = ap (λ (t : Told). t.refusal) (rw e at f.answer) ∙ same_refusal in
       let done_if : refusal ≡ 0 → false ≡ true = λ z.
@@ -432,22 +403,104 @@ module _ (started : Bool) (m : List ℕ) (days floor ceiling : ℕ) (a : Answer)
       answered-no started m (opening days floor ceiling) started m' text refusal
       (opening_refuses (stands_in started m) days floor ceiling up ne) refl (f.refused (λ z. ne (sym same_refusal ∙ z))) (t ∙ ap printed_no q)
 
-  pub opening_ok : (d : Done) (text : List ℕ) → a ≡ Ok d → text ≡ ok_text d.number 0 [] → Answered started m (opening days floor ceiling) true m' text
-  unfolding ok_text rows_text printed_ok printed_rows
-  opening_ok d text e t =
-      let z : opening_refusal (length m) (rules_of days floor ceiling) ≡ 0 = sym (ap (λ (t : Told). t.refusal) (rw e at f.answer)) in
-      let y : refusal ≡ 0 = sym same_refusal ∙ z in
-      let n₀ : d.number ≡ 0 = ap (λ (t : Told). t.number) (rw e at f.answer) in
-      answered-ok started m (opening days floor ceiling) true m' text 0 [] (fresh (rules_of days floor ceiling))
-      (opening_accepts (stands_in started m) days floor ceiling up y)
-      (book_held m' (fresh (rules_of days floor ceiling)) (f.accepted z) (one_day_lem days floor ceiling up y) (f.laid z))
-      (t ∙ ap (λ (x : ℕ). printed_ok x []) n₀)
+  module _ (d : Done) (e : a ≡ Ok d) where
+    opening_done : opening_refusal (length m) (rules_of days floor ceiling) ≡ 0
+    opening_done = sym (ap (λ (t : Told). t.refusal) (rw e at f.answer))
+
+    opening_count : d.count ≡ 0
+    opening_count = ap (λ (t : Told). t.count) (rw e at f.answer)
+
+    opening_ok : (ws text : List ℕ) → text ≡ ok_text d.number d.count ws → Answered started m (opening days floor ceiling) true m' text
+    unfolding ok_text rows_text printed_ok printed_rows
+    opening_ok ws text t =
+        let z = opening_done in
+        let y : refusal ≡ 0 = sym same_refusal ∙ z in
+        let n₀ : d.number ≡ 0 = ap (λ (t : Told). t.number) (rw e at f.answer) in
+        answered-ok started m (opening days floor ceiling) true m' text 0 [] (fresh (rules_of days floor ceiling))
+        (opening_accepts (stands_in started m) days floor ceiling up y)
+        (book_held m' (fresh (rules_of days floor ceiling)) (f.accepted z) (one_day_lem days floor ceiling up y) (f.laid z))
+        (rw (opening_count, n₀) at t)
+
+  opening_counts : (room : ℕ) → IfOk a (λ d. 6 * d.count ≤ room)
+  opening_counts room = go a refl
+    where
+      go : (x : Answer) → a ≡ x → IfOk x (λ d. 6 * d.count ≤ room)
+      go (Ok d) e = let k = opening_count d e in omega arith
+      go (Err r) e = tt
+
+  opening_answered : (ws : List ℕ) (started' : Bool) (text : List ℕ) → started' ≡ (started || is_ok a) → text ≡ answer_text a ws
+      → Answered started m (opening days floor ceiling) started' m' text
+  unfolding answer_text
+  opening_answered ws started' text s t = go a refl
+    where
+      go : (x : Answer) → a ≡ x → Answered started m (opening days floor ceiling) started' m' text
+      go (Ok d) e = rw (s, e, or-true started) (opening_ok d e ws text (rw e at t))
+      go (Err r) e = rw (s, e, or-false started) (opening_no r text e (rw e at t))
 
 -- the amounts behind the first three numbers
 pub amounts_behind : (ns : List ℕ) → length ns ≡ 27 → take 24 (drop 3 ns) ≡ drop 3 ns
 amounts_behind ns e = take_all 24 (drop 3 ns) (omega (arith, length-drop 3 ns))
 
--- the same line, said otherwise
-pub answered_as : (started known : Bool) (m : List ℕ) (line same : Line) (started' : Bool) (m' text : List ℕ)
-    → started ≡ known → line ≡ same → Answered known m same started' m' text → Answered started m line started' m' text
-answered_as started known m line same started' m' text s e f = rw (s, e) f
+-- what a line with a letter is answered
+module _ (line : Line) (k : Letter) (ns : List ℕ) (p : line ≡ line_of (byte_of k) ns) (started : Bool) (m : List ℕ) where
+  abbrev letter : ℕ
+  letter = byte_of k
+
+  abbrev opens : Line
+  opens = opening (get_or ns 0 0) (get_or ns 1 0) (get_or ns 2 0)
+
+  line_opens : letter ≡ 79 → line ≡ opens
+  unfolding line_of
+  line_opens e = p ∙ rw e refl
+
+  line_calls : (letter ≡ 79 → ⊥) → line ≡ calling (call_of letter ns)
+  unfolding line_of
+  line_calls ne =
+      let c : is_call letter ≡ true = rw (ne_eqb letter 79 ne) at (letter_begins k) in
+      p ∙ rw (ne_eqb letter 79 ne, c) refl
+
+  pub nothing_made : beyond letter ns started m ≡ true → said_to (stands_in started m) line ≡ refuses 0
+  nothing_made h = go (ℕ_discrete letter 79)
+    where
+      called_down : (t : Bool) → (letter ≡ 79 → ⊥) → (started && one_day m) ≡ t
+          → (not t || (eqb letter 69 && leb 8 (length (decode m).units))) ≡ true
+          → said_to (stands_in started m) line ≡ refuses 0
+      called_down false ne s h = early_down _ line (call_of letter ns) (no-book started m s) (line_calls ne)
+      called_down true ne s h =
+          let b = both_true started (one_day m) s in
+          rw (line_calls ne, b.0) (beyond_down m b.1 letter ns h)
+
+      go : Dec (letter ≡ 79) → said_to (stands_in started m) line ≡ refuses 0
+      go (yes e) = rw (line_opens e) (days_down (stands_in started m) _ _ _ (ltb-true _ _ (rw e at h)))
+      go (no ne) = called_down (started && one_day m) ne refl (rw (ne_eqb letter 79 ne) at h)
+
+  module _ (rows : List ℕ) (a : Answer) (m' rows' : List ℕ) (f : MadeBy letter ns m rows a m' rows') (within : beyond letter ns started m ≡ false)
+      (lent : length rows ≡ 4_464) (back : length rows' ≡ 4_464) (long : length m ≡ book_words 1) where
+    few_days : letter ≡ 79 → get_or ns 0 0 ≤ 1
+    few_days e = ltb-false _ _ (rw e at within)
+
+    a_day : (letter ≡ 79 → ⊥) → ((started && one_day m) ≡ true) × ((eqb letter 69 && leb 8 (length (decode m).units)) ≡ false)
+    a_day ne = go (started && one_day m) (eqb letter 69 && leb 8 (length (decode m).units)) (rw (ne_eqb letter 79 ne) at within)
+      where
+        go : (t b : Bool) → (not t || b) ≡ false → (t ≡ true) × (b ≡ false)
+        go true b h = (refl, h)
+        go false b h = both_ways h
+
+    pub rows_within : IfOk a (λ d. 6 * d.count ≤ length rows')
+    rows_within = go (ℕ_discrete letter 79)
+      where
+        go : Dec (letter ≡ 79) → IfOk a (λ d. 6 * d.count ≤ length rows')
+        go (yes e) = opening_counts started m _ _ _ a m' (f.opens e) (few_days e) long (length rows')
+        go (no ne) = call_counts m rows (call_of letter ns) a m' rows' (f.calls ne) lent (omega arith)
+
+    pub line_answered : (started' : Bool) (text : List ℕ) → started' ≡ (started || is_ok a) → text ≡ answer_text a rows'
+        → Answered started m line started' m' text
+    line_answered started' text s t = go (ℕ_discrete letter 79)
+      where
+        go : Dec (letter ≡ 79) → Answered started m line started' m' text
+        go (yes e) = rw (line_opens e) (opening_answered started m _ _ _ a m' (f.opens e) (few_days e) long rows' started' text s t)
+        go (no ne) =
+            let d = a_day ne in
+            let b = both_true started (one_day m) d.0 in
+            let w = within_taken m b.1 letter ns d.1 in
+            rw (line_calls ne, s, b.0) (call_answered m rows (call_of letter ns) a m' rows' (f.calls ne) b.1 long w text t)

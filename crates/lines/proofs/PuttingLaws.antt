@@ -1,18 +1,19 @@
 -- Laws of printed text.
-use Prim.Native.Nat.{ℕ, zero, suc, ◌+◌, ◌-◌, ◌^◌, ◌≤◌, ◌<◌}
+use Prim.Native.Nat.{ℕ, zero, suc, ◌+◌, ◌-◌, ◌*◌, ◌/◌, ◌^◌, ◌≤◌, ◌<◌}
 use mathlib.Core.Path.{◌≡◌, refl, sym, ap, ◌∙◌}
 use mathlib.Core.List.{List, [], ◌∷◌, ◌++◌, append_assoc, append-nil}
 use native.Mathlib.Omega.{arith}
 use native.Mathlib.Numerals.{add-one}
 use borrow.Author.Tests.{lt-ltb, le-ltb}
-use lib.ListN.{length, get_or, take, drop, length-drop}
+use lib.ListN.{length, get_or, take, drop, length-take, length-drop}
 use lib.Seq.{take-suc, take_all}
 use Rattle.std.specs.Fmt as kit
 use Rattle.std.specs.Simd.{first_chunks}
+use Rattle.std.proofs.lemmas.List.{take-take, drop-take}
 use Rattle.std.proofs.lemmas.Fmt.{AppendsLastDigit, decimal_from_appends, length-decimal-le}
 use Rattle.matching.specs.Orders.{Row}
 use Rattle.matching.specs.Memory.{flat_row, flat}
-use Rattle.lines.specs.Printed.{digits, decimal, spaced, printed_row, printed_rows, printed_no}
+use Rattle.lines.specs.Printed.{digits, decimal, spaced, printed_row, printed_rows}
 use Rattle.lines.specs.Inner.Puts.{row_text, rows_text, ok_text}
 
 -- a number's digits are those that the kit writes
@@ -95,19 +96,30 @@ pub joined_all : (o : List ℕ) (rs : List (List ℕ)) (o' ws : List ℕ) (k i :
 joined_all o rs o' ws k i e h f = f ∙ ap (λ (x : List ℕ). o ++ x) (ap joined (take_all i rs h ∙ e) ∙ chunks_joined k ws)
 
 -- rows in memory print as rows
-pub rows_printed : (rs : List Row) → rows_text (length rs) (flat rs) ≡ printed_rows rs
+pub rows_printed : (rs : List Row) (d : List ℕ) → rows_text (length rs) (flat rs ++ d) ≡ printed_rows rs
 unfolding row_text rows_text flat printed_rows printed_row
-rows_printed [] = refl
-rows_printed (r ∷ rs) = ap (λ (x : List ℕ). (116 ∷ (spaced (flat_row r) ++ (10 ∷ []))) ++ x) (rows_printed rs)
+rows_printed [] d = refl
+rows_printed (r ∷ rs) d = ap (λ (x : List ℕ). (116 ∷ (spaced (flat_row r) ++ (10 ∷ []))) ++ x) (rows_printed rs d)
 
--- `no` and a refusal; `ok`, a number and rows
-pub no_printed : (o o₁ o₂ o₃ : List ℕ) (n : ℕ) → o ≡ [] → o₁ ≡ o ++ (110 ∷ 111 ∷ [])
-    → o₂ ≡ o₁ ++ spaced (n ∷ []) → o₃ ≡ o₂ ++ (10 ∷ []) → o₃ ≡ printed_no n
-unfolding printed_no
-no_printed o o₁ o₂ o₃ n z e f g = g ∙ rw (f, e, z)
+-- the first k rows of memory, printed out of the words of k rows
+first_rows : (k : ℕ) (ws : List ℕ) → rows_text k (take (6 * k) ws) ≡ rows_text k ws
+unfolding rows_text
+first_rows zero ws = refl
+first_rows (suc k) ws =
+    let e : 6 * suc k ≡ 6 + 6 * k = omega arith in
+    rw (e, take-take 6 (6 + 6 * k) ws (omega arith), drop-take 6 (6 * k) ws) (ap (λ (x : List ℕ). row_text (take 6 ws) ++ x) (first_rows k (drop 6 ws)))
 
-pub ok_printed : (o o₁ o₂ o₃ o₄ ws : List ℕ) (n k : ℕ) → o ≡ [] → o₁ ≡ o ++ (111 ∷ 107 ∷ []) → o₂ ≡ o₁ ++ spaced (n ∷ []) → o₃ ≡ o₂ ++ (10 ∷ [])
-    → o₄ ≡ o₃ ++ rows_text k ws → o₄ ≡ ok_text n k ws
+pub rows_counted : (n k : ℕ) (ws : List ℕ) → 6 * k ≤ length ws → ok_text n (length (take (6 * k) ws) / 6) (take (6 * k) ws) ≡ ok_text n k ws
 unfolding ok_text
-ok_printed o o₁ o₂ o₃ o₄ ws n k z e f g h =
-    h ∙ rw (g, f, e, z) (ap (λ (x : List ℕ). 111 ∷ 107 ∷ x) (append_assoc (spaced (n ∷ [])) (10 ∷ []) (rows_text k ws)))
+rows_counted n k ws h =
+    let q : length (take (6 * k) ws) / 6 ≡ k = omega (arith, length-take (6 * k) ws) in
+    rw q (ap (λ (x : List ℕ). 111 ∷ 107 ∷ (spaced (n ∷ []) ++ (10 ∷ x))) (first_rows k ws))
+
+-- a word, a number and the line end; with `ok`, rows behind them
+pub head_printed : (o o₁ o₂ o₃ word : List ℕ) (n : ℕ) → o ≡ [] → o₁ ≡ o ++ word → o₂ ≡ o₁ ++ spaced (n ∷ []) → o₃ ≡ o₂ ++ (10 ∷ [])
+    → o₃ ≡ word ++ (spaced (n ∷ []) ++ (10 ∷ []))
+head_printed o o₁ o₂ o₃ word n z e f g = g ∙ rw (f, e, z) (append_assoc word (spaced (n ∷ [])) (10 ∷ []))
+
+pub ok_printed : (o o' ws : List ℕ) (n k : ℕ) → o ≡ 111 ∷ 107 ∷ (spaced (n ∷ []) ++ (10 ∷ [])) → o' ≡ o ++ rows_text k ws → o' ≡ ok_text n k ws
+unfolding ok_text
+ok_printed o o' ws n k e f = f ∙ rw e (ap (λ (x : List ℕ). 111 ∷ 107 ∷ x) (append_assoc (spaced (n ∷ [])) (10 ∷ []) (rows_text k ws)))

@@ -4,7 +4,6 @@ use mathlib.Core.Path.{◌≡◌, refl, ap, ◌∙◌}
 use mathlib.Core.Bool.{Bool, true, false, cond, ◌&&◌, ◌||◌}
 use mathlib.Core.List.{List, [], ◌∷◌, ◌++◌, append_assoc, append-nil}
 use native.Mathlib.Omega.{arith}
-use native.Mathlib.Nat.{zero-add}
 use native.Mathlib.Numerals.{add-one}
 use native.Mathlib.Decide.{ℕ_discrete}
 use borrow.Author.Tests.{eq-eqb, ne_eqb, lt-ltb, le-ltb, le-leb, lt-leb}
@@ -72,40 +71,24 @@ pub many_unknown : (l : ℕ) (ns : List ℕ) → 28 ≤ length ns → called l n
 unfolding called
 many_unknown l ns h = let m = count_most l in rw (ne_eqb (length ns) (count_of l) (omega arith))
 
-first_digit : (b : ℕ) (f : List ℕ) → value_from 0 (b ∷ f) ≡ value_from (b - 48) f
-unfolding value_from
-first_digit b f = ap (λ (v : ℕ). value_from v f) (zero-add (b - 48))
-
+-- behind a space, bytes begin a number as they go on one of value 0, but a space does not end it
 module _ (ns : List ℕ) (b l n : ℕ) where
-  pub space_digit : 48 ≤ b → b ≤ 57 → ReadsOn (Space l n) ns (b ∷ []) (Digits l n (b - 48)) ns
+  digit_first : (b ≡ 32 → ⊥) → (more : List ℕ) → rest_of (Space l n) ns (b ∷ more) ≡ rest_of (Digits l n 0) ns (b ∷ more)
   unfolding rest_of first_field other_fields numbered is_number goes_on values
-  space_digit h k =
-      record {
-        rest = λ more. rw (ne_eqb b 32 (omega arith)) (rw (digit_is b h k, first_digit b (first_field more)));
-        begins = refl;
-      }
-
-  space_field : (f : List ℕ) (fs : List (List ℕ)) → is_number f ≡ false → numbered l (take n ns) (f ∷ fs) ≡ unknown
-  unfolding numbered
-  space_field f fs e = rw e
-
-  space_other : is_digit b ≡ false → (b ≡ 32 → ⊥) → ReadsOn (Space l n) ns (b ∷ []) Lost ns
-  unfolding rest_of first_field other_fields is_number goes_on
-  space_other e ne = record { rest = λ more. rw (ne_eqb b 32 ne) (space_field (b ∷ first_field more) (other_fields more) (rw e)); begins = refl }
+  digit_first ne more = rw (ne_eqb b 32 ne)
 
   space_space : b ≡ 32 → ReadsOn (Space l n) ns (b ∷ []) Lost ns
-  unfolding rest_of first_field other_fields is_number
-  space_space e = record { rest = λ more. rw (eq-eqb b 32 e) (space_field [] (first_field more ∷ other_fields more) refl); begins = refl }
+  unfolding rest_of first_field other_fields numbered is_number
+  space_space e = record { rest = λ more. rw (eq-eqb b 32 e) refl; begins = refl }
 
-  pub space_low : b < 48 → ReadsOn (Space l n) ns (b ∷ []) Lost ns
-  space_low h = go (ℕ_discrete b 32)
+  pub space_first : (r : Reading) → ((b ≡ 32 → ⊥) → ReadsOn (Digits l n 0) ns (b ∷ []) r ns) → (b ≡ 32 → r ≡ Lost)
+      → ReadsOn (Space l n) ns (b ∷ []) r ns
+  unfolding rest_of
+  space_first r f g = go (ℕ_discrete b 32)
     where
-      go : Dec (b ≡ 32) → ReadsOn (Space l n) ns (b ∷ []) Lost ns
-      go (yes e) = space_space e
-      go (no e) = space_other (digit_low b h) e
-
-  pub space_high : 57 < b → ReadsOn (Space l n) ns (b ∷ []) Lost ns
-  space_high h = space_other (digit_high b h) (omega arith)
+      go : Dec (b ≡ 32) → ReadsOn (Space l n) ns (b ∷ []) r ns
+      go (yes e) = rw (g e) (space_space e)
+      go (no e) = record { rest = λ more. digit_first e more ∙ (f e).rest more; begins = (f e).begins }
 
 -- a number goes on, or not
 module _ (ns : List ℕ) (b l n v : ℕ) where
@@ -175,14 +158,6 @@ module _ (ns : List ℕ) (l n v : ℕ) where
         begins = refl;
       }
 
-  large : 4_294_967_296 ≤ v → goes_on v [] ≡ false
-  unfolding goes_on value_from
-  large h = le-ltb v 4_294_967_296 h
-
-  pub number_large : 4_294_967_296 ≤ v → ReadsOn (Digits l n v) ns (32 ∷ []) Lost ns
-  unfolding rest_of first_field other_fields
-  number_large h = record { rest = λ more. rw (large h); begins = refl }
-
   -- at the end of a line
   pub end_number : v < 4_294_967_296 → n < length ns → rest_of (Digits l n v) ns [] ≡ called l (take (n + 1) (set ns n v))
   unfolding rest_of first_field other_fields goes_on value_from values
@@ -191,10 +166,6 @@ module _ (ns : List ℕ) (l n v : ℕ) where
   pub end_many : 27 ≤ n → length ns ≡ 27 → rest_of (Digits l n v) ns [] ≡ unknown
   unfolding rest_of first_field other_fields values
   end_many h e = let k = length-take n ns in many (goes_on v [] && every is_number []) (value_from v [] ∷ []) (omega arith)
-
-  pub end_large : 4_294_967_296 ≤ v → rest_of (Digits l n v) ns [] ≡ unknown
-  unfolding rest_of first_field other_fields
-  end_large h = rw (large h)
 
 -- a count or a value that no line yields says nothing that is understood, whatever follows
 module _ (l n v : ℕ) (ns more : List ℕ) where

@@ -1,12 +1,11 @@
 // Answering a line on a book.
-ghost use Rattle.std.specs.Prelude.{◌≡◌, true, cond, ◌&&◌, ◌||◌, ◌≤◌, [], Some, None, MatchOption, length, get_or, take, eqb, leb};
-ghost use Rattle.book.specs.Layout.{decode};
-ghost use Rattle.book.specs.Contract.{Made};
-ghost use Rattle.lines.specs.Lines.{unknown, count_of, is_call, call_of, called, opening, calling};
+ghost use Rattle.std.specs.Prelude.{◌≡◌, ◌&&◌, false, [], MatchOption, length, eqb};
+ghost use Rattle.lines.specs.Lines.{unknown, count_of, line_of};
 ghost use Rattle.lines.specs.Readings.{rest_of};
 ghost use Rattle.lines.specs.Stepping.{one_day, Answered};
+ghost use Rattle.lines.specs.Inner.Letters.{byte_of, begins, beyond, MadeBy};
 
-use crate::printing::{print_no, print_ok};
+use crate::printing::{print_answer, print_no_call};
 use crate::reading::Reading;
 use crate::steps::Memory;
 use book::Answer;
@@ -14,20 +13,78 @@ use book::calls::{cancel, clear, close, enrol, offer, order, take, withdraw};
 use book::opening::open;
 use book::places::{DAYS, LAYOUT, LAYOUT_NUMBER, UNITS};
 
-// A line's letter and its count of numbers.
-#[derive(Clone, Copy)]
-struct Heard {
-    letter: u8,
-    count: usize,
+// The letter that begins a line: O opens a book, and each other one makes its call.
+#[derive(Clone, Copy, Debug, PartialEq, Eq)]
+enum Letter {
+    Open,
+    Enrol,
+    Offer,
+    Take,
+    Withdraw,
+    Order,
+    Cancel,
+    Clear,
+    Close,
 }
 
-// What a line says at its end: nothing, where it is not understood.
-fn end_line(reading: Reading, numbers: &mut [u64; 27]) -> Option<Heard>
+impl Letter {
+    // The letter that a byte is; any byte may stand in its place, and a line of another one has no error to tell.
+    #[tactic(auto, unfolding(crate::specs::Lines::is_call))]
+    fn of(byte: u8) -> Option<Letter>
+        ensures { MatchOption result (begins byte ≡ false) (λ letter. byte ≡ byte_of letter) }
+    {
+        match byte {
+            b'O' => Some(Letter::Open),
+            b'E' => Some(Letter::Enrol),
+            b'L' => Some(Letter::Offer),
+            b'T' => Some(Letter::Take),
+            b'W' => Some(Letter::Withdraw),
+            b'R' => Some(Letter::Order),
+            b'X' => Some(Letter::Cancel),
+            b'C' => Some(Letter::Clear),
+            b'D' => Some(Letter::Close),
+            _ => None,
+        }
+    }
+
+    // How many numbers follow it.
+    #[tactic(auto, unfolding(crate::specs::Lines::count_of))]
+    fn count(self) -> usize
+        ensures { result ≡ count_of (byte_of self) }
+    {
+        match self {
+            Letter::Open => 3,
+            Letter::Enrol => 3,
+            Letter::Offer => 27,
+            Letter::Take => 3,
+            Letter::Withdraw => 2,
+            Letter::Order => 5,
+            Letter::Cancel => 2,
+            Letter::Clear => 0,
+            Letter::Close => 0,
+        }
+    }
+}
+
+// The letter that a byte is, where so many numbers follow it.
+fn letter_with(byte: u8, count: usize) -> Option<Letter>
+    ensures { MatchOption result ((begins byte && eqb (count_of byte) count) ≡ false)
+        (λ letter. (byte ≡ byte_of letter) × (count_of byte ≡ count)) }
+{
+    let letter = Letter::of(byte)?;
+    if letter.count() != count {
+        return None;
+    }
+    Some(letter)
+}
+
+// The letter of a line that ends, of which all numbers then stand in their places; none, where it is not understood.
+fn end_line(reading: Reading, numbers: &mut [u64; 27]) -> Option<Letter>
     ensures { MatchOption result (rest_of reading numbers.old [] ≡ unknown)
-        (λ h. (rest_of reading numbers.old [] ≡ called h.letter (take h.count numbers.new)) × (h.count ≤ 27)) }
+        (λ letter. rest_of reading numbers.old [] ≡ line_of (byte_of letter) numbers.new) }
 {
     match reading {
-        Reading::Letter { letter } => Some(Heard { letter, count: 0 }),
+        Reading::Letter { letter } => letter_with(letter, 0),
         Reading::Digits {
             letter,
             count,
@@ -36,35 +93,10 @@ fn end_line(reading: Reading, numbers: &mut [u64; 27]) -> Option<Heard>
             if 27 <= count {
                 return None;
             }
-            if 4_294_967_295 < value {
-                return None;
-            }
-            numbers[count] = value;
-            Some(Heard {
-                letter,
-                count: count + 1,
-            })
+            numbers[count] = u64::from(value);
+            letter_with(letter, count + 1)
         }
         Reading::Start | Reading::Space { .. } | Reading::Lost => None,
-    }
-}
-
-// How many numbers follow a letter that begins a line. A letter stays a byte, since any byte may stand in its place.
-#[tactic(auto, unfolding(crate::specs::Lines::count_of, crate::specs::Lines::is_call))]
-fn count_of(letter: u8) -> Option<usize>
-    ensures { result ≡ cond (eqb letter 79 || is_call letter) (Some (count_of letter)) None }
-{
-    match letter {
-        b'O' => Some(3),
-        b'E' => Some(3),
-        b'L' => Some(27),
-        b'T' => Some(3),
-        b'W' => Some(2),
-        b'R' => Some(5),
-        b'X' => Some(2),
-        b'C' => Some(0),
-        b'D' => Some(0),
-        _ => None,
     }
 }
 
@@ -76,16 +108,23 @@ impl Memory {
         self.desk.started && self.book[DAYS] == 1 && self.book[LAYOUT] == LAYOUT_NUMBER
     }
 
-    // Whether an enrol comes when 8 units stand.
-    fn is_beyond(&self, letter: u8) -> bool
-        ensures { result ≡ (eqb letter 69 && leb 8 (length (decode self.now.book).units)) }
+    // Whether a line that is understood makes no call: days over 1 are beyond this program's memory, as an enrol is when 8 units
+    // stand, and a call asks for a book.
+    fn is_beyond(&self, letter: Letter) -> bool
+        ensures { result ≡ beyond (byte_of letter) self.now.numbers self.now.desk.started self.now.book }
     {
-        letter == b'E' && 8 <= self.book[UNITS]
+        if letter == Letter::Open {
+            return 1 < self.numbers[0];
+        }
+        if !self.has_book() {
+            return true;
+        }
+        letter == Letter::Enrol && 8 <= self.book[UNITS]
     }
 
-    // Makes the call of a letter, of which `count_of` knows none but these. Behind a `&mut self` a proof sees no length of an array, so `long` says it.
-    fn make_call(&mut self, letter: u8) -> Answer
-        ensures made { Made self.old.book self.old.rows (call_of letter self.old.numbers) result self.new.book self.new.rows }
+    // Opens a book, or makes the call of a letter. Behind a `&mut self` a proof sees no length of an array, so `long` says it.
+    fn make_call(&mut self, letter: Letter) -> Answer
+        ensures made { MadeBy (byte_of letter) self.old.numbers self.old.book self.old.rows result self.new.book self.new.rows }
         ensures desk { self.new.desk ≡ self.old.desk }
         ensures long { length self.new.rows ≡ 4464 }
     {
@@ -93,51 +132,17 @@ impl Memory {
         let book = &mut self.book;
         let rows = &mut self.rows;
         match letter {
-            b'E' => enrol(book, numbers[0], numbers[1], numbers[2]),
-            b'L' => offer(book, numbers[0], numbers[1], numbers[2], &numbers[3..]),
-            b'T' => take(book, numbers[0], numbers[1], numbers[2], rows),
-            b'W' => withdraw(book, numbers[0], numbers[1]),
-            b'R' => order(
+            Letter::Open => open(book, numbers[0], numbers[1], numbers[2]),
+            Letter::Enrol => enrol(book, numbers[0], numbers[1], numbers[2]),
+            Letter::Offer => offer(book, numbers[0], numbers[1], numbers[2], &numbers[3..]),
+            Letter::Take => take(book, numbers[0], numbers[1], numbers[2], rows),
+            Letter::Withdraw => withdraw(book, numbers[0], numbers[1]),
+            Letter::Order => order(
                 book, numbers[0], numbers[1], numbers[2], numbers[3], numbers[4], rows,
             ),
-            b'X' => cancel(book, numbers[0], numbers[1]),
-            b'C' => clear(book, rows),
-            _ => close(book),
-        }
-    }
-
-    // Answers an O: days over 1 are beyond this program's memory.
-    fn answer_opening(&mut self)
-        ensures { Answered self.old.desk.started self.old.book
-            (opening (get_or self.old.numbers 0 0) (get_or self.old.numbers 1 0) (get_or self.old.numbers 2 0))
-            self.new.desk.started self.new.book self.new.out.items }
-    {
-        let days = self.numbers[0];
-        if 1 < days {
-            return print_no(&mut self.out, 0);
-        }
-        match open(&mut self.book, days, self.numbers[1], self.numbers[2]) {
-            Ok(done) => {
-                self.desk.started = true;
-                print_ok(&mut self.out, done.number, &[]);
-            }
-            Err(refusal) => print_no(&mut self.out, u64::from(refusal)),
-        }
-    }
-
-    // Answers a call on the book that stands.
-    fn answer_call(&mut self, letter: u8)
-        requires started { self.old.desk.started ≡ true }
-        requires one_day_stands { one_day self.old.book ≡ true }
-        ensures { Answered true self.old.book (calling (call_of letter self.old.numbers))
-            self.new.desk.started self.new.book self.new.out.items }
-    {
-        if self.is_beyond(letter) {
-            return print_no(&mut self.out, 0);
-        }
-        match self.make_call(letter) {
-            Ok(done) => print_ok(&mut self.out, done.number, &self.rows[..6 * done.count]),
-            Err(refusal) => print_no(&mut self.out, u64::from(refusal)),
+            Letter::Cancel => cancel(book, numbers[0], numbers[1]),
+            Letter::Clear => clear(book, rows),
+            Letter::Close => close(book),
         }
     }
 
@@ -146,18 +151,14 @@ impl Memory {
         ensures { Answered self.old.desk.started self.old.book (rest_of self.old.desk.reading self.old.numbers [])
             self.new.desk.started self.new.book self.new.out.items }
     {
-        let Some(heard) = end_line(self.desk.reading, &mut self.numbers) else {
-            return print_no(&mut self.out, 0);
+        let Some(letter) = end_line(self.desk.reading, &mut self.numbers) else {
+            return print_no_call(&mut self.out);
         };
-        if count_of(heard.letter) != Some(heard.count) {
-            return print_no(&mut self.out, 0);
+        if self.is_beyond(letter) {
+            return print_no_call(&mut self.out);
         }
-        if heard.letter == b'O' {
-            return self.answer_opening();
-        }
-        if !self.has_book() {
-            return print_no(&mut self.out, 0);
-        }
-        self.answer_call(heard.letter)
+        let answer = self.make_call(letter);
+        self.desk.started |= answer.is_ok();
+        print_answer(&mut self.out, answer, &self.rows);
     }
 }

@@ -1,12 +1,14 @@
 // Printing answers into fixed memory.
-ghost use Rattle.std.specs.Prelude.{◌≡◌, ◌+◌, ◌*◌, ◌/◌, ◌≤◌, [], ◌∷◌, ◌++◌, length};
+ghost use Rattle.std.specs.Prelude.{◌≡◌, ◌+◌, ◌*◌, ◌/◌, ◌≤◌, [], ◌∷◌, ◌++◌, IfOk, length};
 ghost use Rattle.lines.specs.Printed.{spaced, printed_no};
-ghost use Rattle.lines.specs.Inner.Puts.{row_text, rows_text, ok_text};
+ghost use Rattle.lines.specs.Inner.Puts.{row_text, rows_text, ok_text, answer_text};
 
 use arrayvec::ArrayVec;
+use book::Answer;
 use itoa::write_digits;
 
-// Room for the longest answer, which is `ok` with a number in 24 bytes, and 744 rows in 128 bytes each.
+// Room for the longest answer, which is `ok` with a number in 24 bytes, and 744 rows in 128 bytes each. Each function asks for the room
+// that it fills, so that all of it is written.
 pub type Text = ArrayVec<u8, 95_256>;
 
 fn put_text(out: &mut Text, text: &[u8])
@@ -60,24 +62,48 @@ fn put_rows(out: &mut Text, rows: &[u64])
     }
 }
 
-// `no` and the refusal.
-pub(crate) fn print_no(out: &mut Text, refusal: u64)
-    ensures { out.new.items ≡ printed_no refusal }
+// A word of two letters, a number and the line end.
+fn print_head(out: &mut Text, word: &[u8; 2], number: u64)
+    ensures puts { out.new.items ≡ word.now ++ (spaced (number ∷ []) ++ (10 ∷ [])) }
+    ensures short { length out.new.items ≤ 24 }
 {
     out.clear();
-    put_text(out, b"no");
-    put_field(out, refusal);
+    put_text(out, word);
+    put_field(out, number);
     put_text(out, b"\n");
 }
 
+// `no` and a number.
+fn print_no(out: &mut Text, number: u64)
+    ensures { out.new.items ≡ printed_no number }
+{
+    print_head(out, b"no", number);
+}
+
 // `ok` and the number, then the rows.
-pub(crate) fn print_ok(out: &mut Text, number: u64, rows: &[u64])
+fn print_ok(out: &mut Text, number: u64, rows: &[u64])
     requires { length rows.now ≤ 4464 }
     ensures { out.new.items ≡ ok_text number (length rows.now / 6) rows.now }
 {
-    out.clear();
-    put_text(out, b"ok");
-    put_field(out, number);
-    put_text(out, b"\n");
+    print_head(out, b"ok", number);
     put_rows(out, rows);
+}
+
+// `no 0`, where a line makes no call.
+pub(crate) fn print_no_call(out: &mut Text)
+    ensures { out.new.items ≡ printed_no 0 }
+{
+    print_no(out, 0);
+}
+
+// What a call answers: of the rows, the first ones that it counts. They stand in fixed memory, which a call fills as far as it says.
+pub(crate) fn print_answer(out: &mut Text, answer: Answer, rows: &[u64])
+    requires counted { IfOk answer (λ done. 6 * done.count ≤ length rows.now) }
+    requires most { length rows.now ≤ 4464 }
+    ensures { out.new.items ≡ answer_text answer rows.now }
+{
+    match answer {
+        Ok(done) => print_ok(out, done.number, &rows[..6 * done.count]),
+        Err(refusal) => print_no(out, u64::from(refusal)),
+    }
 }

@@ -1,9 +1,11 @@
 // Reading a line in pieces of any length.
-ghost use Rattle.std.specs.Prelude.{◌≡◌, ℕ, List, [], ◌∷◌, length};
+ghost use Rattle.std.specs.Prelude.{◌≡◌, ◌+◌, ◌*◌, ◌≤◌, ℕ, List, [], ◌∷◌, MatchOption, length};
 ghost use Rattle.lines.specs.Readings.{begun, ReadsOn};
 ghost use Rattle.lines.specs.Stepping.{until_end};
 
-// What is kept of a line's bytes so far. Its numbers that are complete stand in fixed memory.
+// What is kept of a line's bytes so far. Its numbers that are complete stand in fixed memory; how many they are is part of what was
+// read, by which the definitions go. Definitions name a case by its fields, and a struct
+// in a case would be taken apart by each function that takes them.
 #[derive(Clone, Copy)]
 pub enum Reading {
     // No byte yet.
@@ -17,11 +19,11 @@ pub enum Reading {
         letter: u8,
         count: usize,
     },
-    // The letter, so many numbers, a space, and digits of this value: of 64 bits, so that a number of 2^32 is seen.
+    // The letter, so many numbers, a space, and digits of this value.
     Digits {
         letter: u8,
         count: usize,
-        value: u64,
+        value: u32,
     },
     // Not understood, whatever follows.
     Lost,
@@ -45,53 +47,40 @@ fn after_letter(letter: u8, byte: u8) -> Reading
     }
 }
 
-fn after_space(letter: u8, count: usize, byte: u8) -> Reading
-    ensures { (ns : List ℕ) → ReadsOn (Reading.Space letter count) ns (byte ∷ []) result ns }
+// The value with a digit more, where it stays below 2^32.
+fn with_digit(value: u32, digit: u8) -> Option<u32>
+    ensures { MatchOption result (4294967296 ≤ value * 10 + digit) (λ n. n ≡ value * 10 + digit) }
+{
+    value.checked_mul(10)?.checked_add(u32::from(digit))
+}
+
+// A digit more of a number, whose value is 0 before the first; the number stays below 2^32.
+fn after_digit(letter: u8, count: usize, value: u32, byte: u8) -> Reading
+    ensures more { (byte ≡ 32 → ⊥) → (ns : List ℕ) → ReadsOn (Reading.Digits letter count value) ns (byte ∷ []) result ns }
+    ensures space { byte ≡ 32 → result ≡ Reading.Lost }
 {
     match byte {
-        b'0'..=b'9' => Reading::Digits {
-            letter,
-            count,
-            value: (byte - b'0') as u64,
+        b'0'..=b'9' => match with_digit(value, byte - b'0') {
+            Some(value) => Reading::Digits {
+                letter,
+                count,
+                value,
+            },
+            None => Reading::Lost,
         },
         _ => Reading::Lost,
     }
 }
 
-// A digit more, where the number stays below 2^32.
-fn after_digit(letter: u8, count: usize, value: u64, byte: u8) -> Reading
-    requires { byte ≡ 32 → ⊥ }
-    ensures { (ns : List ℕ) → ReadsOn (Reading.Digits letter count value) ns (byte ∷ []) result ns }
-{
-    match byte {
-        b'0'..=b'9' => {
-            let next = value
-                .saturating_mul(10)
-                .saturating_add((byte - b'0') as u64);
-            if 4_294_967_295 < next {
-                return Reading::Lost;
-            }
-            Reading::Digits {
-                letter,
-                count,
-                value: next,
-            }
-        }
-        _ => Reading::Lost,
-    }
-}
-
-// A number is complete and goes to its place; no line has more than 27.
-fn after_number(letter: u8, count: usize, value: u64, numbers: &mut [u64; 27]) -> Reading
+// A number is complete and goes to its place; no line has more than 27. At a line's end it does too
+// (`end_line`): no space may follow the last of them, so the bounds differ.
+fn after_number(letter: u8, count: usize, value: u32, numbers: &mut [u64; 27]) -> Reading
     ensures { ReadsOn (Reading.Digits letter count value) numbers.old (32 ∷ []) result numbers.new }
 {
     if 26 <= count {
         return Reading::Lost;
     }
-    if 4_294_967_295 < value {
-        return Reading::Lost;
-    }
-    numbers[count] = value;
+    numbers[count] = u64::from(value);
     Reading::Space {
         letter,
         count: count + 1,
@@ -105,7 +94,7 @@ fn read_byte(reading: Reading, byte: u8, numbers: &mut [u64; 27]) -> Reading
     match reading {
         Reading::Start => after_start(byte),
         Reading::Letter { letter } => after_letter(letter, byte),
-        Reading::Space { letter, count } => after_space(letter, count, byte),
+        Reading::Space { letter, count } => after_digit(letter, count, 0, byte),
         Reading::Digits {
             letter,
             count,

@@ -6,7 +6,7 @@ use crate::printing::Text;
 use crate::reading::{Reading, has_begun, line_end, read_bytes};
 use book::places::ONE_DAY;
 
-// The line so far, and whether an O was accepted.
+// The line so far, and whether an O was accepted. The book itself is fixed memory in its place, so no `Option` holds it.
 #[derive(Clone, Copy)]
 pub struct Desk {
     pub(crate) reading: Reading,

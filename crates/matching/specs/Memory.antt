@@ -80,7 +80,7 @@ all_there m n = leb n 256 && leb (order_words * n) (length m)
 
 -- whether k is a place of n orders, at most 256, that all stand in the memory
 unfoldable pub place_in : List ℕ → ℕ → ℕ → Bool
-place_in m n k = leb n 256 && leb (order_words * n) (length m) && ltb k n
+place_in m n k = all_there m n && ltb k n
 
 abbrev pub no_order : Order
 no_order = record { number = 0; unit = 0; direction = 0; period = 0; price = 0; quantity = 0 }

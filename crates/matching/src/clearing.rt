@@ -7,46 +7,53 @@ ghost use Rattle.matching.specs.Answers.{fit, Clears};
 ghost use Rattle.matching.specs.Inner.Places.{orders_at, ahead_on, belongs, Stand, AreMargins};
 
 use crate::fills::Fills;
+use crate::laying::Laid;
 use crate::margins::Margins;
-use crate::orders::{Direction, Matched, OpenOrders};
+use crate::orders::{Cleared, Direction, OpenOrders};
 use measures::Energy;
 
-// Trades the volume: fills both sides, writes the rows and leaves the rests.
+// Trades the volume: fills both sides, writes the rows and leaves the rests. Bids and asks go by their own names: as a
+// struct of both they would be taken apart at once, since each side is filled alone. The tables are fixed memory, and no `ArrayVec`: `share`
+// writes amounts in their places, so it needs their length first, and places stand beside amounts.
 fn trade(
     orders: &mut [u64],
     n: usize,
     period: u64,
     margins: Margins,
-    bids: &[u64],
-    asks: &[u64],
+    bids: &[usize],
+    asks: &[usize],
     rows: &mut [u64],
-) -> Matched
+) -> Cleared
     requires { (fit orders.old n rows.old ≡ true) × (0 < margins.volume.0)
         × Stand orders.old bids.now n (laid (ahead_on 1) (keep (belongs 1 period) (orders_in orders.old n)))
         × Stand orders.old asks.now n (laid (ahead_on 0) (keep (belongs 0 period) (orders_in orders.old n)))
         × AreMargins (orders_at orders.old bids.now) (orders_at orders.old asks.now) margins.volume.0 margins.bid.0 margins.ask.0 }
     ensures { Clears orders.old rows.old n period (Some result) orders.new rows.new }
 {
-    let mut bid_places = [0u64; 256];
-    let mut ask_places = [0u64; 256];
-    let mut bought = [0u64; 256];
-    let mut sold = [0u64; 256];
+    let mut bid_places = [0; 256];
+    let mut ask_places = [0; 256];
+    let mut bought = [0; 256];
+    let mut sold = [0; 256];
     let open = OpenOrders::new(orders, n);
     let fb = crate::fills::fill(
-        open,
+        Laid {
+            orders: open,
+            places: bids,
+        },
         Direction::Buy,
         margins.volume,
         margins.bid,
-        bids,
         &mut bid_places,
         &mut bought,
     );
     let fa = crate::fills::fill(
-        open,
+        Laid {
+            orders: open,
+            places: asks,
+        },
         Direction::Sell,
         margins.volume,
         margins.ask,
-        asks,
         &mut ask_places,
         &mut sold,
     );
@@ -61,28 +68,32 @@ fn trade(
     };
     let count = crate::overlaps::put_overlaps(open, period, price, bids, asks, rows);
     let standing = crate::rests::leave_rests(orders, n, bids, asks);
-    Matched {
-        left: Energy(0),
-        count,
-        standing,
-    }
+    Cleared { count, standing }
 }
 
 // Clears the orders of a period among the first n, which are fit for it: the rows, how many they are, and how many orders
 // then stand.
-pub(crate) fn clear_fit(orders: &mut [u64], n: usize, period: u64, rows: &mut [u64]) -> Matched
+pub(crate) fn clear_fit(orders: &mut [u64], n: usize, period: u64, rows: &mut [u64]) -> Cleared
     requires { fit orders.old n rows.old ≡ true }
     ensures { Clears orders.old rows.old n period (Some result) orders.new rows.new }
 {
-    let mut bids = [0u64; 256];
-    let mut asks = [0u64; 256];
+    let mut bids = [0; 256];
+    let mut asks = [0; 256];
     let open = OpenOrders::new(orders, n);
     let nb = crate::laying::lay(open, Direction::Buy, period, &mut bids);
     let na = crate::laying::lay(open, Direction::Sell, period, &mut asks);
-    let margins = crate::margins::find_margins(open, &bids[..nb], &asks[..na]);
+    let margins = crate::margins::find_margins(
+        Laid {
+            orders: open,
+            places: &bids[..nb],
+        },
+        Laid {
+            orders: open,
+            places: &asks[..na],
+        },
+    );
     if margins.volume == Energy(0) {
-        return Matched {
-            left: Energy(0),
+        return Cleared {
             count: 0,
             standing: n,
         };
@@ -90,8 +101,9 @@ pub(crate) fn clear_fit(orders: &mut [u64], n: usize, period: u64, rows: &mut [u
     trade(orders, n, period, margins, &bids[..nb], &asks[..na], rows)
 }
 
-// The same of any orders; `None` where they are not fit for it.
-pub fn clear_period(orders: &mut [u64], n: usize, period: u64, rows: &mut [u64]) -> Option<Matched>
+// The same of any orders; `None` where they are not fit for it. `clear_fit` writes the orders, and is called without a test too, of orders
+// that are fit: so it takes the slice, and reads them itself.
+pub fn clear_period(orders: &mut [u64], n: usize, period: u64, rows: &mut [u64]) -> Option<Cleared>
     ensures { Clears orders.old rows.old n period result orders.new rows.new }
 {
     if !crate::fitness::fits(orders, n, rows) {

@@ -5,20 +5,24 @@ ghost use Rattle.measures.specs.Ranges.{most_energy};
 ghost use Rattle.matching.specs.declared.fills.Which.TheVariants.{Better, Margin};
 ghost use Rattle.matching.specs.Memory.{as_order};
 ghost use Rattle.matching.specs.Clearing.{fills_of};
-ghost use Rattle.matching.specs.Inner.Places.{orders_at, chosen, picked, Picked, AtMargin, Stand, fills_at, Filling};
+ghost use Rattle.matching.specs.Inner.Places.{orders_at, chosen, picked, Picked, AtMargin, fills_at, Filling};
 
-use crate::orders::{Direction, OpenOrders, Order};
+use crate::laying::Laid;
+use crate::orders::{Direction, Order};
 use measures::{Energy, Price};
 
 // What is filled: the places of orders, and beside each its amount. They stand in two slices, since sharing writes plain words, and
-// in fixed memory that the caller lends and that is filled from the front; how many they are is returned.
+// in fixed memory, which is filled from the front; how many they are is returned. A match's are taken off as a clear's are. That they
+// are fills of so many orders (`Filling`) stays a clause: with that count in the struct, a clause that the counts agree would come
+// in its place.
 #[derive(Clone, Copy)]
 pub(crate) struct Fills<'a> {
-    pub places: &'a [u64],
+    pub places: &'a [usize],
     pub amounts: &'a [u64],
 }
 
-// Which orders of a side are picked: those of a better price than the margin's, or those at it.
+// Which orders of a side are picked: those of a better price than the margin's, or those at it. By a closure for each, the direction
+// would be matched where they are made, and the definition would still name the three sets.
 #[derive(Clone, Copy, Debug, PartialEq, Eq)]
 pub(crate) enum Which {
     Better(Direction),
@@ -38,23 +42,21 @@ fn at_price(which: Which, margin: Price, o: Order) -> bool
 
 // Puts the places that are chosen behind the first of `to`, and what is open there behind the first of `amounts`.
 fn pick(
-    orders: OpenOrders<'_>,
+    laid: Laid<'_, '_>,
     which: Which,
     margin: Price,
-    places: &[u64],
-    to: &mut [u64],
-    amounts: &mut [u64],
+    to: &mut [usize; 256],
+    amounts: &mut [u64; 256],
     first: usize,
 ) -> usize
-    requires { Stand orders.words.now places.now orders.count (orders_at orders.words.now places.now)
-        × (first + length (picked orders.words.now which margin.0 places.now) ≤ length to.old)
-        × (first + length (picked orders.words.now which margin.0 places.now) ≤ length amounts.old) }
-    ensures { let m = orders.entry.words.now in Picked m (picked m which margin.0 places.now) to.old amounts.old first
-        result to.new amounts.new }
+    requires { first + length (picked laid.orders.words.now which margin.0 laid.places.now) ≤ 256 }
+    ensures { let m = laid.entry.orders.words.now in
+        Picked m (picked m which margin.0 laid.entry.places.now) to.old amounts.old first result to.new amounts.new }
 {
+    // a cursor for both tables: `filter` and `enumerate` would count the chosen, but that count ends with the loop
     let mut r = first;
-    for p in places {
-        let o = orders.read(*p as usize);
+    for p in laid.places {
+        let o = laid.orders.read(*p);
         if at_price(which, margin, o) {
             to[r] = *p;
             amounts[r] = o.quantity.0;
@@ -72,36 +74,25 @@ fn together(amounts: &[u64]) -> Energy
     Energy(amounts.iter().sum())
 }
 
-// The fills of one side, of a volume and a margin, for the laid orders at the places; how many they are.
+// The fills of one side's laid orders, of a volume and a margin; how many they are.
 pub(crate) fn fill(
-    orders: OpenOrders<'_>,
+    laid: Laid<'_, '_>,
     direction: Direction,
     volume: Energy,
     margin: Price,
-    places: &[u64],
-    to: &mut [u64],
-    amounts: &mut [u64],
+    to: &mut [usize; 256],
+    amounts: &mut [u64; 256],
 ) -> usize
-    requires { let laid = orders_at orders.words.now places.now in (orders.count ≤ length to.old) × (orders.count ≤ length amounts.old)
-        × Stand orders.words.now places.now orders.count laid
-        × AtMargin volume.0 (keep (chosen (Better direction) margin.0) laid) (keep (chosen Margin margin.0) laid) }
-    ensures { let laid = orders_at orders.entry.words.now places.now in
-        (result ≤ length places.now) × (result ≤ length to.new) × (result ≤ length amounts.new)
-        × Filling (take result to.new) (take result amounts.new) orders.entry.count
-        × (fills_at orders.entry.words.now (take result to.new) (take result amounts.new)
-        ≡ fills_of volume.0 (keep (chosen (Better direction) margin.0) laid) (keep (chosen Margin margin.0) laid)) }
+    requires { let os = orders_at laid.orders.words.now laid.places.now in
+        AtMargin volume.0 (keep (chosen (Better direction) margin.0) os) (keep (chosen Margin margin.0) os) }
+    ensures { let m = laid.entry.orders.words.now in let n = laid.entry.orders.count in let os = orders_at m laid.entry.places.now in
+        (result ≤ length laid.entry.places.now) × (result ≤ n) × Filling (take result to.new) (take result amounts.new) n
+        × (fills_at m (take result to.new) (take result amounts.new)
+        ≡ fills_of volume.0 (keep (chosen (Better direction) margin.0) os) (keep (chosen Margin margin.0) os)) }
 {
     let mut open = [0u64; 256];
-    let better = pick(
-        orders,
-        Which::Better(direction),
-        margin,
-        places,
-        to,
-        amounts,
-        0,
-    );
-    let all = pick(orders, Which::Margin, margin, places, to, &mut open, better);
+    let better = pick(laid, Which::Better(direction), margin, to, amounts, 0);
+    let all = pick(laid, Which::Margin, margin, to, &mut open, better);
     let first = together(&amounts[..better]);
     // what is open at the margin is at least what is left of the volume, so it refuses nothing
     let _ = measures::share(

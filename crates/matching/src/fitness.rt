@@ -1,5 +1,5 @@
 // Whether lent orders and rows can be matched and cleared.
-ghost use Rattle.std.specs.Prelude.{◌≡◌, leb};
+ghost use Rattle.std.specs.Prelude.{◌≡◌, true, false, MatchOption, leb};
 ghost use Rattle.measures.specs.Ranges.{most_energy};
 ghost use Rattle.matching.specs.Orders.{rising, numbers, quantities};
 ghost use Rattle.matching.specs.Memory.{orders_in};
@@ -8,7 +8,8 @@ ghost use Rattle.matching.specs.Answers.{numbers_rise, fit, fit_below};
 use crate::orders::{OpenOrders, Row};
 use measures::Energy;
 
-// Whether the numbers of the first n orders rise: each is above the one before it.
+// Whether the numbers of the first n orders rise: each is compared with the one before it; a test of one place, as `every` takes in
+// book, would be no plainer.
 fn rise(orders: OpenOrders<'_>) -> bool
     ensures { result ≡ rising (numbers (orders_in orders.entry.words.now orders.entry.count)) }
 {
@@ -45,21 +46,30 @@ fn quantities_fit(orders: OpenOrders<'_>) -> bool
     sum.in_range()
 }
 
-// Whether the first n orders can be matched and cleared, with these rows lent.
+// The first n orders, if they can be matched and cleared, with these rows lent.
 #[tactic(auto, unfolding(crate::specs::Answers::fit))]
+pub(crate) fn fitting<'a>(orders: &'a [u64], n: usize, rows: &[u64]) -> Option<OpenOrders<'a>>
+    ensures { MatchOption result (fit orders.now n rows.now ≡ false)
+        (λ first. (fit orders.now n rows.now ≡ true) × (first.words.now ≡ orders.now) × (first.count ≡ n)) }
+{
+    let open = OpenOrders::checked(orders, n)?;
+    if rows.len() < Row::WORDS * n {
+        return None;
+    }
+    if !rise(open) {
+        return None;
+    }
+    if !quantities_fit(open) {
+        return None;
+    }
+    Some(open)
+}
+
+// Whether the first n orders can be matched and cleared, with these rows lent.
 pub fn fits(orders: &[u64], n: usize, rows: &[u64]) -> bool
     ensures { result ≡ fit orders.now n rows.now }
 {
-    let Some(open) = OpenOrders::checked(orders, n) else {
-        return false;
-    };
-    if rows.len() < Row::WORDS * n {
-        return false;
-    }
-    if !rise(open) {
-        return false;
-    }
-    quantities_fit(open)
+    fitting(orders, n, rows).is_some()
 }
 
 // Whether the periods below `end` of the first n orders can be cleared one after the other, with these rows lent.

@@ -1,12 +1,12 @@
 // The volume of a clear and its margins, by one walk along the laid bids and asks.
-ghost use Rattle.std.specs.Prelude.{◌≡◌, get_or};
-ghost use Rattle.matching.specs.Memory.{no_order};
-ghost use Rattle.matching.specs.Inner.Places.{orders_at, Stand, Sides, AreMargins};
+ghost use Rattle.std.specs.Prelude.{◌≡◌};
+ghost use Rattle.matching.specs.Inner.Places.{orders_at, Sides, AreMargins};
 
-use crate::orders::OpenOrders;
+use crate::laying::Laid;
 use measures::{Energy, Price};
 
-// A volume, and the prices of the bid and the ask that hold its last kWh.
+// A volume, and the prices of the bid and the ask that hold its last kWh. A volume of 0 is one too: the walk adds to it
+// from there, and an `Option` would be taken apart at each step.
 #[derive(Clone, Copy)]
 pub struct Margins {
     pub volume: Energy,
@@ -14,22 +14,11 @@ pub struct Margins {
     pub ask: Price,
 }
 
-// What order i of the places has open, and 0 behind the last.
-fn open_at(orders: OpenOrders<'_>, places: &[u64], i: usize) -> Energy
-    requires { Stand orders.words.now places.now orders.count (orders_at orders.words.now places.now) }
-    ensures { result.0 ≡ (get_or (orders_at orders.entry.words.now places.now) i no_order).quantity }
-{
-    let Some(p) = places.get(i) else {
-        return Energy(0);
-    };
-    let o = orders.read(*p as usize);
-    o.quantity
-}
-
 // The margins: the smaller remainder of the next bid and ask is met for as long as their prices meet.
-pub(crate) fn find_margins(orders: OpenOrders<'_>, bids: &[u64], asks: &[u64]) -> Margins
-    requires { Sides orders.words.now bids.now asks.now orders.count }
-    ensures { AreMargins (orders_at orders.entry.words.now bids.now) (orders_at orders.entry.words.now asks.now)
+pub(crate) fn find_margins(bids: Laid<'_, '_>, asks: Laid<'_, '_>) -> Margins
+    requires { (asks.orders.words.now ≡ bids.orders.words.now)
+        × Sides bids.orders.words.now bids.places.now asks.places.now bids.orders.count }
+    ensures { let m = bids.entry.orders.words.now in AreMargins (orders_at m bids.entry.places.now) (orders_at m asks.entry.places.now)
         result.volume.0 result.bid.0 result.ask.0 }
 {
     let mut margins = Margins {
@@ -39,15 +28,15 @@ pub(crate) fn find_margins(orders: OpenOrders<'_>, bids: &[u64], asks: &[u64]) -
     };
     let mut i: usize = 0;
     let mut j: usize = 0;
-    let mut demand = open_at(orders, bids, 0);
-    let mut supply = open_at(orders, asks, 0);
-    // two indexes, each moved by what it finds
-    while i < bids.len() {
-        if j == asks.len() {
+    let mut demand = bids.open_at(0);
+    let mut supply = asks.open_at(0);
+    // two indexes: the walk goes on along one side or the other, as no one iterator does, and an index tells where the other stands
+    while i < bids.places.len() {
+        if j == asks.places.len() {
             return margins;
         }
-        let b = orders.read(bids[i] as usize);
-        let s = orders.read(asks[j] as usize);
+        let b = bids.read(i);
+        let s = asks.read(j);
         let bid = b.price;
         let ask = s.price;
         if !bid.meets(ask) {
@@ -55,10 +44,10 @@ pub(crate) fn find_margins(orders: OpenOrders<'_>, bids: &[u64], asks: &[u64]) -
         }
         if demand == Energy(0) {
             i += 1;
-            demand = open_at(orders, bids, i);
+            demand = bids.open_at(i);
         } else if supply == Energy(0) {
             j += 1;
-            supply = open_at(orders, asks, j);
+            supply = asks.open_at(j);
         } else {
             let x = demand.min(supply);
             let volume = margins.volume.plus(x);

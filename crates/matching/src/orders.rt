@@ -1,5 +1,7 @@
-// Orders and rows in lent memory: six words each, one behind the other, and walked by their number, since they are no items of a
-// slice. The table of orders and their count are words of the lent book, so public functions take a slice and a count.
+// Orders and rows in lent memory: six words each, one behind the other, and walked by their number: chunks of six would be read word by
+// word too, and of what is written through them a proof knows nothing. The table of orders and their count are words of the lent book, and
+// one more order takes the place behind them, so public functions take a slice and a count. Rows are lent by the caller, who is told how
+// many there are. `write`, `remove` and `put_row` ask nothing and tell whether they could; who knows that they can passes over the answer.
 ghost use Rattle.std.specs.Prelude.{◌≡◌, true, false, MatchOption, List, [], ◌∷◌, ◌++◌, ℕ, ◌+◌, ◌*◌, ◌-◌, ◌<◌, ◌≤◌, length, get_or, set, drop, take};
 ghost use Rattle.matching.specs.Orders.{Row as RowRecord, order_with, leaving};
 ghost use Rattle.matching.specs.Memory.{most_word, direction_number, order_words, row_words, as_order, as_row, order_at, orders_in, all_there, place_in, written};
@@ -10,8 +12,8 @@ use measures::{Energy, Price};
 // Which way an order trades. In memory 0 sells and 1 buys; an order in memory may have any number.
 #[derive(Clone, Copy, Debug, PartialEq, Eq)]
 pub enum Direction {
-    Sell,
-    Buy,
+    Sell = 0,
+    Buy = 1,
 }
 
 impl Direction {
@@ -33,10 +35,7 @@ impl From<Direction> for u64 {
     ghost from_gives = { λ d r. r ≡ direction_number d };
 
     fn from(direction: Direction) -> u64 {
-        match direction {
-            Direction::Sell => 0,
-            Direction::Buy => 1,
-        }
+        direction as u64
     }
 }
 
@@ -109,7 +108,7 @@ impl Order {
 
     pub const QUANTITY: usize = 5;
 
-    // An order of which all is open.
+    // An order of which all is open: a maker, as paper 01 names it.
     pub fn fresh(
         number: u64,
         unit: u64,
@@ -167,7 +166,8 @@ impl Row {
     pub const PRICE: usize = 5;
 }
 
-// What matching or clearing came to: what is left of an incoming order, the count of rows, and how many orders stand.
+// What matching came to: what is left of the incoming order, the count of rows, and how many orders stand. `Cleared` and
+// `rolling::Meeting` have what their step knows: as one struct they would hold numbers for none.
 #[derive(Clone, Copy, Debug, PartialEq, Eq)]
 pub struct Matched {
     pub left: Energy,
@@ -175,8 +175,16 @@ pub struct Matched {
     pub standing: usize,
 }
 
-// The open orders: a table of words, and how many of them stand there. What writes keeps the slice and the count, since behind a
-// `&mut` these facts would have to hold at each write. That their numbers rise stays a clause: it is read off them (`rise`), so a
+// What clearing came to, or where it stands: the count of rows, and how many orders stand. No order comes in, so nothing is left of one.
+#[derive(Clone, Copy, Debug, PartialEq, Eq)]
+pub struct Cleared {
+    pub count: usize,
+    pub standing: usize,
+}
+
+// The open orders: a table of words, and how many of them stand there. What writes keeps the slice and the count. A struct with a
+// `&mut` to the words was tried: its facts hold at each write, but each function that writes through it must say that its count and
+// its reference stay, so as many clauses come as go. That their numbers rise stays a clause: it is read off them (`rise`), so a
 // second struct of the same fields would be needed to say one clause, and would be no plainer.
 #[derive(Clone, Copy)]
 pub(crate) struct OpenOrders<'a> {
@@ -227,7 +235,7 @@ impl<'a> OpenOrders<'a> {
     }
 }
 
-// The order at place k.
+// The order at place k; word by word, since each word has a name for its place.
 pub(crate) fn read(orders: &[u64], k: usize) -> Order
     requires { (order_words * k + order_words ≤ length orders.now) × (k < 256) }
     ensures { as_order result ≡ order_at orders.now k }
@@ -279,7 +287,7 @@ fn remove_at(orders: &mut [u64], n: usize, k: usize)
 
 // Whether place k is one of the first n orders, which all stand there.
 #[tactic(auto, unfolding(crate::specs::Memory::place_in))]
-pub(crate) fn is_place(orders: &[u64], n: usize, k: usize) -> bool
+fn is_place(orders: &[u64], n: usize, k: usize) -> bool
     ensures { result ≡ place_in orders.now n k }
 {
     let Some(open) = OpenOrders::checked(orders, n) else {

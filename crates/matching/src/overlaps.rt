@@ -49,7 +49,7 @@ fn span_at(orders: OpenOrders<'_>, fills: Fills, i: usize, from: Energy) -> Span
     ensures { (result.unit ≡ (order_at orders.entry.words.now (get_or fills.entry.places.now i 0)).unit) × (result.from.0 ≡ from.0)
         × (result.upto.0 ≡ from.0 + get_or fills.entry.amounts.now i 0) }
 {
-    let o = orders.read(fills.places[i] as usize);
+    let o = orders.read(fills.places[i]);
     let upto = from.plus(Energy(fills.amounts[i]));
     Span {
         unit: o.unit,
@@ -79,7 +79,7 @@ pub(crate) fn put_overlaps(
     let mut a = Energy(0);
     let mut e = Energy(0);
     let mut count: usize = 0;
-    // two indexes, each moved by what it finds
+    // two indexes: the walk goes on along one side or the other, as no one iterator does, and an index tells where the other stands
     while i < bids.places.len() {
         if j == asks.places.len() {
             return count;

@@ -1,26 +1,19 @@
 // Clearing all periods, one after the other: paper 01, "The eight calls", Clear.
-ghost use Rattle.std.specs.Prelude.{◌≡◌, ◌<◌, ◌≤◌};
+ghost use Rattle.std.specs.Prelude.{◌≡◌, ℕ, ◌<◌, ◌≤◌, get_or};
 ghost use Rattle.measures.specs.Lists.{Each};
-ghost use Rattle.matching.specs.Memory.{orders_in};
+ghost use Rattle.matching.specs.Memory.{most_word, orders_in};
 ghost use Rattle.matching.specs.Prices.{high_with, low_with};
 ghost use Rattle.matching.specs.Answers.{ClearsAll};
 ghost use Rattle.matching.specs.Inner.Periods.{Clearable, PricedBy, prices_meet, Stepped, PassedAll};
 
 use crate::clearing::clear_fit;
 use crate::fitness::fits_below;
-use crate::orders::{Direction, Matched, OpenOrders, Row};
-use measures::{Energy, Price};
-
-// Where clearing stands: how many rows were written, and how many orders stand. No order comes in, so nothing is left of one.
-#[derive(Clone, Copy, Debug, PartialEq, Eq)]
-pub struct Cleared {
-    pub count: usize,
-    pub standing: usize,
-}
+use crate::orders::{Cleared, Direction, OpenOrders, Row};
+use measures::Price;
 
 // Enters the price of an order of period p in lists of any length: `high` has the price next above the highest buy price of each
 // period so far, `low` the lowest sell price. A period past the lists is passed over. The direction is a word of memory, in which any
-// number may stand.
+// number may stand. By `if`: a `max` and a `min` would set a word to itself where nothing changes, which the definition does not.
 #[tactic(auto, unfolding(crate::specs::Prices::high_with, crate::specs::Prices::low_with))]
 pub fn note_price(direction: u64, p: usize, price: Price, high: &mut [u64], low: &mut [u64])
     ensures { (high.new ≡ high_with direction p price.0 high.old)
@@ -43,7 +36,8 @@ pub fn note_price(direction: u64, p: usize, price: Price, high: &mut [u64], low:
     }
 }
 
-// The prices of orders, by period, as `note_price` notes them.
+// The prices of orders, by period, as `note_price` notes them: 0 and the largest number are the bounds where none is noted. Two
+// lists, since `note_price`, which is public, takes them so.
 #[derive(Clone, Copy)]
 pub struct Prices<const PERIODS: usize> {
     pub high: [u64; PERIODS],
@@ -51,6 +45,17 @@ pub struct Prices<const PERIODS: usize> {
 }
 
 impl<const PERIODS: usize> Prices<PERIODS> {
+    // Prices where none is noted.
+    pub fn none() -> Prices<PERIODS>
+        ensures { ((p : ℕ) → p < PERIODS → get_or result.high p 0 ≡ 0)
+            × ((p : ℕ) → p < PERIODS → get_or result.low p 0 ≡ most_word) }
+    {
+        Prices {
+            high: [0; PERIODS],
+            low: [u64::MAX; PERIODS],
+        }
+    }
+
     // Enters the price of an order of period p.
     pub fn note(&mut self, direction: u64, p: usize, price: Price)
         ensures { (self.new.high ≡ high_with direction p price.0 self.old.high)
@@ -122,10 +127,7 @@ fn clear_each(orders: &mut [u64], n: usize, end: u64, rows: &mut [u64]) -> Clear
     requires { (Clearable orders.old rows.old n n) × (end ≤ 744) }
     ensures { PassedAll orders.old rows.old n end result.count result.standing orders.new rows.new }
 {
-    let mut prices = Prices {
-        high: [0; 744],
-        low: [u64::MAX; 744],
-    };
+    let mut prices = Prices::none();
     let open = OpenOrders::new(orders, n);
     note_prices(open, &mut prices);
     let mut cleared = Cleared {
@@ -140,16 +142,11 @@ fn clear_each(orders: &mut [u64], n: usize, end: u64, rows: &mut [u64]) -> Clear
 
 // Clears the periods below `end` of the first n orders: the rows, how many they are, and how many orders then stand. Orders
 // that do not fit stay as they are, and `None` is returned.
-pub fn clear_periods(orders: &mut [u64], n: usize, end: u64, rows: &mut [u64]) -> Option<Matched>
+pub fn clear_periods(orders: &mut [u64], n: usize, end: u64, rows: &mut [u64]) -> Option<Cleared>
     ensures { ClearsAll orders.old rows.old n end result orders.new rows.new }
 {
     if !fits_below(orders, n, end, rows) {
         return None;
     }
-    let cleared = clear_each(orders, n, end, rows);
-    Some(Matched {
-        left: Energy(0),
-        count: cleared.count,
-        standing: cleared.standing,
-    })
+    Some(clear_each(orders, n, end, rows))
 }

@@ -1,5 +1,5 @@
 // Rolling matching: an incoming order meets the waiting ones (paper 01, "The eight calls", Order).
-ghost use Rattle.std.specs.Prelude.{◌≡◌, true, cond, List, [], ◌∷◌, ◌++◌, ℕ, ◌+◌, ◌-◌, ◌*◌, ◌<◌, ◌≤◌, min, length};
+ghost use Rattle.std.specs.Prelude.{◌≡◌, Some, true, cond, MatchOption, List, [], ◌∷◌, ◌++◌, ℕ, ◌+◌, ◌-◌, ◌*◌, ◌<◌, ◌≤◌, min, length};
 ghost use Rattle.matching.specs.Orders.{Row as RowRecord, rising, numbers};
 ghost use Rattle.matching.specs.Memory.{direction_number, row_words, as_order, as_row, order_at, orders_in, written};
 ghost use Rattle.matching.specs.Rolling.{candidate, match_row, meet};
@@ -7,11 +7,31 @@ ghost use Rattle.matching.specs.Inner.Runs.{key_of, RunsMet, MetInTurn};
 ghost use Rattle.matching.specs.Answers.{Meets, left_over};
 
 use crate::fills::Fills;
-use crate::fitness::fits;
+use crate::fitness::fitting;
 use crate::laying::{First, Runs, Side};
 use crate::orders::{Direction, Matched, OpenOrders, Order, Row, Way};
 use crate::{laying, orders};
 use measures::Energy;
+
+// An incoming order, and the direction that its word names.
+#[derive(Clone, Copy)]
+struct Incoming {
+    order: Order,
+    direction: Direction,
+    ghost named: { order.direction ≡ direction_number direction },
+}
+
+impl Incoming {
+    // The order with its direction, if its word names one.
+    fn named(order: Order) -> Option<Incoming>
+        ensures { MatchOption result (1 < order.direction) (λ incoming. incoming.order ≡ order) }
+    {
+        let Ok(direction) = Direction::try_from(order.direction) else {
+            return None;
+        };
+        Some(Incoming { order, direction })
+    }
+}
 
 // What is left of an incoming order, and how many orders it met.
 #[derive(Clone, Copy)]
@@ -20,34 +40,34 @@ pub struct Meeting {
     pub count: usize,
 }
 
-// The side that an incoming order of a direction meets: opposite, of its period, and at a price that it can take.
-fn side_met(direction: Direction, incoming: Order) -> Side
-    ensures { (direction_number result.direction ≡ 1 - direction_number direction) × (result.period ≡ incoming.period)
-        × (result.limit ≡ key_of (1 - direction_number direction) incoming.price.0) }
+// The side that an incoming order meets: opposite, of its period, and at a price that it can take.
+fn side_met(incoming: Incoming) -> Side
+    ensures { let i = incoming.order in (direction_number result.direction ≡ 1 - i.direction) × (result.period ≡ i.period)
+        × (result.limit ≡ Some (key_of (1 - i.direction) i.price.0)) }
 {
-    let direction = direction.opposite();
-    let limit = laying::key_of(direction, incoming.price);
+    let direction = incoming.direction.opposite();
+    let limit = laying::key_of(direction, incoming.order.price);
     Side {
         direction,
-        period: incoming.period,
-        limit,
+        period: incoming.order.period,
+        limit: Some(limit),
     }
 }
 
 // The row of a match with a waiting order, at the waiting order's price.
 #[tactic(auto, unfolding(crate::specs::Rolling::match_row))]
-fn match_row(incoming: Order, o: Order, x: Energy) -> Row
-    ensures { as_row result ≡ match_row (as_order incoming) (record { order = as_order o; quantity = x.0 }) }
+fn match_row(incoming: Incoming, o: Order, x: Energy) -> Row
+    ensures { as_row result ≡ match_row (as_order incoming.order) (record { order = as_order o; quantity = x.0 }) }
 {
     let price = o.price;
-    let (seller, buyer) = if incoming.direction == u64::from(Direction::Buy) {
-        (o.unit, incoming.unit)
-    } else {
-        (incoming.unit, o.unit)
+    let unit = incoming.order.unit;
+    let (seller, buyer) = match incoming.direction {
+        Direction::Buy => (o.unit, unit),
+        Direction::Sell => (unit, o.unit),
     };
     Row {
         way: u64::from(Way::Rolling),
-        period: incoming.period,
+        period: incoming.order.period,
         seller,
         buyer,
         quantity: x,
@@ -59,7 +79,7 @@ fn match_row(incoming: Order, o: Order, x: Energy) -> Row
 fn match_at(
     orders: OpenOrders<'_>,
     p: usize,
-    incoming: Order,
+    incoming: Incoming,
     left: Energy,
     rows: &mut [u64],
     count: usize,
@@ -67,7 +87,7 @@ fn match_at(
     requires { (p < orders.count) × (row_words * count + row_words ≤ length rows.old) × (count < 1000000) }
     ensures { let o = order_at orders.entry.words.now p in (result.0 ≡ min left.0 o.quantity)
         × ((m : List ℕ) (rs : List RowRecord) → length rs ≡ count → rows.old ≡ written m rs → rows.new
-        ≡ written m (rs ++ (match_row (as_order incoming) (record { order = o; quantity = result.0 }) ∷ []))) }
+        ≡ written m (rs ++ (match_row (as_order incoming.order) (record { order = o; quantity = result.0 }) ∷ []))) }
 {
     let o = orders.read(p);
     let x = left.min(o.quantity);
@@ -79,35 +99,33 @@ fn match_at(
 // spent or no order is left. Each match is a row; the places that were met, and what was taken there, are kept.
 fn meet_runs(
     orders: OpenOrders<'_>,
-    incoming: Order,
+    incoming: Incoming,
     runs: &mut Runs,
-    met: &mut [u64],
-    taken: &mut [u64],
+    met: &mut [usize; 256],
+    taken: &mut [u64; 256],
     rows: &mut [u64],
 ) -> Meeting
-    requires { (rising (numbers (orders_in orders.words.now orders.count)) ≡ true) × (0 < incoming.quantity.0)
-        × (orders.count ≤ length met.old) × (orders.count ≤ length taken.old) × (row_words * orders.count ≤ length rows.old)
-        × RunsMet orders.words.now runs.old.keys runs.old.places runs.old.heads runs.old.ends orders.count runs.old.count (as_order incoming) }
-    ensures { MetInTurn orders.entry.words.now orders.entry.count (as_order incoming) rows.old result.left.0 result.count met.new
+    requires { (rising (numbers (orders_in orders.words.now orders.count)) ≡ true) × (0 < incoming.order.quantity.0)
+        × (row_words * orders.count ≤ length rows.old)
+        × RunsMet orders.words.now runs.old.keys runs.old.places runs.old.heads runs.old.ends orders.count runs.old.count
+        (as_order incoming.order) }
+    ensures { MetInTurn orders.entry.words.now orders.entry.count (as_order incoming.order) rows.old result.left.0 result.count met.new
         taken.new rows.new }
 {
-    let mut left = incoming.quantity;
+    let mut left = incoming.order.quantity;
     let mut count: usize = 0;
     // paper 01 names this form: the labelled loop over counterparts, the scan for the best price inside, left when the amount is spent
     'meeting: while count < orders.count {
-        let mut best = First {
-            run: runs.count,
-            key: u64::MAX,
-        };
+        let mut best: Option<First> = None;
         for j in 0..runs.count {
             best = runs.nearer(best, j);
         }
-        if best.run == runs.count {
+        let Some(first) = best else {
             break 'meeting;
-        }
-        let p = runs.take_first(best.run);
+        };
+        let p = runs.take_first(first.run);
         let x = match_at(orders, p, incoming, left, rows, count);
-        met[count] = p as u64;
+        met[count] = p;
         taken[count] = x.0;
         left = left.minus(x);
         count += 1;
@@ -121,21 +139,18 @@ fn meet_runs(
 // The incoming order meets the orders in turn.
 fn meet_in_turn(
     orders: OpenOrders<'_>,
-    direction: Direction,
-    incoming: Order,
-    met: &mut [u64],
-    taken: &mut [u64],
+    incoming: Incoming,
+    met: &mut [usize; 256],
+    taken: &mut [u64; 256],
     rows: &mut [u64],
 ) -> Meeting
-    requires { (rising (numbers (orders_in orders.words.now orders.count)) ≡ true) × (incoming.direction ≡ direction_number direction)
-        × (0 < incoming.quantity.0) × (orders.count ≤ length met.old) × (orders.count ≤ length taken.old)
+    requires { (rising (numbers (orders_in orders.words.now orders.count)) ≡ true) × (0 < incoming.order.quantity.0)
         × (row_words * orders.count ≤ length rows.old) }
-    ensures { MetInTurn orders.entry.words.now orders.entry.count (as_order incoming) rows.old result.left.0 result.count met.new
+    ensures { MetInTurn orders.entry.words.now orders.entry.count (as_order incoming.order) rows.old result.left.0 result.count met.new
         taken.new rows.new }
 {
-    let side = side_met(direction, incoming);
     let mut runs = Runs::none();
-    runs.lay(orders, side);
+    runs.lay(orders, side_met(incoming));
     meet_runs(orders, incoming, &mut runs, met, taken, rows)
 }
 
@@ -144,24 +159,21 @@ fn meet_in_turn(
 pub fn meet(orders: &mut [u64], n: usize, incoming: Order, rows: &mut [u64]) -> Option<Matched>
     ensures { Meets orders.old rows.old n (as_order incoming) result orders.new rows.new }
 {
-    if !fits(orders, n, rows) {
-        return None;
-    }
+    let open = fitting(orders, n, rows)?;
     let none_met = Matched {
         left: incoming.quantity,
         count: 0,
         standing: n,
     };
-    let Ok(direction) = Direction::try_from(incoming.direction) else {
+    let Some(named) = Incoming::named(incoming) else {
         return Some(none_met);
     };
     if incoming.quantity == Energy(0) {
         return Some(none_met);
     }
-    let mut met = [0u64; 256];
-    let mut taken = [0u64; 256];
-    let open = OpenOrders::new(orders, n);
-    let meeting = meet_in_turn(open, direction, incoming, &mut met, &mut taken, rows);
+    let mut met = [0; 256];
+    let mut taken = [0; 256];
+    let meeting = meet_in_turn(open, named, &mut met, &mut taken, rows);
     let fills = Fills {
         places: &met[..meeting.count],
         amounts: &taken[..meeting.count],
@@ -180,29 +192,27 @@ pub fn meet(orders: &mut [u64], n: usize, incoming: Order, rows: &mut [u64]) -> 
 
 // Whether an incoming order can meet a waiting one.
 #[tactic(auto, unfolding(crate::specs::Rolling::candidate))]
-fn can_meet(incoming: Order, o: Order) -> bool
-    ensures { result ≡ candidate (as_order incoming) (as_order o) }
+fn can_meet(incoming: Incoming, o: Order) -> bool
+    ensures { result ≡ candidate (as_order incoming.order) (as_order o) }
 {
-    if o.period != incoming.period {
+    if o.period != incoming.order.period {
         return false;
     }
-    let Ok(direction) = Direction::try_from(incoming.direction) else {
-        return false;
-    };
-    if o.direction != u64::from(direction.opposite()) {
+    if o.direction != u64::from(incoming.direction.opposite()) {
         return false;
     }
-    match direction {
-        Direction::Buy => incoming.price.meets(o.price),
-        Direction::Sell => o.price.meets(incoming.price),
+    let price = incoming.order.price;
+    match incoming.direction {
+        Direction::Buy => price.meets(o.price),
+        Direction::Sell => o.price.meets(price),
     }
 }
 
 // What is left of `left` if the incoming order meets the one at place k too.
-fn left_past(orders: OpenOrders<'_>, k: usize, incoming: Order, left: Energy) -> Energy
+fn left_past(orders: OpenOrders<'_>, k: usize, incoming: Incoming, left: Energy) -> Energy
     requires { k < orders.count }
     ensures { let o = order_at orders.entry.words.now k in
-        result.0 ≡ left.0 - cond (candidate (as_order incoming) o) o.quantity 0 }
+        result.0 ≡ left.0 - cond (candidate (as_order incoming.order) o) o.quantity 0 }
 {
     let o = orders.read(k);
     if !can_meet(incoming, o) {
@@ -212,23 +222,26 @@ fn left_past(orders: OpenOrders<'_>, k: usize, incoming: Order, left: Energy) ->
 }
 
 // What would be left of an incoming order if it met the orders: nothing is matched, what it can meet is taken off.
-fn left_behind(orders: OpenOrders<'_>, incoming: Order) -> Energy
-    ensures { result.0 ≡ (meet (as_order incoming) (orders_in orders.entry.words.now orders.entry.count)).left }
+fn left_behind(orders: OpenOrders<'_>, incoming: Incoming) -> Energy
+    ensures { result.0 ≡ (meet (as_order incoming.order) (orders_in orders.entry.words.now orders.entry.count)).left }
 {
-    let mut left = incoming.quantity;
+    let mut left = incoming.order.quantity;
     for k in 0..orders.count {
         left = left_past(orders, k, incoming, left);
     }
     left
 }
 
-// The same of the first n orders of any memory: all of it where no order stands there.
+// The same of the first n orders of any memory: all of it where no order stands there, and all of an order of no direction.
 #[tactic(auto, unfolding(crate::specs::Answers::left_over, crate::specs::Memory::place_in))]
 pub fn left_over(orders: &[u64], n: usize, incoming: Order) -> Energy
     ensures { result.0 ≡ left_over orders.now n (as_order incoming) }
 {
-    if !orders::is_place(orders, n, 0) {
+    let Some(open) = OpenOrders::checked(orders, n) else {
         return incoming.quantity;
-    }
-    left_behind(OpenOrders::new(orders, n), incoming)
+    };
+    let Some(named) = Incoming::named(incoming) else {
+        return incoming.quantity;
+    };
+    left_behind(open, named)
 }

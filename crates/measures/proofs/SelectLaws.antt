@@ -1,4 +1,5 @@
 -- What a turn of each loop of the sharing keeps, and the parts that its steps make together.
+use mathlib.Core.Bool.{Bool, true, false}
 use Prim.Native.Nat.{ℕ, zero-le, ◌+◌, ◌-◌, ◌*◌, ◌/◌, ◌%◌, ◌≤◌, ◌<◌}
 use mathlib.Core.Path.{◌≡◌, refl, sym, ap, ◌∙◌}
 use mathlib.Core.List.{List, ◌++◌}
@@ -7,8 +8,8 @@ use native.Mathlib.Omega.{arith}
 use native.Mathlib.Decide.{ℕ_discrete, dec_lt}
 use lib.ListN.{length, get_or, drop, take, set, length-set, length-append, length-drop, get_or-append}
 use lib.Dec.{leb, ltb, eqb}
+use mir.Val.{bool_byte}
 use lib.Seq.{ext_get_or, get_or-set_same, get_or-set_other, get_or-drop, get_or-append-add}
-use borrow.Author.Tests.{le-leb, lt-leb}
 use borrow.Rule.Slice.PartMut.{put_mid}
 use Rattle.std.proofs.Common.{rules}
 use Rattle.std.proofs.lemmas.List.{places}
@@ -100,13 +101,10 @@ dividing_end d rs m₀ m left i v h =
     let e : i ≡ length rs = omega (arith, v.at) in
     record { written = rw e at v.written; left = rw e at v.still }
 
--- 1 where a fraction reaches m
-pub reaches_one : (m f : ℕ) → m ≤ half → f < half → (f + (half - m)) / half ≡ one (leb m f)
-reaches_one m f a b = go (dec_lt f m)
-  where
-    go : Dec (f < m) → (f + (half - m)) / half ≡ one (leb m f)
-    go (yes l) = simp (lt-leb m f l) (omega arith)
-    go (no l) = simp (le-leb m f (omega arith)) (omega arith)
+-- whether, as a number
+pub byte_one : (b : Bool) → bool_byte b ≡ one b
+byte_one true = refl
+byte_one false = refl
 
 -- `settle`: one place more
 pub settled-more : (i e x : ℕ) (m m' : List ℕ) (v : ℕ) → i ≤ e → e < length m' → Written i e (settled x m) m m' → v ≡ settled x m' e

@@ -101,7 +101,8 @@ impl Price {
     }
 }
 
-// The sum of the amounts, or one more than Energy::MOST where it is more than that.
+// The sum of the amounts, or one more than Energy::MOST where it is more than that: out of range, as `in_range` and `can_be_declared`
+// tell. An `Option` would be asked beside them.
 pub fn capped_total(amounts: &[u64]) -> Energy
     ensures { result.0 ≡ min (total amounts.now) (most_energy + 1) }
 {

@@ -1,12 +1,10 @@
 // The parts of an amount: each place's share rounded down, and the kWh left over one each to the largest fractions (paper 02, job 14).
-// A rounded part and its fraction stand in one number while the largest fractions are looked for, so that no list is needed beside the parts.
+// A rounded part and its fraction stand in one number while the largest fractions are looked for, so that no list is needed beside
+// the parts.
 ghost use Rattle.std.specs.Prelude.{◌≡◌, ◌++◌, ◌+◌, ◌*◌, ◌-◌, ◌/◌, ◌≤◌, ◌<◌, leb, ltb, true, false, ◌&&◌, length, drop, fold, ◌%◌};
 ghost use Rattle.measures.specs.Ranges.{most_energy};
-ghost use Rattle.measures.specs.Lists.{one};
 ghost use Rattle.measures.specs.Sharing.{parts as parts_of};
 ghost use Rattle.measures.specs.Inner.Cuts.{half, rest, reach, ties, higher_below, lower_from, Shareable, Written, Divided, Between, Edged, Nearer, settled};
-
-use crate::Energy;
 
 // What a rounded part is multiplied by, so that its fraction can stand beside it.
 const HALF: u64 = 4_294_967_296;
@@ -15,7 +13,8 @@ const HALF: u64 = 4_294_967_296;
 const QUICK: u64 = 8;
 
 // Where the search for the largest fractions stands: the `wanted` largest end from `low` to below `high`, `from` fractions are `low`
-// or more, and `above` are `high` or more. `next` is where to look next, if it lies between the two.
+// or more, and `above` are `high` or more. `next` is where to look next, if it lies between the two; for `quick` looks more it is found by
+// proportion.
 #[derive(Clone, Copy)]
 struct Search<'a> {
     parts: &'a [u64],
@@ -25,6 +24,7 @@ struct Search<'a> {
     above: u64,
     from: u64,
     next: Option<u64>,
+    quick: u64,
     ghost between: { Between (rest parts.now) (length parts.now) wanted low high above from },
     ghost few: { wanted ≤ most_energy },
 }
@@ -52,23 +52,13 @@ fn divide(d: u64, whole: u64, amounts: &[u64], parts: &mut [u64]) -> u64
     left
 }
 
-// 1 where a fraction is m or more, else 0: without a branch, so that loops over many fractions take two at once. The plain
-// `u64::from(m <= fraction)` does so too, and was measured: `share` over 744 amounts runs a tenth more instructions.
-fn reaches(m: u64, fraction: u64) -> u64
-    requires { (m ≤ half) × (fraction < half) }
-    ensures { result ≡ one (leb m fraction) }
-{
-    (fraction + (HALF - m)) / HALF
-}
-
 // How many fractions are m or more.
 fn reaching(parts: &[u64], m: u64) -> u64
-    requires { m ≤ half }
     ensures { result ≡ reach (rest parts.now) (length parts.now) m }
 {
     let mut count: u64 = 0;
     for part in parts {
-        count += reaches(m, *part % HALF);
+        count += u64::from(m <= *part % HALF);
     }
     count
 }
@@ -126,7 +116,7 @@ fn step(width: u64, wanted: u64, among: u64, quick: u64) -> u64
 
 impl<'a> Search<'a> {
     // Where to look next.
-    fn look(&self, quick: u64) -> u64
+    fn look(&self) -> u64
         requires { (self.now.low + 2 ≤ self.now.high) × (self.now.above < self.now.wanted) }
         ensures { (self.now.low < result) × (result < self.now.high) }
     {
@@ -140,11 +130,11 @@ impl<'a> Search<'a> {
                 self.high - self.low,
                 self.wanted - self.above,
                 self.from - self.above,
-                quick,
+                self.quick,
             )
     }
 
-    // The same search between other bounds.
+    // The same search between other bounds, one look later. Each field is named: a struct with ghost fields takes no `..`.
     fn moved(&self, low: u64, high: u64, above: u64, from: u64, next: Option<u64>) -> Search<'a>
         requires { Between (rest self.now.parts.now) (length self.now.parts.now) self.now.wanted low high above from }
         ensures { (result.parts.now ≡ self.now.parts.now) × (result.wanted ≡ self.now.wanted) × (result.low ≡ low) × (result.high ≡ high) }
@@ -157,11 +147,12 @@ impl<'a> Search<'a> {
             above,
             from,
             next,
+            quick: self.quick.saturating_sub(1),
         }
     }
 
+    // The lower bound becomes m, which `count` fractions reach; where as many reach the bound before, the smallest of them.
     // `raised` and `lowered` are mirror images: one method with a flag for the bound that moves would be no plainer.
-    // The lower bound is m, which `count` fractions reach; where the bound before parts no fraction from them, the smallest of them.
     fn raised(&self, m: u64, count: u64) -> Search<'a>
         requires { (self.now.low < m) × (m < self.now.high) × (count ≡ reach (rest self.now.parts.now) (length self.now.parts.now) m) × (self.now.wanted < count) }
         ensures { Nearer self.now.parts.now self.now.wanted self.now.low self.now.high result.parts.now result.wanted result.low result.high }
@@ -194,11 +185,11 @@ impl<'a> Search<'a> {
     }
 
     // The search, one look further.
-    fn narrowed(&self, quick: u64) -> Search<'a>
+    fn narrowed(&self) -> Search<'a>
         requires { (ltb self.now.above self.now.wanted && leb 2 (self.now.high - self.now.low)) ≡ true }
         ensures { Nearer self.now.parts.now self.now.wanted self.now.low self.now.high result.parts.now result.wanted result.low result.high }
     {
-        let m = self.look(quick);
+        let m = self.look();
         let count = reaching(self.parts, m);
         if self.wanted < count {
             return self.raised(m, count);
@@ -238,12 +229,11 @@ fn find_edge(parts: &[u64], whole: u64, k: u64) -> Edge
         above: 0,
         from: all,
         next: (whole * k).checked_div(all),
+        quick: QUICK,
     };
-    let mut quick = QUICK;
     // The bounds close in: no index is counted.
     while search.is_open() {
-        search = search.narrowed(quick);
-        quick = quick.saturating_sub(1);
+        search = search.narrowed();
     }
     search.edge()
 }
@@ -267,11 +257,10 @@ fn ties_end(parts: &[u64], at: u64, wanted: u64) -> usize
 
 // Leaves the rounded parts, and one more where the fraction is m or more.
 fn settle(parts: &mut [u64], m: u64)
-    requires { m ≤ half }
     ensures { Written 0 (length parts.old) (settled m parts.old) parts.old parts.new }
 {
     for part in parts.iter_mut() {
-        *part = *part / HALF + reaches(m, *part % HALF);
+        *part = *part / HALF + u64::from(m <= *part % HALF);
     }
 }
 

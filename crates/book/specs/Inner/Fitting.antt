@@ -4,6 +4,7 @@ use Rattle.std.specs.Prelude.{◌≡◌, ℕ, ◌+◌, ◌<◌, ◌≤◌, Bool,
 use Rattle.measures.specs.Lists.{holds, sum, all}
 use Rattle.limits.specs.Units.{periods}
 use Rattle.limits.specs.Limits.{hour_of, hour_limit, term_limit, volume_limit}
+use Rattle.book.specs.declared.pass.Sums.{Sums}
 use Rattle.book.specs.Refusals.{check, first_refusal}
 use Rattle.book.specs.Layout.{
   DAYS,
@@ -84,10 +85,10 @@ unit_holds m k x y =
 abbrev pub most_low : ℕ
 most_low = 1_099_511_627_775
 
--- r is what the word of faults and the sums of a pass come to beside the limits of the unit at place k
-abbrev pub SumsCame : List ℕ → ℕ → ℕ → ℕ → ℕ → ℕ → Type 0
-SumsCame m k bad whole volume r =
-    r ≡ first_refusal (check 19 (nat_lt most_low bad) ∷ check 20 (nat_lt (term_at m k) whole) ∷ check 21 (nat_lt (volume_at m k) volume) ∷ [])
+-- r is what a pass comes to beside the limits of the unit at place k: by its word of faults, and by its sums
+abbrev pub SumsCame : List ℕ → ℕ → Sums → ℕ → Type 0
+SumsCame m k s r =
+    r ≡ first_refusal (check 19 (nat_lt most_low s.bad) ∷ check 20 (nat_lt (term_at m k) s.whole) ∷ check 21 (nat_lt (volume_at m k) s.volume) ∷ [])
 
 -- r is what n periods with these tests, sums and limits come to
 pub record Came (n : ℕ) (marks hours : ℕ → Bool) (term volume : ℕ → ℕ) (term_most volume_most r : ℕ) : Type 0 where

@@ -77,10 +77,6 @@ pub record Pass (n : ℕ) (f : ℕ → Cell) (bad marks whole volume : ℕ) : Ty
   pub term : Low bad → whole ≡ sum n (λ i. (f i).held + ((f i).raised + (f i).up))
   pub most : Low bad → volume ≡ sum n (λ i. (f i).volume + ((f i).up + (f i).down))
 
--- what the pass over all periods of the unit at place k comes to, where x raises and y lowers
-abbrev pub UnitPass : List ℕ → ℕ → (ℕ → ℕ) → (ℕ → ℕ) → ℕ → ℕ → ℕ → ℕ → Type 0
-UnitPass m k x y bad marks whole volume = Pass (periods (word m DAYS)) (unit_cell m k x y) bad marks whole volume
-
 -- that no hour limit passes the largest capacity
 pub record Limited (f : ℕ → Cell) : Type 0 where
   pub limit : (i : ℕ) → (f i).limit ≤ most_capacity
@@ -88,18 +84,22 @@ pub record Limited (f : ℕ → Cell) : Type 0 where
 abbrev pub Passed : ℕ → (ℕ → Cell) → Sums → Type 0
 Passed n f s = Pass n f s.bad s.marks s.whole s.volume
 
+-- what the pass over all periods of the unit at place k comes to, where x raises and y lowers
+abbrev pub UnitPass : List ℕ → ℕ → (ℕ → ℕ) → (ℕ → ℕ) → Sums → Type 0
+UnitPass m k x y s = Passed (periods (word m DAYS)) (unit_cell m k x y) s
+
 -- r joins the passes over so many days, of which day d may come to any s where P d s: if each of them is the pass over the
 -- day's cells of f, then r is that over all of them
 abbrev pub DaysJoined : (ℕ → Sums → Type 0) → ℕ → Sums → Type 0
 DaysJoined P days r =
     (f : ℕ → Cell) → Limited f → ((d : ℕ) (s : Sums) → d < days → P d s → Passed 24 (λ h. f (24 * d + h)) s) → Passed (24 * days) f r
 
--- two passes joined
-pub record Together (bad marks whole volume bad₂ marks₂ whole₂ volume₂ bad' marks' whole' volume' : ℕ) : Type 0 where
-  pub faults : Joined bad bad₂ bad'
-  pub marked : Joined marks marks₂ marks'
-  pub term : whole' ≡ (whole + whole₂) % 2 ^ 64
-  pub most : volume' ≡ (volume + volume₂) % 2 ^ 64
+-- r joins two passes
+pub record Together (a b r : Sums) : Type 0 where
+  pub faults : Joined a.bad b.bad r.bad
+  pub marked : Joined a.marks b.marks r.marks
+  pub term : r.whole ≡ (a.whole + b.whole) % 2 ^ 64
+  pub most : r.volume ≡ (a.volume + b.volume) % 2 ^ 64
 
 -- l holds the first n hour limits of a unit
 pub record HourLimits (kind capacity n : ℕ) (l : List ℕ) : Type 0 where

@@ -31,7 +31,18 @@ use Rattle.book.specs.Inner.Search.{OfferHas}
 
 -- a value of the code's struct, as figures of these definitions
 abbrev pub as_figures : FiguresValue → Figures
-as_figures v = record { held = v.held.0; raised = v.raised.0; lowered = v.lowered.0; volume = v.volume.0; mark = v.mark }
+as_figures v = record { held = v.held.0; raised = v.raised.0; lowered = v.lowered.0; volume = v.volume.0; mark = v.mark.0 }
+
+-- the figures that begin at place i
+abbrev pub figures_from : List ℕ → ℕ → Figures
+figures_from m i =
+    record {
+      held = word m i;
+      raised = word m (i + RAISED);
+      lowered = word m (i + LOWERED);
+      mark = word m (i + MARK);
+      volume = word m (i + VOLUME);
+    }
 
 -- what today's trades and the volume of the unit at place k come to in period p is at most this
 pub record SmallAt (m : List ℕ) (k p most : ℕ) : Type 0 where
@@ -105,6 +116,11 @@ fit_checks b u d = hour_misfit b u d ∷ term_misfit b u d ∷ volume_misfit b u
 -- what each period gives of a quantity taken from the offer at place j
 unfoldable pub parts_at : List ℕ → ℕ → ℕ → List ℕ
 parts_at m j q = parts q (table (periods (word m DAYS)) (amount_at m j))
+
+-- the open offer of number n stands at place j, and its amounts come to t
+pub record OpenAt (m : List ℕ) (n j t : ℕ) : Type 0 where
+  pub has : OfferHas m n j
+  pub whole : t ≡ total (table (periods (word m DAYS)) (amount_at m j))
 
 -- the lent memory holds nothing
 abbrev pub Nothing : List ℕ → Type 0

@@ -21,10 +21,12 @@ use Rattle.book.specs.Layout.{
   word,
   orders_part,
 }
+use Rattle.book.specs.declared.pass.Amounts.{Amounts}
+use Rattle.book.specs.declared.pass.Sums.{Sums}
 use Rattle.book.specs.declared.standing.Links.{Links}
 use Rattle.book.specs.Inner.Readable.{pair_fits}
-use Rattle.book.specs.Inner.Fitting.{Added, order_share, offer_share}
-use Rattle.book.specs.Inner.Pass.{most_open, Pass, day_cell}
+use Rattle.book.specs.Inner.Fitting.{Below, Added, order_share, offer_share}
+use Rattle.book.specs.Inner.Pass.{most_open, Passed, day_cell}
 
 -- what the order at place i is linked by: its period, or its unit and day
 unfoldable pub by_period : List ℕ → ℕ → ℕ
@@ -129,21 +131,24 @@ open_up m k p =
 unfoldable pub open_down : List ℕ → ℕ → ℕ → ℕ
 open_down m k p = sum (word m ORDERS) (λ i. order_share m (k + 1) (1 - raising_direction m k) i p)
 
--- x and y are the amounts of 24 hours, and x' and y' the same with f and h added
-pub record BothAdded (x y x' y' : List ℕ) (f h : ℕ → ℕ) (g : ℕ) : Type 0 where
-  pub raising : Added 24 x x' f g
-  pub lowering : Added 24 y y' h g
+-- that each amount that raises or lowers is at most a bound
+abbrev pub BothBelow : {n : ℕ} → ℕ → Amounts n → Type 0
+BothBelow most a = (Below most a.raising) × (Below most a.lowering)
 
--- what the order at place i has open in a direction, by hour of its day
-unfoldable pub hour_share : List ℕ → ℕ → ℕ → ℕ → ℕ
-hour_share m direction i h = order_share m (word m (order_place i + UNIT)) direction i (24 * (word m (order_place i + PERIOD) / 24) + h)
+-- b is the amounts a with f of each of the first n hours or periods added to what raises, and h to what lowers
+pub record BothAdded (n : ℕ) (a b : Amounts n) (f h : ℕ → ℕ) (g : ℕ) : Type 0 where
+  pub raising : Added n a.raising b.raising f g
+  pub lowering : Added n a.lowering b.lowering h g
+
+-- what the order at place i has open in a direction, by place of a table of n: by hour of its day for 24, by period for 744
+unfoldable pub share_in : ℕ → List ℕ → ℕ → ℕ → ℕ → ℕ
+share_in n m direction i h = order_share m (word m (order_place i + UNIT)) direction i (n * (word m (order_place i + PERIOD) / n) + h)
 
 -- by hour, what is open of the unit at place k on day d
-pub record Gathered (m : List ℕ) (k d : ℕ) (raising lowering : List ℕ) : Type 0 where
-  pub up : (h : ℕ) → h < 24 → slice_index raising h ≡ open_up m k (24 * d + h)
-  pub down : (h : ℕ) → h < 24 → slice_index lowering h ≡ open_down m k (24 * d + h)
-  pub up_to : (h : ℕ) → slice_index raising h ≤ most_open
-  pub down_to : (h : ℕ) → slice_index lowering h ≤ most_open
+pub record Gathered (m : List ℕ) (k d : ℕ) (a : Amounts 24) : Type 0 where
+  pub up : (h : ℕ) → h < 24 → slice_index a.raising h ≡ open_up m k (24 * d + h)
+  pub down : (h : ℕ) → h < 24 → slice_index a.lowering h ≡ open_down m k (24 * d + h)
+  pub most : BothBelow most_open a
 
 -- none of the first n offers is unit u's
 pub record OffersOther (m : List ℕ) (u n : ℕ) : Type 0 where
@@ -155,6 +160,5 @@ pub record DayIdle (m : List ℕ) (k d : ℕ) : Type 0 where
   pub down : (h : ℕ) → h < 24 → 0 ≡ open_down m k (24 * d + h)
 
 -- what the pass over day d of the unit at place k comes to, with what is open
-abbrev pub DayPass : List ℕ → ℕ → ℕ → List ℕ → ℕ → ℕ → ℕ → ℕ → Type 0
-DayPass m k d limits bad marks whole volume =
-    Pass 24 (day_cell m (day_place d k) limits (λ h. open_up m k (24 * d + h)) (λ h. open_down m k (24 * d + h))) bad marks whole volume
+abbrev pub DayPass : List ℕ → ℕ → ℕ → List ℕ → Sums → Type 0
+DayPass m k d limits s = Passed 24 (day_cell m (day_place d k) limits (λ h. open_up m k (24 * d + h)) (λ h. open_down m k (24 * d + h))) s

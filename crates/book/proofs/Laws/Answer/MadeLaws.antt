@@ -23,6 +23,7 @@ use Rattle.book.specs.Clear.{clearing, clear_refusal, clear_checks}
 use Rattle.book.specs.Close.{closing, day_closed}
 use Rattle.book.specs.Calls.{Call, call_enrol, call_offer, call_take, call_withdraw, call_order, call_cancel, call_clear, call_close, outcome}
 use Rattle.std.proofs.Common.{Ok, Err, zero}
+use Rattle.std.specs.Result.{IsErrAnd}
 use Rattle.measures.specs.declared.refusals.Refusal.{Refusal}
 use Rattle.measures.specs.Refused.{number_of}
 use Rattle.measures.proofs.RefusedLaws.{number_some, number_fixes}
@@ -177,32 +178,45 @@ is_sound m e = go (sound_in m) refl e
     go true p q = p
     go false p q = absurd (omega arith)
 
-pub made_unsound : (m rows : List ℕ) (c : Call) (r : Refusal) → number_of r ≡ cond (sound_in m) 0 1 → Made m rows c (Err r) m rows
-made_unsound m rows c r e = go (sound_in m) refl e
-  where
-    go : (s : Bool) → sound_in m ≡ s → number_of r ≡ cond s 0 1 → Made m rows c (Err r) m rows
-    go true p q = absurd (number_some r q)
-    go false p q =
-        made_refused m rows c r
-        (unsound_outcome m c p ∙ ap (λ (n : ℕ). record { refusal = n; number = 0; rows = []; book = decode m }) (sym q))
+-- a call on the memory m, whose checks read x
+module _ (m rows : List ℕ) (c : Call) where
+  -- a refusal r that a `?` hands on, so that a is the call's answer
+  handed_on : (a : Answer) (r : Refusal) → IsErrAnd a (λ y. y ≡ r)
+      → outcome_on m c ≡ record { refusal = number_of r; number = 0; rows = []; book = decode m } → Made m rows c a m rows
+  handed_on (Ok d) r i o = absurd i
+  handed_on (Err y) r i o = rw i (made_refused m rows c r o)
 
-pub made_checked : (m rows : List ℕ) (c : Call) (r : Refusal) → sound_in m ≡ true → number_of r ≡ first_refusal (checks_of (decode m) c)
-    → Made m rows c (Err r) m rows
-made_checked m rows c r e f =
-    made_refused m rows c r
-    (outcome-sound m c e ∙ outcome_is (decode m) c
-    ∙ ap (λ (x : ℕ). decided x (decode m) (effect_of (decode m) c)) (chain_sound (decode m) (checks_of (decode m) c) (sound-book m e) ∙ sym f)
-    ∙ decided-refused (number_of r) (decode m) (effect_of (decode m) c) (number_some r))
+  pub made_unsound : (a : Answer) (r : Refusal) → IsErrAnd a (λ y. y ≡ r) → number_of r ≡ cond (sound_in m) 0 1 → Made m rows c a m rows
+  made_unsound a r i e = go (sound_in m) refl e
+    where
+      go : (s : Bool) → sound_in m ≡ s → number_of r ≡ cond s 0 1 → Made m rows c a m rows
+      go true p q = absurd (number_some r q)
+      go false p q =
+          handed_on a r i
+          (unsound_outcome m c p ∙ ap (λ (n : ℕ). record { refusal = n; number = 0; rows = []; book = decode m }) (sym q))
 
-pub made_done : (m rows : List ℕ) (c : Call) (n : ℕ) (rs : List Row) (b : Book) (k : ℕ) (m' rows' : List ℕ)
-    → sound_in m ≡ true → 0 ≡ first_refusal (checks_of (decode m) c) → effect_of (decode m) c ≡ accepted n rs b
-    → k ≡ length rs → decode m' ≡ b → rows' ≡ written rows rs → Aside m m' → length m' ≡ length m
-    → Made m rows c (Ok (record { number = n; count = k })) m' rows'
-made_done m rows c n rs b k m' rows' e f g =
-    made_accepted m rows c n rs b k m' rows'
-    (outcome-sound m c e ∙ outcome_is (decode m) c
-    ∙ ap (λ (x : ℕ). decided x (decode m) (effect_of (decode m) c)) (chain_sound (decode m) (checks_of (decode m) c) (sound-book m e) ∙ sym f)
-    ∙ decided-accepted 0 (decode m) (effect_of (decode m) c) refl ∙ g)
+  pub made_checked : (x : List ℕ) (a : Answer) (r : Refusal) → IsErrAnd a (λ y. y ≡ r) → zero ≡ cond (sound_in m) 0 1 → x ≡ m
+      → number_of r ≡ first_refusal (checks_of (decode x) c) → Made m rows c a m rows
+  made_checked x a r i z same f =
+      let e = is_sound m z in
+      let g = rw same at f in
+      handed_on a r i
+      (outcome-sound m c e ∙ outcome_is (decode m) c
+      ∙ ap (λ (t : ℕ). decided t (decode m) (effect_of (decode m) c))
+      (chain_sound (decode m) (checks_of (decode m) c) (sound-book m e) ∙ sym g)
+      ∙ decided-refused (number_of r) (decode m) (effect_of (decode m) c) (number_some r))
+
+  pub made_done : (n : ℕ) (rs : List Row) (b : Book) (k : ℕ) (x m' rows' : List ℕ) → zero ≡ cond (sound_in m) 0 1 → x ≡ m
+      → 0 ≡ first_refusal (checks_of (decode x) c) → effect_of (decode m) c ≡ accepted n rs b
+      → k ≡ length rs → decode m' ≡ b → rows' ≡ written rows rs → Aside m m' → length m' ≡ length m
+      → Made m rows c (Ok (record { number = n; count = k })) m' rows'
+  made_done n rs b k x m' rows' z same f g =
+      let e = is_sound m z in
+      made_accepted m rows c n rs b k m' rows'
+      (outcome-sound m c e ∙ outcome_is (decode m) c
+      ∙ ap (λ (t : ℕ). decided t (decode m) (effect_of (decode m) c))
+      (chain_sound (decode m) (checks_of (decode m) c) (sound-book m e) ∙ sym (rw same at f))
+      ∙ decided-accepted 0 (decode m) (effect_of (decode m) c) refl ∙ g)
 
 -- the numbers that enrol and offer return, in memory
 pub enrol_number : (m : List ℕ) (kind capacity asset : ℕ) → effect_of (decode m) (call_enrol kind capacity asset)

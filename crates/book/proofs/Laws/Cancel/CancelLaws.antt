@@ -1,6 +1,6 @@
 -- Cancel on a sound book in memory: its checks, and the book without the order.
-use Rattle.std.proofs.Common.{◌≡◌, ℕ, ◌+◌, ◌-◌, ◌*◌, ◌<◌, ◌≤◌, true, not, eqb, List, [], ◌∷◌, ◌++◌, length, get_or, take, drop, set, refl}
-use Rattle.std.proofs.Common.{sym, ap, ◌∙◌, arith, eq-eqb, ne_eqb}
+use Rattle.std.proofs.Common.{◌≡◌, ℕ, ◌+◌, ◌-◌, ◌*◌, ◌<◌, ◌≤◌, true, not, ◌&&◌, eqb, List, ◌++◌, length, get_or, take, drop, set, refl}
+use Rattle.std.proofs.Common.{None, sym, ap, ◌∙◌, arith, eq-eqb, ne_eqb}
 use borrow.Rule.Slice.PartMut.{put_mid}
 use Rattle.measures.specs.Lists.{keep}
 use Rattle.measures.proofs.ListLaws.{all_true}
@@ -8,17 +8,18 @@ use Rattle.measures.proofs.RangeLaws.{In, inside}
 use Rattle.matching.specs.Orders.{Order as OpenOrder, rising, numbers}
 use Rattle.matching.specs.Memory.{order_at, orders_in, no_order}
 use Rattle.matching.proofs.Laws.Orders.OrderLaws.{orders_at_lem}
-use Rattle.book.specs.Book.{with_orders, orders_of}
+use Rattle.book.specs.Book.{with_orders, order_of, order_open}
 use Rattle.book.specs.Sound.{sound, numbers_differ}
 use Rattle.book.specs.Layout.{UNITS, ORDERS, orders_start, orders_words, order_place, UNIT, word, orders_part, decode, Aside}
 use Rattle.book.specs.Inner.Readable.{offer_numbers}
+use Rattle.book.specs.Inner.Search.{OrderHas, OrderFound}
 use Rattle.book.specs.Refusals.{first_refusal}
 use Rattle.book.specs.Contract.{sound_in}
 use Rattle.book.specs.Cancel.{cancel_checks}
 use Rattle.book.proofs.Laws.Memory.RangeFacts.{units_held, orders_held, order_word}
 use Rattle.book.proofs.Laws.Check.NumberLaws.{orders_from}
 use Rattle.book.proofs.Laws.Answer.MadeLaws.{sound-book, sound_readable}
-use Rattle.book.proofs.Laws.Memory.KeptLaws.{number_kept, number_gone, number_none}
+use Rattle.book.proofs.Laws.Memory.KeptLaws.{first_kept, none_kept, number_gone}
 use Rattle.book.specs.Inner.Ordering.{OrdersPut}
 use Rattle.book.proofs.Laws.Order.WaitLaws.{orders_put, put_decoded, put_aside}
 
@@ -35,51 +36,44 @@ pub order_here : (m : List ℕ) (k : ℕ) → k < word m ORDERS → get_or (deco
 unfolding decode
 order_here m k h = orders_at_lem (orders_part m) (word m ORDERS) k h
 
-module _ (m : List ℕ) (s : sound_in m ≡ true) (n : ℕ) where
-  few : word m ORDERS ≤ 256
-  few = (sound_readable m s).orders_to
-
+module _ (m : List ℕ) (few : word m ORDERS ≤ 256) (n : ℕ) where
   number_here : (k : ℕ) → k < word m ORDERS → (get_or (decode m).orders k no_order).number ≡ word m (order_place k)
-  number_here k h = ap (λ (o : OpenOrder). o.number) (order_here m k h) ∙ order_word m (6 * k) (omega (arith, few))
+  number_here k h = ap (λ (o : OpenOrder). o.number) (order_here m k h) ∙ order_word m (6 * k) (omega arith)
 
-  -- no order has the number
-  pub order_absent : ((k : ℕ) → k < word m ORDERS → word m (order_place k) ≡ n → ⊥) → orders_of (decode m) n ≡ []
-  order_absent h =
-      number_none (λ (o : OpenOrder). o.number) (decode m).orders no_order refl (sound_rises m s).1 n
-      (λ i l e. let u : i < word m ORDERS = omega (arith, orders_held m) in h i u (sym (number_here i u) ∙ e))
+  unit_here : (k : ℕ) → k < word m ORDERS → (get_or (decode m).orders k no_order).unit ≡ word m (order_place k + UNIT)
+  unit_here k h = ap (λ (o : OpenOrder). o.unit) (order_here m k h) ∙ order_word m (6 * k + 1) (omega arith) ∙ ap (word m) (omega arith)
 
+  -- the checks
+  module _ (u : ℕ) (h : In 1 (word m UNITS) u) where
+    pub cancel_absent : OrderFound m n None → 11 ≡ first_refusal (cancel_checks (decode m) u n)
+    unfolding first_refusal
+    cancel_absent f =
+        let t = none_kept (λ (o : OpenOrder). o.number) no_order (decode m).orders _ _ (orders_held m) number_here n f in
+        rw (units_held m) (rw (inside 1 (word m UNITS) u h, t) refl)
+
+    module _ (k : ℕ) (f : OrderHas m n k) where
+      by_unit : (order_open (decode m) n && eqb (order_of (decode m) n).unit u) ≡ eqb (word m (order_place k + UNIT)) u
+      by_unit =
+          let t = first_kept (λ (o : OpenOrder). o.number) no_order (decode m).orders _ _ (orders_held m) number_here n k f in
+          rw (t.1, ap (λ (o : OpenOrder). o.unit) t.0 ∙ unit_here k f.there) refl
+
+      pub cancel_other : (word m (order_place k + UNIT) ≡ u → ⊥) → 11 ≡ first_refusal (cancel_checks (decode m) u n)
+      unfolding first_refusal
+      cancel_other ne = rw (units_held m) (rw (inside 1 (word m UNITS) u h, by_unit, ne_eqb (word m (order_place k + UNIT)) u ne) refl)
+
+      pub cancel_passes : word m (order_place k + UNIT) ≡ u → 0 ≡ first_refusal (cancel_checks (decode m) u n)
+      unfolding first_refusal
+      cancel_passes g = rw (units_held m) (rw (inside 1 (word m UNITS) u h, by_unit, eq-eqb (word m (order_place k + UNIT)) u g) refl)
+
+module _ (m : List ℕ) (s : sound_in m ≡ true) (n : ℕ) where
   -- the order at place k has it
   module _ (k : ℕ) (hk : k < word m ORDERS) (e : word m (order_place k) ≡ n) where
     inside_list : k < length (decode m).orders
     inside_list = omega (arith, orders_held m, hk)
 
-    pub order_found : orders_of (decode m) n ≡ order_at (orders_part m) k ∷ []
-    order_found =
-        number_kept (λ (o : OpenOrder). o.number) (decode m).orders no_order refl (sound_rises m s).1 n k inside_list (number_here k hk ∙ e)
-        ∙ ap (λ (o : OpenOrder). o ∷ []) (order_here m k hk)
-
     pub order_gone : keep (λ (o : OpenOrder). not (eqb o.number n)) (decode m).orders ≡ take k (decode m).orders ++ drop (k + 1) (decode m).orders
-    order_gone = number_gone (λ (o : OpenOrder). o.number) (decode m).orders no_order refl (sound_rises m s).1 n k inside_list (number_here k hk ∙ e)
-
-  -- the checks
-  module _ (u : ℕ) where
-    pub cancel_absent : In 1 (word m UNITS) u → ((k : ℕ) → k < word m ORDERS → word m (order_place k) ≡ n → ⊥) → 11 ≡ first_refusal (cancel_checks (decode m) u n)
-    unfolding first_refusal
-    cancel_absent h a = rw (units_held m) (rw (inside 1 (word m UNITS) u h, order_absent a) refl)
-
-    pub cancel_other : In 1 (word m UNITS) u → (k : ℕ) → k < word m ORDERS → word m (order_place k) ≡ n → (word m (order_place k + UNIT) ≡ u → ⊥) → 11
-        ≡ first_refusal (cancel_checks (decode m) u n)
-    unfolding first_refusal
-    cancel_other h k hk e ne =
-        let w : get_or (orders_part m) (6 * k + 1) 0 ≡ word m (order_place k + UNIT) = order_word m (6 * k + 1) (omega (arith, few)) ∙ ap (word m) (omega arith) in
-        rw (units_held m) (rw (inside 1 (word m UNITS) u h, order_found k hk e, w, ne_eqb (word m (order_place k + UNIT)) u ne) refl)
-
-    pub cancel_passes : In 1 (word m UNITS) u → (k : ℕ) → k < word m ORDERS → word m (order_place k) ≡ n → word m (order_place k + UNIT) ≡ u → 0
-        ≡ first_refusal (cancel_checks (decode m) u n)
-    unfolding first_refusal
-    cancel_passes h k hk e g =
-        let w : get_or (orders_part m) (6 * k + 1) 0 ≡ word m (order_place k + UNIT) = order_word m (6 * k + 1) (omega (arith, few)) ∙ ap (word m) (omega arith) in
-        rw (units_held m) (rw (inside 1 (word m UNITS) u h, order_found k hk e, w, eq-eqb (word m (order_place k + UNIT)) u g) refl)
+    order_gone = number_gone (λ (o : OpenOrder). o.number) (decode m).orders no_order refl (sound_rises m s).1 n k inside_list
+        (number_here m (sound_readable m s).orders_to n k hk ∙ e)
 
 -- the memory after the order at place k is removed and one order fewer is counted
 module _ (m ys : List ℕ) (n k : ℕ) (s : sound_in m ≡ true) (hk : k < word m ORDERS) (e : word m (order_place k) ≡ n) (same : length ys ≡ orders_words)

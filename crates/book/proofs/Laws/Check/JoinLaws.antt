@@ -1,5 +1,5 @@
 -- The fit of a unit in memory is that of the decoded book.
-use Rattle.std.proofs.Common.{◌≡◌, ℕ, ◌+◌, ◌-◌, ◌<◌, ◌≤◌, Bool, true, false, cond, ◌&&◌, eqb, leb, List, get_or, sym, refl, ap, ◌∙◌, arith}
+use Rattle.std.proofs.Common.{◌≡◌, ℕ, ◌+◌, ◌-◌, ◌<◌, ◌≤◌, Bool, true, false, cond, ◌&&◌, eqb, leb, List, ◌++◌, length, get_or, take, drop, sym, refl, ap, ◌∙◌, arith}
 use Rattle.measures.specs.Lists.{holds, sum, every, all}
 use Rattle.measures.proofs.RangeLaws.{In}
 use Rattle.measures.proofs.ListLaws.{all_ext, sum_ext, sum_of-table, every-table, table_at}
@@ -26,9 +26,12 @@ use Rattle.book.specs.Fit.{
 }
 use Rattle.book.specs.Layout.{DAYS, UNITS, OFFERS, ORDERS, unit_place, offer_place, UNIT, figure_place, LOWERED, word, figures_at}
 use Rattle.book.specs.Layout.{amount_at, offer_at, orders_part, decode}
-use Rattle.book.specs.Inner.Readable.{marks_in, unit_whole, declared, misfit_of, Fitted}
+use Rattle.book.specs.Inner.Readable.{Readable, marks_in, unit_whole, declared, misfit_of, Fitted}
 use Rattle.book.specs.Inner.Fitting.{Added, order_share, offer_share, mark_holds, hour_holds, term_part, volume_part, term_at, volume_at}
 use Rattle.book.specs.Inner.Fitting.{unit_holds, UnitCame}
+use Rattle.book.specs.Inner.Whole.{BothAdded}
+use Rattle.book.specs.declared.pass.Amounts.{Amounts}
+use Rattle.book.proofs.Laws.Check.ShareLaws.{added_first}
 use Rattle.book.proofs.Laws.Memory.RangeFacts.{unit_at_lem, order_word_at}
 
 -- the direction that raises a unit of a kind, and the one that lowers it
@@ -192,12 +195,32 @@ direction_other true direction e = omega arith
 direction_other false direction e = omega arith
 
 -- the passes over offers and orders, and then over the periods
-pub fitted_all : (m : List ℕ) (u direction : ℕ) (l x y k z : List ℕ) (g e f r : ℕ) → In 1 (word m UNITS) u → word m ORDERS ≤ 256 → direction
-    ≡ cond (generator (unit_of (decode m) u).kind) 0 1
-    → Added (periods (word m DAYS)) l x (λ p. sum (word m OFFERS) (λ j. offer_share m u j p)) g
-    → Added (periods (word m DAYS)) x y (λ p. sum (word m ORDERS) (λ i. order_share m u direction i p)) e
-    → Added (periods (word m DAYS)) k z (λ p. sum (word m ORDERS) (λ i. order_share m u (1 - direction) i p)) f
-    → UnitCame m (u - 1) (λ p. get_or y p 0) (λ p. get_or z p 0) r → Fitted (decode m) u (declared l k) r
-fitted_all m u direction l x y k z g e f r h few w a b c =
-    fitted m u h (declared l k) (λ p. get_or y p 0) (λ p. get_or z p 0) (raising_open m u h few l x y g e direction w a b)
-    (lowering_open m u h few k z f (1 - direction) (direction_other (generator (unit_of (decode m) u).kind) direction w) c) r
+pub fitted_all : (m : List ℕ) (u direction : ℕ) (a b : Amounts 744) (x : List ℕ) (g e r : ℕ) → In 1 (word m UNITS) u → Readable m
+    → length a.raising ≡ 744
+    → direction ≡ cond (generator (unit_of (decode m) u).kind) 0 1
+    → Added (length (take (periods (word m DAYS)) a.raising)) (take (periods (word m DAYS)) a.raising) x
+    (λ p. sum (word m OFFERS) (λ j. offer_share m u j (0 + p))) g
+    → BothAdded 744 (record { raising = x ++ drop (periods (word m DAYS)) a.raising; lowering = a.lowering }) b
+    (λ p. sum (word m ORDERS) (λ i. order_share m u direction i p)) (λ p. sum (word m ORDERS) (λ i. order_share m u (1 - direction) i p)) e
+    → UnitCame m (u - 1) (λ p. get_or b.raising p 0) (λ p. get_or b.lowering p 0) r → Fitted (decode m) u (declared a.raising a.lowering) r
+fitted_all m u direction a b x g e r h d long w o s =
+    fitted m u h (declared a.raising a.lowering) (λ p. get_or b.raising p 0) (λ p. get_or b.lowering p 0)
+    (raising_open m u h d.orders_to a.raising (x ++ drop (periods (word m DAYS)) a.raising) b.raising g e direction w
+    (whole (added_first (periods (word m DAYS)) a.raising x _ g (omega arith) o)) (fewer s.raising))
+    (lowering_open m u h d.orders_to a.lowering b.lowering e (1 - direction) (direction_other (generator (unit_of (decode m) u).kind) direction w)
+    (fewer s.lowering)) r
+  where
+    days : word m DAYS ≤ 31
+    days = d.days_to
+
+    whole : {l y : List ℕ} {k : ℕ} → Added (periods (word m DAYS)) l y (λ p. sum (word m OFFERS) (λ j. offer_share m u j (0 + p))) k
+        → Added (periods (word m DAYS)) l y (λ p. sum (word m OFFERS) (λ j. offer_share m u j p)) k
+    whole c =
+        record {
+          long = c.long;
+          each = λ p q. let z : 0 + p ≡ p = omega arith in rw z at (c.each p q);
+          grown = c.grown;
+        }
+
+    fewer : {l y : List ℕ} {f : ℕ → ℕ} {k : ℕ} → Added 744 l y f k → Added (periods (word m DAYS)) l y f k
+    fewer c = record { long = c.long; each = λ p q. c.each p (let z = days in omega arith); grown = c.grown }

@@ -3,7 +3,8 @@ use Rattle.std.proofs.Common.{◌≡◌, ℕ, zero, suc, ◌+◌, ◌-◌, ◌*�
 use native.Mathlib.Decide.{dec_lt}
 use Rattle.measures.specs.Lists.{sum}
 use Rattle.measures.proofs.ListLaws.{sum_none, sum_more, sum_ext}
-use Rattle.book.specs.Inner.Pass.{Same, Low, Joined, Cell, Fits, CellsFit, Pass, Limited, Together}
+use Rattle.book.specs.Inner.Pass.{Same, Low, Joined, Cell, Fits, CellsFit, Pass, Passed, Limited, Together}
+use Rattle.book.specs.declared.pass.Sums.{Sums}
 use Rattle.book.proofs.Laws.Check.CellLaws.{joined-low, joined_marks}
 
 -- a sum over n + b numbers is that over n and that over the b that follow
@@ -195,10 +196,9 @@ pass_ext n f g bad marks whole volume e p =
     }
 
 -- one day more
-pub days_more : (f : ℕ → Cell) → Limited f → (d bad marks whole volume bad₂ marks₂ whole₂ volume₂ bad' marks' whole' volume' : ℕ) → d < 31
-    → Pass (24 * d) f bad marks whole volume → Pass 24 (λ h. f (24 * d + h)) bad₂ marks₂ whole₂ volume₂
-    → Together bad marks whole volume bad₂ marks₂ whole₂ volume₂ bad' marks' whole' volume' → Pass (24 * (d + 1)) f bad' marks' whole' volume'
-days_more f l d bad marks whole volume bad₂ marks₂ whole₂ volume₂ bad' marks' whole' volume' few p q j =
+pub days_more : (f : ℕ → Cell) → Limited f → (d : ℕ) (a b r : Sums) → d < 31 → Passed (24 * d) f a
+    → Passed 24 (λ h. f (24 * d + h)) b → Together a b r → Passed (24 * (d + 1)) f r
+days_more f l d a b r few p q j =
     let e : 24 * (d + 1) ≡ 24 * d + 24 = omega arith in
-    rw e (pass_join (24 * d) f bad marks whole volume (omega arith) l p 24 (λ h. f (24 * d + h)) bad₂ marks₂ whole₂ volume₂ bad' marks' whole' volume'
-    (omega arith) (λ i h. refl) q j.faults j.marked j.term j.most)
+    rw e (pass_join (24 * d) f _ _ _ _ (omega arith) l p 24 (λ h. f (24 * d + h)) _ _ _ _ _ _ _ _ (omega arith) (λ i h. refl) q
+    j.faults j.marked j.term j.most)

@@ -3,6 +3,10 @@ use Rattle.std.proofs.Common.{◌≡◌, ℕ, zero, suc, ◌+◌, ◌-◌, ◌*�
 use Rattle.std.proofs.Common.{sym, ap, ◌∙◌, add-zero, arith, length-drop, length-set, length-take-le, get_or-drop, get_or-take}
 use Rattle.std.proofs.Common.{get_or-set_other, get_or-set_same}
 use Rattle.std.proofs.Common.{eq-eqb, ne_eqb}
+use Rattle.std.proofs.Common.{◌++◌}
+use Rattle.std.proofs.Math.ListN.{get_or-append}
+use Rattle.std.proofs.Math.Seq.{length_front}
+use Rattle.std.proofs.lemmas.List.{get_or-append_right}
 use native.Mathlib.Decide.{ℕ_discrete, dec_lt}
 use Rattle.measures.specs.Ranges.{most_energy}
 use Rattle.measures.specs.Lists.{sum}
@@ -26,17 +30,17 @@ order_words_lem m k r h =
     order_facts m k (omega arith) (all_at (word m ORDERS) _ k (sym (orders_every m) ∙ r.orders) h)
 
 -- where an order's words lie
-pub period_in : (m : List ℕ) (k : ℕ) → Ranged m → k < word m ORDERS → word m (order_place k + PERIOD) < periods (word m DAYS)
-period_in m k r h = (order_words_lem m k r h).period
+pub order_period_in : (m : List ℕ) (k : ℕ) → Ranged m → k < word m ORDERS → word m (order_place k + PERIOD) < periods (word m DAYS)
+order_period_in m k r h = (order_words_lem m k r h).period
 
-pub unit_in : (m : List ℕ) (k : ℕ) → Ranged m → k < word m ORDERS
+pub order_unit_in : (m : List ℕ) (k : ℕ) → Ranged m → k < word m ORDERS
     → (1 ≤ word m (order_place k + UNIT)) × (word m (order_place k + UNIT) ≤ word m UNITS)
-unit_in m k r h = (order_words_lem m k r h).unit
+order_unit_in m k r h = (order_words_lem m k r h).unit
 
-pub quantity_in : (m : List ℕ) (k : ℕ) → Ranged m → k < word m ORDERS → word m (order_place k + QUANTITY) ≤ most_energy
-quantity_in m k r h = (order_words_lem m k r h).quantity.1
+pub order_quantity_in : (m : List ℕ) (k : ℕ) → Ranged m → k < word m ORDERS → word m (order_place k + QUANTITY) ≤ most_energy
+order_quantity_in m k r h = (order_words_lem m k r h).quantity.1
 
-pub ruleset order_ranges = (period_in, unit_in, quantity_in)
+pub ruleset order_ranges = (order_period_in, order_unit_in, order_quantity_in)
 
 offer_words_lem : (m : List ℕ) (j : ℕ) → Ranged m → j < word m OFFERS → OfferWords m j
 offer_words_lem m j r h = offer_facts m j (all_at (word m OFFERS) _ j (sym (offers_every m) ∙ r.offers) h)
@@ -95,12 +99,6 @@ module _ (m : List ℕ) (u direction k : ℕ) where
     unfolding order_share
     share_elsewhere p q = rw (eq-eqb _ _ e, ne_eqb _ _ q)
 
-    pub order_added : (n : ℕ) (l : List ℕ) → word m (order_place k + PERIOD) < length l → word m (order_place k + QUANTITY) ≤ most_energy
-        → Added n l (set l (word m (order_place k + PERIOD)) (get_or l (word m (order_place k + PERIOD)) 0 + word m (order_place k + QUANTITY)))
-        (order_share m u direction k) most_energy
-    order_added n l h s = placed n l (word m (order_place k + PERIOD)) (word m (order_place k + QUANTITY)) (order_share m u direction k) h s (share_there _ refl)
-        (λ p w. share_elsewhere p (λ z. w (sym z)))
-
 -- the amounts below p are added, the others not yet
 pub record Adding (l x : List ℕ) (f : ℕ → ℕ) (p : ℕ) : Type 0 where
   pub long : length x ≡ length l
@@ -132,22 +130,54 @@ module _ (m : List ℕ) (j p a b : ℕ) (r : Ranged m) (h : j < word m OFFERS) (
           omega arith
       go (no l) = let t = get_d_past part i (rw part_long (omega arith)) in omega arith
 
-  pub part_asks : (l : List ℕ) → b - a ≤ length l → Below 2_000_000_000_000 l
-      → (length part ≤ length l) × Below most_energy part × Below 2_000_000_000_000 l
-  part_asks l n s = (rw part_long n, part_small, s)
+  pub part_asks : (l : List ℕ) → b - a ≡ length l → Below 2_000_000_000_000 l
+      → (length part ≡ length l) × Below most_energy part × Below 2_000_000_000_000 l
+  part_asks l n s = (part_long ∙ n, part_small, s)
 
-  pub part_added : (n : ℕ) (l x : List ℕ) (s : ℕ → ℕ) → n ≡ b - a → Added (length part) l x (λ i. get_or part i 0) most_energy
-      → ((i : ℕ) → i < n → s i ≡ word m (a + i)) → Added n l x s most_energy
+  pub part_added : (n : ℕ) (l x : List ℕ) (s : ℕ → ℕ) → n ≡ b - a → Added n l x (λ i. get_or part i 0) most_energy
+      → ((i : ℕ) → i < n → s i ≡ amount_at m j (p + i)) → Added n l x s most_energy
   part_added n l x s e w q =
       record {
         long = w.long;
         each = λ i k.
-            let t = w.each i (rw part_long (omega arith)) in
+            let t = w.each i k in
             let u = part_at i (omega arith) in
             let v = q i k in
+            let e : word m (a + i) ≡ amount_at m j (p + i) = ap (λ (k : ℕ). word m k) (omega arith) in
             omega arith;
         grown = w.grown;
       }
+
+-- amounts added to the first n
+pub added_first : (n : ℕ) (l x : List ℕ) (f : ℕ → ℕ) (g : ℕ) → n ≤ length l → Added (length (take n l)) (take n l) x f g
+    → Added n l (x ++ drop n l) f g
+added_first n l x f g room a =
+    record { long = length_front l x n a.long; each = each; grown = λ p. grown p (dec_lt p n) }
+  where
+    front : length (take n l) ≡ n
+    front = length-take-le n l room
+
+    long : length x ≡ n
+    long = a.long ∙ front
+
+    each : (p : ℕ) → p < n → get_or (x ++ drop n l) p 0 ≡ get_or l p 0 + f p
+    each p h =
+        let t = get_or-append x (drop n l) 0 p (omega (arith, long)) in
+        let u = a.each p (omega (arith, front)) in
+        let v = get_or-take n l p 0 h in
+        omega arith
+
+    grown : (p : ℕ) → Dec (p < n) → get_or (x ++ drop n l) p 0 ≤ get_or l p 0 + g
+    grown p (yes h) =
+        let t = get_or-append x (drop n l) 0 p (omega (arith, long)) in
+        let u = a.grown p in
+        let v = get_or-take n l p 0 h in
+        omega arith
+    grown p (no h) =
+        let t = get_or-append_right x (drop n l) n p 0 long (omega arith) in
+        let u = get_or-drop n l (p - n) 0 in
+        let e : get_or l (n + (p - n)) 0 ≡ get_or l p 0 = ap (λ (i : ℕ). get_or l i 0) (omega arith) in
+        omega arith
 
 -- the share of an offer, by cases
 module _ (m : List ℕ) (u j : ℕ) where

@@ -396,8 +396,6 @@ module _ (m : List ℕ) (g : Ranged m) (k : ℕ) (h : k < word m ORDERS) (high l
             price_entered (omega arith) (omega arith) (omega arith) (ℕ_discrete d 1) (dec_lt price (get_or high p 0)) (dec_lt price (get_or low p 0));
       }
 
-pub ruleset crossings = (buy_test, sell_test)
-
 -- an order that stands, or does not
 module _ (m : List ℕ) (k : ℕ) (high low : List ℕ) where
   pub stands_not : (r : Bool) → r ≡ all k (λ j. one_direction (order_in m k) (order_in m j)) → r ≡ false → OrderStands m k false high low

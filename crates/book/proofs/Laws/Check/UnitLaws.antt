@@ -1,48 +1,50 @@
 -- The hour limits of a unit, and the pass over its days.
-use Rattle.std.proofs.Common.{◌≡◌, ℕ, ◌+◌, ◌*◌, ◌<◌, ◌≤◌, List, length, get_or, set, sym, ap, ◌∙◌, arith, length-set, get_or-set_other}
-use Rattle.std.proofs.Common.{get_or-set_same}
-use native.Mathlib.Decide.{ℕ_discrete}
+use Rattle.std.proofs.Common.{◌≡◌, ℕ, ◌+◌, ◌*◌, ◌<◌, ◌≤◌, List, length, sym, ap, ◌∙◌, arith}
+use Rattle.std.proofs.Common.{zero, suc, slice_index}
+use Rattle.std.specs.Fn.{Mut, Called}
+use Rattle.std.specs.Array.{IsFromFnResultFrom}
+use native.Mathlib.Decide.{ℕ_discrete, dec_lt}
 use Rattle.limits.specs.Limits.{hour_of, hour_limit}
 use Rattle.limits.proofs.LimitLaws.{hour_most}
-use Rattle.book.specs.Layout.{DAYS, UNITS, unit_place, CAPACITY, block_words, day_place, word}
+use Rattle.book.specs.Layout.{UNITS, unit_place, CAPACITY, day_place, word}
 use Rattle.book.specs.Inner.Readable.{Ranged}
 use Rattle.book.specs.Inner.Fitting.{Below}
 use Rattle.book.specs.Inner.Pass.{Pass, cell_at, day_cell, unit_cell, Limited, HourLimits, HourTable}
 use Rattle.book.proofs.Laws.Check.BoundLaws.{unit_words}
+use Rattle.book.proofs.Laws.Check.ShareLaws.{get_d_past}
 use Rattle.book.proofs.Laws.Check.PassLaws.{pass_ext}
 
--- what the pass over day d asks of the figures and the hour limits
-pub day_asks : (m : List ℕ) (k d : ℕ) (limits : List ℕ) → Ranged m → k < word m UNITS → d < word m DAYS → HourTable m k limits
-    → (day_place d k + block_words ≤ length m) × (day_place d k < 1_000_000) × Below 5_000_000 limits
-day_asks m k d limits r h l t =
-    let n = r.readable in
-    let few = n.units_to in
-    let days = n.days_to in
-    let long = n.long in (
-      omega arith,
-      omega arith,
-      λ i.
-          let a = t.below i in
-          let b = (unit_words m k r h).capacity.1 in
-          omega arith,
-    )
+-- no hour limit of a unit passes the largest capacity
+pub limits_small : (m : List ℕ) (k : ℕ) (limits : List ℕ) → Ranged m → k < word m UNITS → HourTable m k limits → Below 5_000_000 limits
+limits_small m k limits r h t i =
+    let a = t.below i in
+    let b = (unit_words m k r h).capacity.1 in
+    omega arith
 
--- one hour limit more
-pub limits_more : (kind capacity n : ℕ) (l : List ℕ) (v : ℕ) → n < 24 → HourLimits kind capacity n l → v ≡ hour_limit kind capacity n
-    → HourLimits kind capacity (n + 1) (set l n v)
-limits_more kind capacity n l v few t e =
-    record { each = λ h k. each h k (ℕ_discrete h n); below = λ h. below h (ℕ_discrete h n); long = simp length-set t.long }
-  where
-    room : n < length l
-    room = omega (arith, t.long)
+-- the hour limits that a function of the hour gave, hour by hour
+module _ (kind capacity : ℕ) {F : Type 0} (g : Mut F (ℕ × Unit {0}) ℕ) (f : F) (l : List ℕ)
+    (gives : (i y : ℕ) (q : F) → Called g f (i, tt) y q → (q ≡ f) × (y ≡ hour_limit kind capacity i)) where
+  made_each : (i n : ℕ) → IsFromFnResultFrom g f l i n → (h : ℕ) → i ≤ h → h < i + n → slice_index l h ≡ hour_limit kind capacity h
+  made_each i zero t h from to = absurd (omega arith)
+  made_each i (suc n) (q, y, e, s, t) h from to =
+      let later = made_each (i + 1) n (rw (gives i y q s).0 at t) h in go (ℕ_discrete h i) later
+    where
+      go : Dec (h ≡ i) → (i + 1 ≤ h → h < i + 1 + n → slice_index l h ≡ hour_limit kind capacity h)
+          → slice_index l h ≡ hour_limit kind capacity h
+      go (yes w) later = rw w (e.1 0 ∙ (gives i y q s).1)
+      go (no w) later = later (omega arith) (omega arith)
 
-    each : (h : ℕ) → h < n + 1 → Dec (h ≡ n) → get_or (set l n v) h 0 ≡ hour_limit kind capacity h
-    each h k (yes q) = rw q (get_or-set_same l n v 0 room ∙ e)
-    each h k (no q) = get_or-set_other l n h v 0 q ∙ t.each h (omega arith)
-
-    below : (h : ℕ) → Dec (h ≡ n) → get_or (set l n v) h 0 ≤ capacity
-    below h (yes q) = rw (q, get_or-set_same l n v 0 room, e) (hour_most kind capacity n)
-    below h (no q) = rw (get_or-set_other l n h v 0 q) (t.below h)
+  pub limits_made : length l ≡ 24 → IsFromFnResultFrom g f l 0 24 → HourLimits kind capacity 24 l
+  limits_made long t =
+      record {
+        each = λ h k. made_each 0 24 t h (omega arith) (omega arith);
+        below = λ h. below h (dec_lt h 24);
+        long = long;
+      }
+    where
+      below : (h : ℕ) → Dec (h < 24) → slice_index l h ≤ capacity
+      below h (yes k) = rw (made_each 0 24 t h (omega arith) (omega arith)) (hour_most kind capacity h)
+      below h (no k) = rw (get_d_past l h (omega (arith, long))) (omega arith)
 
 cell_ext : (m : List ℕ) (i i' l l' x x' y y' : ℕ) → i ≡ i' → l ≡ l' → x ≡ x' → y ≡ y' → cell_at m i l x y ≡ cell_at m i' l' x' y'
 cell_ext m i i' l l' x x' y y' ei el ex ey = rw (ei, el, ex, ey)

@@ -1,6 +1,6 @@
 -- What the pass over all periods of a unit says of its fit.
 use Rattle.std.proofs.Common.{◌≡◌, ℕ, ◌+◌, ◌<◌, ◌≤◌, Bool, true, false, cond, eqb, ltb, leb, List, refl, sym, arith, ltb-true, ltb-false}
-use Rattle.std.proofs.Common.{le-leb, leb-true}
+use Rattle.std.proofs.Common.{le-leb, leb-true, le-ltb, lt-ltb}
 use borrow.Author.Tests.{lt-leb}
 use Rattle.measures.specs.Lists.{sum, all}
 use Rattle.measures.proofs.ListLaws.{false_by, not_both, and_true, and_left, and_right, all_true, holds-all, all_at, all_by, sum_at}
@@ -9,14 +9,33 @@ use Rattle.limits.specs.Limits.{hour_of, hour_limit}
 use Rattle.book.specs.Refusals.{first_refusal}
 use Rattle.book.specs.Layout.{DAYS, UNITS, unit_place, CAPACITY, figure_place, RAISED, LOWERED, MARK, VOLUME, word}
 use Rattle.book.specs.Inner.Readable.{Ranged}
-use Rattle.book.specs.Inner.Fitting.{mark_holds, hour_holds, term_part, volume_part, term_at, volume_at, unit_holds, SumsCame, UnitCame}
+use Rattle.book.specs.Inner.Fitting.{mark_holds, hour_holds, term_part, volume_part, term_at, volume_at, unit_holds, most_low, SumsCame, UnitCame}
 use Rattle.book.specs.Inner.Pass.{Low, UnitPass, unit_cell}
+use Rattle.book.specs.declared.pass.Sums.{Sums}
 use Rattle.book.proofs.Laws.Check.BoundLaws.{volume_at-most}
 
 -- marks and volumes in range
 pub record Tidy (m : List ℕ) (k : ℕ) : Type 0 where
   pub marks : all (periods (word m DAYS)) (mark_holds m k) ≡ true
   pub traded : (p : ℕ) → p < periods (word m DAYS) → Low (word m (figure_place k p + VOLUME))
+
+-- what the sums come to where an hour is a fault, and where none is
+pub hour_past : (m : List ℕ) (k : ℕ) (s : Sums) → most_low < s.bad → SumsCame m k s 19
+unfolding first_refusal
+hour_past m k s h = rw (lt-ltb most_low s.bad h)
+
+module _ (m : List ℕ) (k : ℕ) (s : Sums) (low : s.bad ≤ most_low) where
+  pub term_past : term_at m k < s.whole → SumsCame m k s 20
+  unfolding first_refusal
+  term_past h = rw (le-ltb most_low s.bad low, lt-ltb _ _ h)
+
+  pub volume_past : s.whole ≤ term_at m k → volume_at m k < s.volume → SumsCame m k s 21
+  unfolding first_refusal
+  volume_past t h = rw (le-ltb most_low s.bad low, le-ltb _ _ t, lt-ltb _ _ h)
+
+  pub nothing_past : s.whole ≤ term_at m k → s.volume ≤ volume_at m k → SumsCame m k s 0
+  unfolding first_refusal
+  nothing_past t v = rw (le-ltb most_low s.bad low, le-ltb _ _ t, le-ltb _ _ v)
 
 module _ (m : List ℕ) (k : ℕ) (x y : ℕ → ℕ) where
   abbrev n : ℕ
@@ -85,7 +104,19 @@ module _ (m : List ℕ) (k : ℕ) (x y : ℕ → ℕ) where
     unfolding mark_holds
     tidy t = let w = facts t in record { marks = all_by _ _ (λ p h. le-leb _ _ (w.marks p h)); traded = traded-low w }
 
-    module _ (bad marks whole volume : ℕ) (p : UnitPass m k x y bad marks whole volume) where
+    module _ (s : Sums) (p : UnitPass m k x y s) where
+      abbrev bad : ℕ
+      bad = s.bad
+
+      abbrev marks : ℕ
+      marks = s.marks
+
+      abbrev whole : ℕ
+      whole = s.whole
+
+      abbrev volume : ℕ
+      volume = s.volume
+
       low_by : ((i : ℕ) → i < n → HourFacts i) → ((i : ℕ) → i < n → Low (word m (figure_place k i + VOLUME))) → Low bad
       unfolding unit_cell
       low_by f t = p.faults.back (record { cells = λ i h. record { most = (f i h).0; least = (f i h).1; traded = t i h } })
@@ -168,7 +199,7 @@ module _ (m : List ℕ) (k : ℕ) (x y : ℕ → ℕ) where
               omega arith)
 
       -- what the sums come to decides
-      module _ (q : ℕ) (came : SumsCame m k bad whole volume q) where
+      module _ (q : ℕ) (came : SumsCame m k s q) where
         pub sums_decide : marks ≤ 3 → eqb q 0 ≡ unit_holds m k x y
         unfolding first_refusal
         sums_decide h =

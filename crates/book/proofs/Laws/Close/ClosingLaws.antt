@@ -1,85 +1,90 @@
 -- Laws of closing the day in memory: hour by hour of a unit's day, unit by unit, day by day.
-use Rattle.std.proofs.Common.{◌≡◌, ℕ, ◌+◌, ◌-◌, ◌*◌, ◌^◌, ◌<◌, ◌≤◌, List, length, set, sym, refl, ap, ◌∙◌, arith}
-use native.Mathlib.Decide.{ℕ_discrete}
+use Rattle.std.proofs.Common.{◌≡◌, ℕ, ◌+◌, ◌-◌, ◌*◌, ◌^◌, ◌<◌, ◌≤◌, List, [], ◌∷◌, ◌++◌, All, length, take, drop, set, slice_range, sym, refl, ap, ◌∙◌, arith}
+use Rattle.std.proofs.Common.{length-set, get_or-set_other, get_or-set_same}
+use Rattle.std.proofs.lemmas.List.{length-take, length-drop, get_or-take, get_or-drop}
+use Rattle.std.proofs.lemmas.List.Elements.{All-get_or, All-push}
+use native.Mathlib.Decide.{ℕ_discrete, dec_lt}
 use Rattle.book.specs.Inner.Readable.{Readable}
 use Rattle.book.specs.Inner.Closing.{hours, Untraded, BlockNetted, BlockOver, BlockClosed, DayNetted, DayOver, DaysOver}
 use Rattle.book.specs.Layout.{DAYS, UNITS, OFFERS, ORDERS, block_words, day_place, RAISED, LOWERED, MARK, VOLUME, word}
 use Rattle.book.specs.Inner.Pass.{Joined}
-use Rattle.book.proofs.Laws.Memory.RunLaws.{FourSet, four_set}
+use Rattle.book.specs.Inner.Runs.{Emptied}
 
-module _ (m x : List ℕ) (at h : ℕ) (g : BlockClosed m x at h) (hh : h < hours) where
-  -- this hour's figures are as they were
-  pub hour_kept : (f i : ℕ) → i ≡ at + h + hours * f → word x i ≡ word m i
-  hour_kept f i e = g.kept i (λ c j hc hj z. omega arith)
+-- x has of the figures that begin at a place, in the first n hours, the nets of those of m, and all else as it was
+pub record HeldNetted (m x : List ℕ) (at n : ℕ) : Type 0 where
+  pub long : length x ≡ length m
+  pub held : (h : ℕ) → h < n → word x (at + h) ≡ word m (at + h) + word m (at + h + RAISED) - word m (at + h + LOWERED)
+  pub kept : (i : ℕ) → ((h : ℕ) → h < n → i ≡ at + h → ⊥) → word x i ≡ word m i
 
-  module _ (fits : at + block_words ≤ length m) where
-    abbrev y : List ℕ
-    y = set (set (set (set x (at + h) (word x (at + h) + word x (at + h + RAISED) - word x (at + h + LOWERED))) (at + h + RAISED) 0) (at + h + LOWERED) 0)
-        (at + h + MARK) 0
+pub held_none : (m : List ℕ) (at : ℕ) → HeldNetted m m at 0
+held_none m at = record { long = refl; held = λ h l. absurd (omega arith); kept = λ i n. refl }
 
-    four : FourSet x y (at + h) (at + h + RAISED) (at + h + LOWERED) (at + h + MARK) (word x (at + h) + word x (at + h + RAISED) - word x (at + h + LOWERED))
-        0 0 0
-    four =
-        four_set x (at + h) (at + h + RAISED) (at + h + LOWERED) (at + h + MARK) _ 0 0 0 (omega arith) (omega arith) (omega arith) (omega (arith, g.long))
+-- one hour more
+module _ (m x : List ℕ) (at h : ℕ) (g : HeldNetted m x at h) (hh : h < hours) where
+  pub hour_kept : (i : ℕ) → at + h ≤ i → word x i ≡ word m i
+  hour_kept i l = g.kept i (λ c hc z. omega arith)
 
-    -- an hour passed before
-    early : (c f i : ℕ) → c < h → f < 5 → i ≡ at + c + hours * f → word y i ≡ word x i
-    early c f i hc hf e = four.other i (λ z. omega arith) (λ z. omega arith) (λ z. omega arith) (λ z. omega arith)
+  abbrev y : List ℕ
+  y = set x (at + h) (word x (at + h) + word x (at + h + RAISED) - word x (at + h + LOWERED))
 
-    -- one hour more
-    pub closed_more : BlockClosed m y at (h + 1)
-    closed_more =
-        record {
-          long = four.long ∙ g.long;
-          over =
-              record {
-                held = λ c l. held c l (ℕ_discrete c h);
-                raised = λ c l. raised c l (ℕ_discrete c h);
-                lowered = λ c l. lowered c l (ℕ_discrete c h);
-                mark = λ c l. mark c l (ℕ_discrete c h);
-                volume = λ c l. volume c l (ℕ_discrete c h);
-              };
-          kept = λ i n. four.other i (λ e. n h 0 (omega arith) (omega arith) (omega arith)) (λ e. n h 1 (omega arith) (omega arith) (omega arith))
-              (λ e. n h 2 (omega arith) (omega arith) (omega arith)) (λ e. n h 3 (omega arith) (omega arith) (omega arith))
-              ∙ g.kept i (λ c f hc hf e. n c f (omega arith) hf e);
-        }
-      where
-        held : (c : ℕ) → c < h + 1 → Dec (c ≡ h) → word y (at + c) ≡ word m (at + c) + word m (at + c + RAISED) - word m (at + c + LOWERED)
-        held c l (yes e) =
-            let a = hour_kept 0 (at + h) (omega arith) in
-            let b = hour_kept 1 (at + h + RAISED) (omega arith) in
-            let d = hour_kept 2 (at + h + LOWERED) (omega arith) in
-            rw e (four.first ∙ rw (a, b, d) refl)
-        held c l (no e) = early c 0 (at + c) (omega arith) (omega arith) (omega arith) ∙ g.over.held c (omega arith)
+  pub held_more : at + block_words ≤ length m → HeldNetted m y at (h + 1)
+  held_more fits =
+      record {
+        long = length-set x (at + h) _ ∙ g.long;
+        held = λ c l. held c l (ℕ_discrete c h);
+        kept = λ i n. get_or-set_other x (at + h) i _ 0 (n h (omega arith)) ∙ g.kept i (λ c hc. n c (omega arith));
+      }
+    where
+      held : (c : ℕ) → c < h + 1 → Dec (c ≡ h) → word y (at + c) ≡ word m (at + c) + word m (at + c + RAISED) - word m (at + c + LOWERED)
+      held c l (yes e) =
+          let a = hour_kept (at + h) (omega arith) in
+          let b = hour_kept (at + h + RAISED) (omega arith) in
+          let d = hour_kept (at + h + LOWERED) (omega arith) in
+          rw e (get_or-set_same x (at + h) _ 0 (omega (arith, g.long)) ∙ rw (a, b, d) refl)
+      held c l (no e) = get_or-set_other x (at + h) (at + c) _ 0 (λ z. omega arith) ∙ g.held c (omega arith)
 
-        raised : (c : ℕ) → c < h + 1 → Dec (c ≡ h) → word y (at + c + RAISED) ≡ 0
-        raised c l (yes e) = rw e four.second
-        raised c l (no e) = early c 1 (at + c + RAISED) (omega arith) (omega arith) (omega arith) ∙ g.over.raised c (omega arith)
-
-        lowered : (c : ℕ) → c < h + 1 → Dec (c ≡ h) → word y (at + c + LOWERED) ≡ 0
-        lowered c l (yes e) = rw e four.third
-        lowered c l (no e) = early c 2 (at + c + LOWERED) (omega arith) (omega arith) (omega arith) ∙ g.over.lowered c (omega arith)
-
-        mark : (c : ℕ) → c < h + 1 → Dec (c ≡ h) → word y (at + c + MARK) ≡ 0
-        mark c l (yes e) = rw e four.fourth
-        mark c l (no e) = early c 3 (at + c + MARK) (omega arith) (omega arith) (omega arith) ∙ g.over.mark c (omega arith)
-
-        volume : (c : ℕ) → c < h + 1 → Dec (c ≡ h) → word y (at + c + VOLUME) ≡ word m (at + c + VOLUME)
-        volume c l (yes e) =
-            rw e (four.other (at + h + VOLUME) (λ z. omega arith) (λ z. omega arith) (λ z. omega arith) (λ z. omega arith)
-            ∙ g.kept (at + h + VOLUME) (λ j f hj hf z. omega arith))
-        volume c l (no e) = early c 4 (at + c + VOLUME) (omega arith) (omega arith) (omega arith) ∙ g.over.volume c (omega arith)
-
--- one word more is 0, where the words so far joined with it are
-pub untraded_more : (m : List ℕ) (at i a r : ℕ) → (a ≡ 0 → Untraded m at i) → Joined a (word m (at + i)) r → r ≡ 0 → Untraded m at (i + 1)
-untraded_more m at i a r u j z c l h = go (ℕ_discrete c i)
+-- the nets stand, and behind them nothing is traded
+pub closed : (m x y : List ℕ) (at : ℕ) → HeldNetted m x at hours → Emptied x (at + RAISED) (at + VOLUME) y → BlockClosed m y at hours
+closed m x y at g e =
+    record {
+      long = e.long ∙ g.long;
+      over =
+          record {
+            held = λ h l. e.before (at + h) (omega arith) ∙ g.held h l;
+            raised = λ h l. e.zeros (at + h + RAISED) (omega arith) (omega arith);
+            lowered = λ h l. e.zeros (at + h + LOWERED) (omega arith) (omega arith);
+            mark = λ h l. e.zeros (at + h + MARK) (omega arith) (omega arith);
+            volume = λ h l. e.behind (at + h + VOLUME) (omega arith) ∙ g.kept (at + h + VOLUME) (λ c hc z. omega arith);
+          };
+      kept = λ i n. kept i n (dec_lt i (at + RAISED)) (dec_lt i (at + VOLUME));
+    }
   where
-    both : (a < 2 ^ 0) × (word m (at + i) < 2 ^ 0)
-    both = (j.below 0).there (omega (arith, z))
+    kept : (i : ℕ) → ((h f : ℕ) → h < hours → f < 4 → i ≡ at + h + hours * f → ⊥) → Dec (i < at + RAISED) → Dec (i < at + VOLUME)
+        → word y i ≡ word m i
+    kept i n (yes l) u = e.before i l ∙ g.kept i (λ h hh z. n h 0 hh (omega arith) (omega arith))
+    kept i n (no l) (no u) = e.behind i (omega arith) ∙ g.kept i (λ h hh z. omega arith)
+    kept i n (no l) (yes u) = between (dec_lt i (at + LOWERED)) (dec_lt i (at + MARK))
+      where
+        between : Dec (i < at + LOWERED) → Dec (i < at + MARK) → word y i ≡ word m i
+        between (yes a) b = absurd (n (i - (at + RAISED)) 1 (omega arith) (omega arith) (omega arith))
+        between (no a) (yes b) = absurd (n (i - (at + LOWERED)) 2 (omega arith) (omega arith) (omega arith))
+        between (no a) (no b) = absurd (n (i - (at + MARK)) 3 (omega arith) (omega arith) (omega arith))
 
-    go : Dec (c ≡ i) → word m (at + c) ≡ 0
-    go (yes e) = rw e (let b = both.1 in omega (arith, b))
-    go (no e) = u (let b = both.0 in omega (arith, b)) c l (omega arith)
+-- words are 0 where they joined are
+pub none_more : (ws : List ℕ) (w a r : ℕ) → (a ≡ 0 → All (λ v. v ≡ 0) ws) → Joined a w r → r ≡ 0 → All (λ v. v ≡ 0) (ws ++ (w ∷ []))
+none_more ws w a r u j z =
+    let both : (a < 2 ^ 0) × (w < 2 ^ 0) = (j.below 0).there (omega (arith, z)) in
+    All-push (λ v. v ≡ 0) ws w (u (let b = both.0 in omega (arith, b))) (let b = both.1 in omega (arith, b))
+
+-- a day is without trades where the words of its trades are 0
+pub untraded : (m : List ℕ) (at : ℕ) → at + block_words ≤ length m → All (λ v. v ≡ 0) (slice_range m (at + RAISED) (at + VOLUME)) → Untraded m at VOLUME
+untraded m at h a i l u =
+    let n = at + VOLUME - (at + RAISED) in
+    let behind = drop (at + RAISED) m in
+    let k : i - RAISED < length (take n behind) = omega (arith, length-take n behind, length-drop (at + RAISED) m) in
+    let e : at + RAISED + (i - RAISED) ≡ at + i = omega arith in
+    ap (word m) (sym e) ∙ sym (get_or-take n behind (i - RAISED) 0 (omega arith) ∙ get_or-drop (at + RAISED) m (i - RAISED) 0)
+    ∙ All-get_or (λ v. v ≡ 0) (take n behind) (i - RAISED) 0 k a
 
 -- a day without trades is closed as it stands
 pub closed_untraded : (m : List ℕ) (at : ℕ) → Untraded m at VOLUME → BlockClosed m m at hours

@@ -19,7 +19,12 @@ use Rattle.measures.proofs.ListLaws.{
   every-table,
   not_both,
 }
-use Rattle.limits.specs.Units.{most_days, most_capacity, periods, kind_in, generator}
+use Rattle.std.proofs.Common.{Result, Ok, Err}
+use Rattle.std.specs.Result.{MatchResult}
+use Rattle.measures.specs.declared.refusals.Refusal.{Refusal}
+use Rattle.limits.specs.declared.Kind.{Kind}
+use Rattle.limits.specs.Kinds.{kind_number, KindOf}
+use Rattle.limits.specs.Units.{most_days, most_capacity, periods, generator}
 use Rattle.matching.specs.Memory.{order_at, orders_in}
 use Rattle.matching.proofs.Laws.Orders.OrderLaws.{orders_length}
 use Rattle.book.specs.Book.{EnrolledUnit, Book, no_unit, unit_of, known, OpenOffer, no_offer}
@@ -188,9 +193,11 @@ offer_at_lem m j h = table_at (word m OFFERS) (offer_at m (word m DAYS)) j no_of
 pub offer_number : (m : List ℕ) (j : ℕ) → j < word m OFFERS → (get_or (decode m).offers j no_offer).number ≡ word m (offer_place j)
 offer_number m j h = ap (λ (o : OpenOffer). o.number) (offer_at_lem m j h)
 
--- a number of no kind is no generator's
-pub no_kind : (n : ℕ) → kind_in n ≡ false → false ≡ generator n
-no_kind n e = sym (outside 1 2 n (λ h. not_both _ (inside 1 4 n (h.0, omega (arith, h.1))) e))
+-- what is answered of the kind of a number, and false where it has none, is answered of the number
+pub kind_answers : (n : ℕ) (r : Result Kind Refusal) (b : Bool) → KindOf n r
+    → MatchResult r (λ k. b ≡ generator (kind_number k)) (λ e. b ≡ false) → b ≡ generator n
+kind_answers n (Ok k) b e h = h ∙ ap generator e
+kind_answers n (Err f) b e h = h ∙ sym (outside 1 2 n (λ i. not_both _ (inside 1 4 n (i.0, omega (arith, i.1))) e.1))
 
 pub kind_at : (m : List ℕ) (u : ℕ) → In 1 (word m UNITS) u → (unit_of (decode m) u).kind ≡ word m (unit_place (u - 1))
 kind_at m u h = ap (λ (x : EnrolledUnit). x.kind) (unit_at_lem m u h)

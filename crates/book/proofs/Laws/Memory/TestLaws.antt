@@ -3,15 +3,13 @@ use Rattle.std.proofs.Common.{◌≡◌, ℕ, ◌<◌, ◌≤◌, Bool, true, fa
 use borrow.Author.Tests.{eqb-false}
 use Rattle.std.proofs.Common.{Result, Ok, Err}
 use Rattle.std.specs.Result.{MatchResult, is_err}
-use Rattle.measures.specs.declared.refusals.Refusal.{Refusal}
 use Rattle.measures.specs.Ranges.{between}
 use Rattle.matching.specs.declared.orders.Direction.{Direction}
 use Rattle.matching.specs.declared.orders.Direction.TheVariants.{Sell, Buy}
-use Rattle.matching.specs.declared.orders.NoDirection.{NoDirection}
 use Rattle.matching.specs.Memory.{direction_number}
 use Rattle.book.specs.declared.phase.Phase.{Phase}
 use Rattle.book.specs.declared.phase.Phase.TheVariants.{Call, Rolling}
-use Rattle.book.specs.Inner.Phases.{phase_number, PhaseOf}
+use Rattle.book.specs.Inner.Phases.{phase_number}
 use Rattle.measures.proofs.RangeLaws.{In, inside, within}
 use Rattle.measures.proofs.ListLaws.{not_both}
 
@@ -37,9 +35,6 @@ module _ {a : ℕ} {r : Bool} where
 
 -- a fact that a test denies
 module _ {a b : ℕ} {r : Bool} where
-  pub deny_below : b ≤ a → r ≡ ltb a b → r ≡ true → ⊥
-  deny_below h e t = let l : a < b = is_below e t in omega arith
-
   pub deny_over : a ≤ b → r ≡ leb a b → r ≡ false → ⊥
   deny_over h e t = let l : b < a = over_most e t in omega arith
 
@@ -60,28 +55,22 @@ pub settles : (r b : Bool) → (r ≡ true → b ≡ true) → (r ≡ false → 
 settles true b h k = sym (h refl)
 settles false b h k = k refl
 
--- a number of no direction, and one of a direction; the same of phases
-module _ (n : ℕ) where
-  pub no_direction : (r : Result Direction NoDirection) → MatchResult r (λ d. n ≡ direction_number d) (λ e. 1 < n) → is_err r ≡ true → 1 < n
-  no_direction (Ok d) m t = absurd (not_both _ t refl)
-  no_direction (Err e) m t = m
+-- what a conversion says where it fails, and where it does not
+module _ {T E A : Type 0} (P : T → Type 0) (Q : E → Type 0) where
+  pub where_err : (r : Result T E) → MatchResult r P Q → ((e : E) → Q e → A) → is_err r ≡ true → A
+  where_err (Ok x) m f t = absurd (not_both _ t refl)
+  where_err (Err e) m f t = f e m
 
-  direction_most : (d : Direction) → n ≡ direction_number d → n ≤ 1
+  pub where_ok : (r : Result T E) → MatchResult r P Q → ((x : T) → P x → A) → is_err r ≡ false → A
+  where_ok (Ok x) m f t = f x m
+  where_ok (Err e) m f t = absurd (not_both _ refl t)
+
+-- the number of a direction, and of a phase
+module _ (n : ℕ) where
+  pub direction_most : (d : Direction) → n ≡ direction_number d → n ≤ 1
   direction_most Sell h = omega arith
   direction_most Buy h = omega arith
 
-  pub some_direction : (r : Result Direction NoDirection) → MatchResult r (λ d. n ≡ direction_number d) (λ e. 1 < n) → is_err r ≡ false → n ≤ 1
-  some_direction (Ok d) m t = direction_most d m
-  some_direction (Err e) m t = absurd (not_both _ refl t)
-
-  pub no_phase : (r : Result Phase Refusal) → PhaseOf n r → is_err r ≡ true → 1 < n
-  no_phase (Ok p) m t = absurd (not_both _ t refl)
-  no_phase (Err e) m t = m.1
-
-  phase_most : (p : Phase) → phase_number p ≡ n → n ≤ 1
+  pub phase_most : (p : Phase) → phase_number p ≡ n → n ≤ 1
   phase_most Call h = omega arith
   phase_most Rolling h = omega arith
-
-  pub some_phase : (r : Result Phase Refusal) → PhaseOf n r → is_err r ≡ false → n ≤ 1
-  some_phase (Ok p) m t = phase_most p m
-  some_phase (Err e) m t = absurd (not_both _ refl t)

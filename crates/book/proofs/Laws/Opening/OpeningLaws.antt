@@ -1,8 +1,7 @@
 -- Laws of opening, by cases, and of the head of a fresh book.
-use Rattle.std.proofs.Common.{◌≡◌, ℕ, ◌*◌, ◌<◌, ◌≤◌, true, ◌&&◌, List, [], ◌∷◌, length, drop, set, refl}
-use Rattle.std.proofs.Common.{sym, ap, ◌∙◌, arith, drop-drop, drop-set-lt, ltb-false, le-ltb, lt-ltb, ne_eqb, le-leb}
-use borrow.Author.Tests.{lt-leb, not-false}
-use Rattle.measures.specs.Ranges.{most_price}
+use Rattle.std.proofs.Common.{◌≡◌, ℕ, ◌*◌, ◌<◌, ◌≤◌, true, false, ◌&&◌, List, [], ◌∷◌, length, drop, set, refl}
+use Rattle.std.proofs.Common.{sym, ap, ◌∙◌, arith, drop-drop, drop-set-lt, ltb-false, le-ltb, lt-ltb, ne_eqb}
+use borrow.Author.Tests.{not-false}
 use Rattle.measures.specs.Lists.{table_from}
 use Rattle.measures.proofs.RangeLaws.{In, inside, outside}
 use Rattle.limits.specs.Units.{most_days, days_in}
@@ -37,13 +36,13 @@ use Rattle.book.specs.Layout.{
 use Rattle.book.specs.Contract.{Opened}
 
 -- the published length by cases
-pub words_none : (days : ℕ) → (In 1 most_days days → ⊥) → 0 ≡ words_for days
+pub words_none : (days : ℕ) → days_in days ≡ false → 0 ≡ words_for days
 unfolding words_for
-words_none days n = rw (outside 1 most_days days n)
+words_none days n = rw n refl
 
-pub words_some : (days : ℕ) → In 1 most_days days → book_words days ≡ words_for days
+pub words_some : (days : ℕ) → days_in days ≡ true → book_words days ≡ words_for days
 unfolding words_for
-words_some days h = rw (inside 1 most_days days h)
+words_some days h = rw h refl
 
 -- the refusal of an opening by cases
 module _ (words days floor ceiling : ℕ) where
@@ -55,17 +54,13 @@ module _ (words days floor ceiling : ℕ) where
   unfolding opening_refusal first_refusal
   too_short_lem h l = rw (inside 1 most_days days h, lt-ltb words (book_words days) l)
 
-  pub no_such_prices : In 1 most_days days → book_words days ≤ words → ceiling < floor → opening_refusal words (rules_of days floor ceiling) ≡ 2
+  pub no_such_prices : In 1 most_days days → book_words days ≤ words → prices_in floor ceiling ≡ false → opening_refusal words (rules_of days floor ceiling) ≡ 2
   unfolding opening_refusal first_refusal
-  no_such_prices h l p = rw (inside 1 most_days days h, le-ltb words (book_words days) l, lt-leb floor ceiling p)
+  no_such_prices h l p = rw (inside 1 most_days days h, le-ltb words (book_words days) l, p) refl
 
-  pub ceiling_high : In 1 most_days days → book_words days ≤ words → floor ≤ ceiling → most_price < ceiling → opening_refusal words (rules_of days floor ceiling) ≡ 2
+  pub opens : In 1 most_days days → book_words days ≤ words → prices_in floor ceiling ≡ true → opening_refusal words (rules_of days floor ceiling) ≡ 0
   unfolding opening_refusal first_refusal
-  ceiling_high h l p q = rw (inside 1 most_days days h, le-ltb words (book_words days) l, le-leb floor ceiling p, lt-leb ceiling most_price q)
-
-  pub opens : In 1 most_days days → book_words days ≤ words → floor ≤ ceiling → ceiling ≤ most_price → opening_refusal words (rules_of days floor ceiling) ≡ 0
-  unfolding opening_refusal first_refusal
-  opens h l p q = rw (inside 1 most_days days h, le-ltb words (book_words days) l, le-leb floor ceiling p, le-leb ceiling most_price q)
+  opens h l p = rw (inside 1 most_days days h, le-ltb words (book_words days) l, p) refl
 
 pub opened-refused : (m : List ℕ) (days floor ceiling : ℕ) (r : Refusal) → opening_refusal (length m) (rules_of days floor ceiling) ≡ number_of r
     → Opened m (rules_of days floor ceiling) (Err r) m

@@ -1,13 +1,13 @@
 -- The checks of an order on a book in memory: names, day and tables, limits.
 use Rattle.std.proofs.Common.{◌≡◌, ℕ, zero, suc, ◌+◌, ◌-◌, ◌*◌, ◌<◌, ◌≤◌, Bool, true, false}
-use Rattle.std.proofs.Common.{cond, not, ◌&&◌, eqb, ltb, leb, List, [], ◌∷◌, ◌++◌, length, get_or, refl}
+use Rattle.std.proofs.Common.{cond, not, ◌&&◌, ◌||◌, eqb, ltb, leb, List, [], ◌∷◌, ◌++◌, length, get_or, refl}
 use Rattle.std.proofs.Common.{sym, ap, ◌∙◌, arith, le-ltb, lt-ltb, eq-eqb, ne_eqb, le-leb}
 use borrow.Author.Tests.{lt-leb}
 use mir.Val.{bool_byte}
 use Rattle.measures.specs.Ranges.{most_energy}
 use Rattle.measures.specs.Lists.{keep, sum_of, sum}
 use Rattle.measures.proofs.RangeLaws.{In, inside}
-use Rattle.measures.proofs.ListLaws.{cond-true, cond-false, or_left, or_right, sum_of-table, sum_ext, sum_more, or_none}
+use Rattle.measures.proofs.ListLaws.{cond-true, cond-false, or_left, or_right, sum_of-table, sum_ext, sum_none, sum_more, or_none}
 use Rattle.matching.specs.Orders.{Order as OpenOrder, sells}
 use Rattle.matching.proofs.Laws.Lists.EachLaws.{keep-keep}
 use Rattle.matching.specs.Memory.{order_at, orders_in}
@@ -40,9 +40,8 @@ use Rattle.book.specs.Layout.{
   UNIT,
   DIRECTION,
   PERIOD,
-  figure_place,
-  MARK,
   word,
+  figures_at,
   orders_part,
   decode,
 }
@@ -178,6 +177,20 @@ counting_more f k s r b e g h = rw (e, g ∙ as_number b ∙ h) (sym (sum_more k
 pub counting_end : (f : ℕ → ℕ) (k n s : ℕ) → s ≡ sum k f → k ≡ n → s ≡ sum n f
 counting_end f k n s h e = h ∙ ap (λ (x : ℕ). sum x f) e
 
+-- whether any place counts, by places
+pub any_none : (f : ℕ → ℕ) → false ≡ ltb 0 (sum 0 f)
+any_none f = rw (sum_none f) refl
+
+pub any_more : (f : ℕ → ℕ) (k : ℕ) (a b : Bool) → a ≡ ltb 0 (sum k f) → cond b 1 0 ≡ f k → (a || b) ≡ ltb 0 (sum (k + 1) f)
+any_more f k a b e h = rw (e, sum_more k f, ← h) (go b)
+  where
+    go : (t : Bool) → (ltb 0 (sum k f) || t) ≡ ltb 0 (sum k f + cond t 1 0)
+    go true = or_right (ltb 0 (sum k f)) true refl ∙ sym (lt-ltb 0 (sum k f + 1) (omega arith))
+    go false = let n : sum k f ≡ sum k f + 0 = omega arith in or_none (ltb 0 (sum k f)) ∙ ap (λ (x : ℕ). ltb 0 x) n
+
+pub any_end : (f : ℕ → ℕ) (k n : ℕ) (a : Bool) → a ≡ ltb 0 (sum k f) → k ≡ n → a ≡ ltb 0 (sum n f)
+any_end f k n a h e = h ∙ ap (λ (x : ℕ). ltb 0 (sum x f)) e
+
 -- the order at one place
 module _ (m : List ℕ) (u d p k : ℕ) where
   pub unit_other : (word m (order_place k + UNIT) ≡ u → ⊥) → cond (eqb (word m (order_place k + UNIT)) u) 1 0 ≡ of_unit_at m u p k
@@ -205,65 +218,59 @@ module _ (m : List ℕ) (u d p k : ℕ) where
       go false = refl
 
 -- today's mark against the order's direction
-pub mark_both : (d mark : ℕ) → mark ≡ 3 → true ≡ marked_against d mark
-mark_both d mark e = sym (or_right (cond (sells d) (eqb mark 2) (eqb mark 1)) (eqb mark 3) (eq-eqb mark 3 e))
+pub mark_both : (d mark : ℕ) → eqb mark 3 ≡ true → true ≡ marked_against d mark
+mark_both d mark e = sym (or_right (cond (sells d) (eqb mark 2) (eqb mark 1)) (eqb mark 3) e)
 
 -- no mark of both
-pub mark_one : (d mark : ℕ) → d ≤ 1 → (mark ≡ 3 → ⊥) → eqb mark (2 - d) ≡ marked_against d mark
-mark_one zero mark h n = rw (ne_eqb mark 3 n) (sym (or_none (eqb mark 2)))
-mark_one (suc zero) mark h n = rw (ne_eqb mark 3 n) (sym (or_none (eqb mark 1)))
+pub mark_one : (d mark : ℕ) → d ≤ 1 → eqb mark 3 ≡ false → eqb mark (2 - d) ≡ marked_against d mark
+mark_one zero mark h n = rw n (sym (or_none (eqb mark 2)))
+mark_one (suc zero) mark h n = rw n (sym (or_none (eqb mark 1)))
 mark_one (suc (suc d)) mark h n = absurd (omega arith)
 
 -- the second part, by cases
 module _ (m : List ℕ) (u d p price q : ℕ) (few : word m ORDERS ≤ 256) (hu : In 1 (word m UNITS) u) (hp : p < 24 * word m DAYS) where
-  mark_held : (figures_of (decode m) u p).mark ≡ word m (figure_place (u - 1) p + MARK)
-  mark_held = ap (λ (f : Figures). f.mark) (figures_at_lem m u p hu hp)
+  mark_held : (f : Figures) → f ≡ figures_at m (u - 1) p → (figures_of (decode m) u p).mark ≡ f.mark
+  mark_held f e = ap (λ (g : Figures). g.mark) (figures_at_lem m u p hu hp ∙ sym e)
 
-  pub days_against : (a : ℕ) → a ≡ sum (word m ORDERS) (against_at m u d p) → 0 < a → 15 ≡ first_refusal (day_checks (decode m) u d p price q)
+  against_is : (a : Bool) → a ≡ ltb 0 (sum (word m ORDERS) (against_at m u d p))
+      → ltb 0 (length (keep (λ (o : OpenOrder). not (eqb o.direction d)) (orders_of_unit (decode m) u p))) ≡ a
+  against_is a e = ap (λ (n : ℕ). ltb 0 n) (against_count m u d p few) ∙ sym e
+
+  pub days_against : (a : Bool) → a ≡ ltb 0 (sum (word m ORDERS) (against_at m u d p)) → a ≡ true
+      → 15 ≡ first_refusal (day_checks (decode m) u d p price q)
   unfolding day_checks
   days_against a e h =
       applies_first (other_direction (decode m) u d p) _
       (or_left (ltb 0 (length (keep (λ (o : OpenOrder). not (eqb o.direction d)) (orders_of_unit (decode m) u p))))
-      (marked_against d (figures_of (decode m) u p).mark)
-      (lt-ltb 0 (length (keep (λ (o : OpenOrder). not (eqb o.direction d)) (orders_of_unit (decode m) u p))) (rw (against_count m u d p few, ← e) h)))
+      (marked_against d (figures_of (decode m) u p).mark) (against_is a e ∙ h))
 
-  pub days_mark : (r : Bool) → r ≡ marked_against d (word m (figure_place (u - 1) p + MARK)) → r ≡ true → 15 ≡ first_refusal (day_checks (decode m) u d p price q)
+  pub days_mark : (f : Figures) → f ≡ figures_at m (u - 1) p → (r : Bool) → r ≡ marked_against d f.mark → r ≡ true
+      → 15 ≡ first_refusal (day_checks (decode m) u d p price q)
   unfolding day_checks
-  days_mark r e t =
+  days_mark f ef r e t =
       applies_first (other_direction (decode m) u d p) _
       (or_right (ltb 0 (length (keep (λ (o : OpenOrder). not (eqb o.direction d)) (orders_of_unit (decode m) u p))))
       (marked_against d (figures_of (decode m) u p).mark)
-      (ap (marked_against d) mark_held ∙ sym e ∙ t))
+      (ap (marked_against d) (mark_held f ef) ∙ sym e ∙ t))
 
-  module _ (a : ℕ) (ea : a ≡ sum (word m ORDERS) (against_at m u d p)) (na : a ≤ 0) (w : Bool) (ew : w ≡ marked_against d (word m (figure_place (u - 1) p + MARK)))
-      (nw : w ≡ false) where
+  module _ (a : Bool) (ea : a ≡ ltb 0 (sum (word m ORDERS) (against_at m u d p))) (na : a ≡ false) (f : Figures)
+      (ef : f ≡ figures_at m (u - 1) p) (w : Bool) (ew : w ≡ marked_against d f.mark) (nw : w ≡ false) where
     other_no : (other_direction (decode m) u d p).applies ≡ false
-    other_no =
-        let t : length (keep (λ (o : OpenOrder). not (eqb o.direction d)) (orders_of_unit (decode m) u p)) ≤ 0 = rw (against_count m u d p few, ← ea) na in
-        rw (le-ltb 0 (length (keep (λ (o : OpenOrder). not (eqb o.direction d)) (orders_of_unit (decode m) u p))) t)
-        (ap (marked_against d) mark_held ∙ sym ew ∙ nw)
+    other_no = rw (against_is a ea ∙ na) (ap (marked_against d) (mark_held f ef) ∙ sym ew ∙ nw)
 
-    module _ (s r : ℕ) (es : s ≡ sum (word m ORDERS) (of_unit_at m u p)) (er : r ≡ cond (eqb (word m PHASE) 0) s 0) where
-      two_is : (b : Bool) → r ≡ cond b s 0 → (1 < r → (b && leb 2 s) ≡ true) × (r ≤ 1 → (b && leb 2 s) ≡ false)
-      two_is true e = (λ h. le-leb 2 s (omega arith), λ h. lt-leb 2 s (omega arith))
-      two_is false e = (λ h. absurd (omega arith), λ h. refl)
-
-      stand_is : length (orders_of_unit (decode m) u p) ≡ s
-      stand_is = stand_count m u d p few ∙ sym es
-
-      two_applies : (two_open (decode m) u p).applies ≡ (eqb (word m PHASE) 0 && leb 2 s)
+    module _ (s : ℕ) (es : s ≡ sum (word m ORDERS) (of_unit_at m u p)) (t : Bool) (et : t ≡ (eqb (word m PHASE) 0 && leb 2 s)) where
+      two_is : (two_open (decode m) u p).applies ≡ t
       unfolding decode
-      two_applies = ap (λ (x : ℕ). eqb (word m PHASE) 0 && leb 2 x) stand_is
+      two_is = ap (λ (x : ℕ). eqb (word m PHASE) 0 && leb 2 x) (stand_count m u d p few ∙ sym es) ∙ sym et
 
-      pub days_two : 1 < r → 16 ≡ first_refusal (day_checks (decode m) u d p price q)
+      pub days_two : t ≡ true → 16 ≡ first_refusal (day_checks (decode m) u d p price q)
       unfolding day_checks
       days_two h =
-          passes_first (other_direction (decode m) u d p) _ 16 other_no
-          (applies_first (two_open (decode m) u p) _ (two_applies ∙ (two_is (eqb (word m PHASE) 0) er).0 h))
+          passes_first (other_direction (decode m) u d p) _ 16 other_no (applies_first (two_open (decode m) u p) _ (two_is ∙ h))
 
-      module _ (nr : r ≤ 1) where
+      module _ (nt : t ≡ false) where
         two_no : (two_open (decode m) u p).applies ≡ false
-        two_no = two_applies ∙ (two_is (eqb (word m PHASE) 0) er).1 nr
+        two_no = two_is ∙ nt
 
         abbrev full : Check
         full = orders_full (decode m) (new_order (decode m) u d p price q)
@@ -271,7 +278,8 @@ module _ (m : List ℕ) (u d p price q : ℕ) (few : word m ORDERS ≤ 256) (hu 
         pub days_full : full.applies ≡ true → 17 ≡ first_refusal (day_checks (decode m) u d p price q)
         unfolding day_checks
         days_full h =
-            passes_first (other_direction (decode m) u d p) _ 17 other_no (passes_first (two_open (decode m) u p) _ 17 two_no (applies_first full _ h))
+            passes_first (other_direction (decode m) u d p) _ 17 other_no
+            (passes_first (two_open (decode m) u p) _ 17 two_no (applies_first full _ h))
 
         module _ (full-no : full.applies ≡ false) where
           pub days_used : 65535 ≤ word m GIVEN → 18 ≡ first_refusal (day_checks (decode m) u d p price q)
@@ -290,31 +298,26 @@ module _ (m : List ℕ) (u d p price q : ℕ) (few : word m ORDERS ≤ 256) (hu 
               (passes_first full _ 0 full-no
               (passes_first (numbers_used (decode m)) [] 0 (lt-leb 65535 (decode m).given (rw (given_held m) h)) none_first)))
 
--- the count by phase
-pub counted_call : (x s : ℕ) → x ≡ 0 → s ≡ cond (eqb x 0) s 0
-counted_call x s e = rw (eq-eqb x 0 e) refl
-
-pub counted_rolling : (x s : ℕ) → (x ≡ 0 → ⊥) → 0 ≡ cond (eqb x 0) s 0
-counted_rolling x s n = rw (ne_eqb x 0 n) refl
-
 -- the parts are the whole
-module _ (b : Book) (u d p price q lent r : ℕ) where
-  pub order_names_first : (r ≡ 0 → ⊥) → r ≡ first_refusal (name_checks b u d p price q lent) → r ≡ first_refusal (order_checks b u d p price q lent)
+module _ (b : Book) (u d p price q lent : ℕ) where
+  pub order_names_first : (r : ℕ) → (r ≡ 0 → ⊥) → r ≡ first_refusal (name_checks b u d p price q lent)
+      → r ≡ first_refusal (order_checks b u d p price q lent)
   unfolding name_checks day_checks order_fit_checks
-  order_names_first n e = first_part (name_checks b u d p price q lent) (day_checks b u d p price q ++ order_fit_checks b u d p q) r n e
+  order_names_first r n e = first_part (name_checks b u d p price q lent) (day_checks b u d p price q ++ order_fit_checks b u d p q) r n e
 
-  pub order_days_first : 0 ≡ first_refusal (name_checks b u d p price q lent) → (r ≡ 0 → ⊥) → r ≡ first_refusal (day_checks b u d p price q) → r
-      ≡ first_refusal (order_checks b u d p price q lent)
+  pub order_days_first : (r : ℕ) → 0 ≡ first_refusal (name_checks b u d p price q lent) → (r ≡ 0 → ⊥)
+      → r ≡ first_refusal (day_checks b u d p price q) → r ≡ first_refusal (order_checks b u d p price q lent)
   unfolding name_checks day_checks order_fit_checks
-  order_days_first z n e =
+  order_days_first r z n e =
       next_part (name_checks b u d p price q lent) (day_checks b u d p price q ++ order_fit_checks b u d p q) r
       (omega arith, (omega arith, (omega arith, (omega arith, (omega arith, (omega arith, tt)))))) z
       (first_part (day_checks b u d p price q) (order_fit_checks b u d p q) r n e)
 
-  pub order_fit_first : 0 ≡ first_refusal (name_checks b u d p price q lent) → 0 ≡ first_refusal (day_checks b u d p price q) → r ≡ first_refusal (order_fit_checks b u d p q) → r
-      ≡ first_refusal (order_checks b u d p price q lent)
+  pub order_fit_first : 0 ≡ first_refusal (name_checks b u d p price q lent) → 0 ≡ first_refusal (day_checks b u d p price q)
+      → first_refusal (order_fit_checks b u d p q) ≡ first_refusal (order_checks b u d p price q lent)
   unfolding name_checks day_checks order_fit_checks
-  order_fit_first z y e =
-      next_part (name_checks b u d p price q lent) (day_checks b u d p price q ++ order_fit_checks b u d p q) r
+  order_fit_first z y =
+      next_part (name_checks b u d p price q lent) (day_checks b u d p price q ++ order_fit_checks b u d p q) _
       (omega arith, (omega arith, (omega arith, (omega arith, (omega arith, (omega arith, tt)))))) z
-      (next_part (day_checks b u d p price q) (order_fit_checks b u d p q) r (omega arith, (omega arith, (omega arith, (omega arith, tt)))) y e)
+      (next_part (day_checks b u d p price q) (order_fit_checks b u d p q) _
+      (omega arith, (omega arith, (omega arith, (omega arith, tt)))) y refl)

@@ -7,7 +7,7 @@ use Rattle.matching.specs.Orders.{Order as OpenOrder, order_with}
 use Rattle.matching.specs.Memory.{orders_in}
 use Rattle.matching.specs.Rolling.{meet}
 use Rattle.matching.specs.Answers.{left_over}
-use Rattle.matching.proofs.Laws.Orders.PlacedLaws.{place_there}
+use Rattle.matching.proofs.Laws.Orders.PlacedLaws.{stand_there}
 use Rattle.matching.proofs.Laws.Rolling.LeftOverLaws.{left-numbered, left_there}
 use Rattle.book.specs.Book.{call_phase}
 use Rattle.book.specs.Layout.{PHASE, ORDERS, GIVEN, orders_start, amounts_start, word, orders_part, decode}
@@ -45,7 +45,7 @@ module _ (m : List ℕ) (u d p price q : ℕ) where
     left_is r =
         let l = mid_len orders_start amounts_start m (omega (arith, r.long)) in
         left_there (orders_part m) (word m ORDERS) (order_with 0 u d p price q)
-        (place_there (orders_part m) (word m ORDERS) 0 r.orders_to (omega (arith, r.orders_to)) (omega arith))
+        (stand_there (orders_part m) (word m ORDERS) r.orders_to (omega (arith, r.orders_to)))
         ∙ left-numbered 0 (word m GIVEN + 1) u d p price q (orders_in (orders_part m) (word m ORDERS))
         ∙ ap (λ (o : OpenOrder). (meet o (orders_in (orders_part m) (word m ORDERS))).left) (sym (new_order_lem m u d p price q))
         ∙ ap (λ (os : List OpenOrder). (meet arriving os).left) (sym (orders_from m))

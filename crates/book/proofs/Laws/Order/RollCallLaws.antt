@@ -234,14 +234,13 @@ module _ (m rows : List ℕ) (u d p price q : ℕ) (e : sound_in m ≡ true) (z 
           (waits_readable, omega arith, omega arith, waits_rows, waits_small)
 
       module _ (v : List ℕ) (k : RowsTraded y v rows' count) where
-        pub number_room : (amounts_start ≤ length v) × (word v GIVEN < 65535)
+        pub number_room : (amounts_start ≤ length v) × (word m GIVEN + 1 ≡ word v GIVEN + 1)
         number_room =
             let a = k.kept.long in
             let b = k.kept.head GIVEN (omega arith) in
             let c = head_same GIVEN (omega arith) in
             let f = both_put.long in
             let g = sound_readable m e in
-            let n = number_left in
             (omega arith, omega arith)
 
         pub rolled_on : (t : List ℕ) → decode t ≡ numbered (decode v) → Aside v t

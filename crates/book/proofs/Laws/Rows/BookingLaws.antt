@@ -1,6 +1,6 @@
 -- Laws of booking rows in memory: one party, one row, and the rows so far.
-use Rattle.std.proofs.Common.{◌≡◌, ℕ, ◌+◌, ◌-◌, ◌*◌, ◌<◌, ◌≤◌, min, Bool, true, false, cond, eqb, leb, List, [], ◌∷◌, ◌++◌, length, get_or, set, refl}
-use Rattle.std.proofs.Common.{sym, ap, ◌∙◌, arith, eq-eqb, ne_eqb, le-leb}
+use Rattle.std.proofs.Common.{◌≡◌, ℕ, ◌+◌, ◌-◌, ◌*◌, ◌<◌, ◌≤◌, min, true, false, cond, eqb, leb, List, [], ◌∷◌, ◌++◌, length, get_or, set, refl}
+use Rattle.std.proofs.Common.{sym, ap, ◌∙◌, arith, le-leb}
 use borrow.Author.Tests.{lt-leb}
 use Rattle.measures.specs.Ranges.{most_energy, most_number}
 use Rattle.measures.specs.Lists.{table}
@@ -42,14 +42,14 @@ raises-sold m u d e = sym (cond-true (generator (unit_of (decode m) u).kind) (eq
 pub raises-bought : (m : List ℕ) (u d : ℕ) → generator (unit_of (decode m) u).kind ≡ false → eqb d 1 ≡ raises (unit_of (decode m) u).kind d
 raises-bought m u d e = sym (cond-false (generator (unit_of (decode m) u).kind) (eqb d 0) (eqb d 1) e refl)
 
-pub mark_none : (d mark : ℕ) → mark ≡ 0 → d + 1 ≡ mark_with d mark
-mark_none d mark e = sym (cond-true (eqb mark 0) (d + 1) (cond (eqb mark (2 - d)) 3 mark) (eq-eqb mark 0 e) refl)
+pub mark_none : (d mark : ℕ) → eqb mark 0 ≡ true → d + 1 ≡ mark_with d mark
+mark_none d mark e = sym (cond-true (eqb mark 0) (d + 1) (cond (eqb mark (2 - d)) 3 mark) e refl)
 
-pub mark_other : (d mark : ℕ) → (mark ≡ 0 → ⊥) → mark ≡ 2 - d → 3 ≡ mark_with d mark
-mark_other d mark n e = rw (ne_eqb mark 0 n, eq-eqb mark (2 - d) e) refl
+pub mark_other : (d mark : ℕ) → eqb mark 0 ≡ false → eqb mark (2 - d) ≡ true → 3 ≡ mark_with d mark
+mark_other d mark n e = rw (n, e) refl
 
-pub mark_own : (d mark : ℕ) → (mark ≡ 0 → ⊥) → (mark ≡ 2 - d → ⊥) → mark ≡ mark_with d mark
-mark_own d mark n o = rw (ne_eqb mark 0 n, ne_eqb mark (2 - d) o) refl
+pub mark_own : (d mark : ℕ) → eqb mark 0 ≡ false → eqb mark (2 - d) ≡ false → mark ≡ mark_with d mark
+mark_own d mark n o = rw (n, o) refl
 
 pub mark_left : (way d mark : ℕ) → way < 3 → mark ≡ mark_after way d mark
 mark_left way d mark h = sym (cond-false (leb 3 way) (mark_with d mark) mark (lt-leb 3 way h) refl)
@@ -124,47 +124,47 @@ module _ (m x : List ℕ) (way direction p q u w : ℕ) (g : Readable m) (hp : p
       ∙ ap (λ (t : EnrolledUnit). with_units (decode m) (set (decode m).units (u - 1) t))
       (sym (traded_unit ∙ unit_same refl refl refl (ap (λ (t : Figures). set (table (periods (word m DAYS)) (figures_at m (u - 1))) p t) e)))
 
-  trade_raised : raises (unit_of (decode m) u).kind direction ≡ true
+  raised_lem : raises (unit_of (decode m) u).kind direction ≡ true
       → FiguresPut m x (u - 1) p (word m (figure_place (u - 1) p + RAISED) + q) (word m (figure_place (u - 1) p + LOWERED))
       (word m (figure_place (u - 1) p + VOLUME) + q) w
       → Traded m x way direction p q u
   unfolding traded
-  trade_raised e f = record {
+  raised_lem e f = record {
     book = booked_by _ _ _ f (cond-true (raises (word m (unit_place (u - 1))) direction) _ _ (rw (kind_at m u (one, most)) at e) (rw hw refl));
     kept = put_kept m x (u - 1) p _ _ _ _ f (omega arith) hp;
     small = λ t s. put_small m x (u - 1) p _ _ _ _ f (omega arith) q t (omega arith) (omega arith) (omega arith) (omega arith) hp g.units_to s;
   }
 
-  trade_lowered : raises (unit_of (decode m) u).kind direction ≡ false
+  lowered_lem : raises (unit_of (decode m) u).kind direction ≡ false
       → FiguresPut m x (u - 1) p (word m (figure_place (u - 1) p + RAISED)) (word m (figure_place (u - 1) p + LOWERED) + q)
       (word m (figure_place (u - 1) p + VOLUME) + q) w
       → Traded m x way direction p q u
   unfolding traded
-  trade_lowered e f = record {
+  lowered_lem e f = record {
     book = booked_by _ _ _ f (cond-false (raises (word m (unit_place (u - 1))) direction) _ _ (rw (kind_at m u (one, most)) at e) (rw hw refl));
     kept = put_kept m x (u - 1) p _ _ _ _ f (omega arith) hp;
     small = λ t s. put_small m x (u - 1) p _ _ _ _ f (omega arith) q t (omega arith) (omega arith) (omega arith) (omega arith) hp g.units_to s;
   }
 
   -- the same of figures that a sum made, which no word is too small for
-  pub trade_booked : (b : Bool) (f : Figures) (r l v : ℕ) → f ≡ figures_at m (u - 1) p → b ≡ raises (unit_of (decode m) u).kind direction
-      → r ≡ cond b (min (f.raised + q) most_number) f.raised → l ≡ cond b f.lowered (min (f.lowered + q) most_number)
-      → v ≡ min (f.volume + q) most_number → SmallAt m (u - 1) p 2_000_000_000_000_000_000 → q ≤ most_energy → FiguresPut m x (u - 1) p r l v w
-      → Traded m x way direction p q u
-  trade_booked true f r l v ef eb er el ev s hq h =
-      let a = ap (λ (t : Figures). t.raised) ef in
-      let c = ap (λ (t : Figures). t.volume) ef in
-      let e1 : r ≡ word m (figure_place (u - 1) p + RAISED) + q = omega (arith, er, a, s.raised, hq) in
-      let e2 : l ≡ word m (figure_place (u - 1) p + LOWERED) = el ∙ ap (λ (t : Figures). t.lowered) ef in
-      let e3 : v ≡ word m (figure_place (u - 1) p + VOLUME) + q = omega (arith, ev, c, s.volume, hq) in
-      trade_raised (sym eb) (rw (e1, e2, e3) at h)
-  trade_booked false f r l v ef eb er el ev s hq h =
-      let a = ap (λ (t : Figures). t.lowered) ef in
-      let c = ap (λ (t : Figures). t.volume) ef in
-      let e1 : r ≡ word m (figure_place (u - 1) p + RAISED) = er ∙ ap (λ (t : Figures). t.raised) ef in
-      let e2 : l ≡ word m (figure_place (u - 1) p + LOWERED) + q = omega (arith, el, a, s.lowered, hq) in
-      let e3 : v ≡ word m (figure_place (u - 1) p + VOLUME) + q = omega (arith, ev, c, s.volume, hq) in
-      trade_lowered (sym eb) (rw (e1, e2, e3) at h)
+  module _ (f : Figures) (r l v : ℕ) (ef : f ≡ figures_at m (u - 1) p) (ev : v ≡ min (f.volume + q) most_number)
+      (s : SmallAt m (u - 1) p 2_000_000_000_000_000_000) (hq : q ≤ most_energy) (h : FiguresPut m x (u - 1) p r l v w) where
+    volume_is : v ≡ word m (figure_place (u - 1) p + VOLUME) + q
+    volume_is = omega (arith, ev, ap (λ (t : Figures). t.volume) ef, s.volume, hq)
+
+    pub trade_raised : raises (unit_of (decode m) u).kind direction ≡ true → r ≡ min (f.raised + q) most_number → l ≡ f.lowered
+        → Traded m x way direction p q u
+    trade_raised e er el =
+        let e1 : r ≡ word m (figure_place (u - 1) p + RAISED) + q = omega (arith, er, ap (λ (t : Figures). t.raised) ef, s.raised, hq) in
+        let e2 : l ≡ word m (figure_place (u - 1) p + LOWERED) = el ∙ ap (λ (t : Figures). t.lowered) ef in
+        raised_lem e (rw (e1, e2, volume_is) at h)
+
+    pub trade_lowered : raises (unit_of (decode m) u).kind direction ≡ false → r ≡ f.raised → l ≡ min (f.lowered + q) most_number
+        → Traded m x way direction p q u
+    trade_lowered e er el =
+        let e1 : r ≡ word m (figure_place (u - 1) p + RAISED) = er ∙ ap (λ (t : Figures). t.raised) ef in
+        let e2 : l ≡ word m (figure_place (u - 1) p + LOWERED) + q = omega (arith, el, ap (λ (t : Figures). t.lowered) ef, s.lowered, hq) in
+        lowered_lem e (rw (e1, e2, volume_is) at h)
 
 -- both parties of a row
 pub row_traded : (m x y : List ℕ) (r : Row) → RowFits m r → Traded m x r.way 0 r.period r.quantity r.seller

@@ -1,8 +1,8 @@
 -- From a take by place to the take of a number: what its effect promises.
-use Rattle.std.proofs.Common.{◌≡◌, ℕ, ◌+◌, ◌*◌, ◌<◌, ◌≤◌, min, Bool, true, false, not, eqb, leb, List, ◌++◌, length, get_or, take, drop, set, refl}
+use Rattle.std.proofs.Common.{◌≡◌, ℕ, ◌+◌, ◌*◌, ◌<◌, ◌≤◌, true, not, eqb, List, ◌++◌, length, get_or, take, drop, set, refl}
 use Rattle.std.proofs.Common.{sym, ap, ◌∙◌, subst, arith, take_at, ltb-false, eqb-true}
+use native.Mathlib.Decide.{dec_lt}
 use lib.ListN.{get_or-append}
-use Rattle.measures.specs.Ranges.{most_energy}
 use Rattle.measures.specs.Lists.{keep, table}
 use Rattle.measures.specs.Sharing.{total, parts, less_each}
 use Rattle.measures.proofs.SharingLaws.{parts-length, no-part_exceeds, within_at}
@@ -29,8 +29,6 @@ use Rattle.book.proofs.Laws.Answer.MadeLaws.{sound-book, sound_readable, chain_s
 use Rattle.book.proofs.Laws.Memory.KeptLaws.{number_apart}
 use Rattle.book.proofs.Laws.Memory.WordLaws.{aside_by}
 use Rattle.book.proofs.Laws.Cancel.CancelLaws.{sound_rises}
-use Rattle.book.proofs.Laws.Take.PartyLaws.{offer_sound}
-use Rattle.book.proofs.Laws.Memory.TestLaws.{within_most, over_most}
 use Rattle.book.proofs.Laws.Take.EnterLaws.{rows-asks, parts_first}
 use Rattle.book.proofs.Laws.Take.FoundLaws.{unmet_before, met_there, found_offer}
 use Rattle.book.proofs.Laws.Take.TakenLaws.{less_stays, less_goes, less-few}
@@ -120,19 +118,6 @@ module _ (m : List ℕ) (u n q lent : ℕ) (s : sound_in m ≡ true) (e : 0 ≡ 
     take-most : q ≤ total (table (periods (word m DAYS)) (amount_at m j))
     take-most = let a = passed.enough in let b = ap (λ (o : OpenOffer). total o.amounts) (found_offer m n j f).0 in omega arith
 
-    -- all that is left, as the code sums it
-    take_all : (w : ℕ) → w ≡ min (total (table (periods (word m DAYS)) (amount_at m j))) (most_energy + 1) → w
-        ≡ total (table (periods (word m DAYS)) (amount_at m j))
-    take_all w h = let a = (offer_sound m j s (f.there)).whole in omega arith
-
-    take_whole : (w : ℕ) → w ≡ min (total (table (periods (word m DAYS)) (amount_at m j))) (most_energy + 1) → w ≤ q → q
-        ≡ total (table (periods (word m DAYS)) (amount_at m j))
-    take_whole w h l = omega (arith, take-most, take_all w h, l)
-
-    take_less : (w : ℕ) → w ≡ min (total (table (periods (word m DAYS)) (amount_at m j))) (most_energy + 1) → q < w → q
-        < total (table (periods (word m DAYS)) (amount_at m j))
-    take_less w h l = omega (arith, take_all w h, l)
-
     taker : In 1 (word m UNITS) u
     taker = let t = passed.taker in let c = units_held m in (omega arith, omega arith)
 
@@ -149,47 +134,43 @@ module _ (m : List ℕ) (u n q lent : ℕ) (s : sound_in m ≡ true) (e : 0 ≡ 
       rows_asks rows e = rows-asks m u j l s f.there taker room there rows (omega (arith, lent_enough))
 
       -- what the offer becomes: all of it goes, or it stays with less
-      abbrev Gone : Bool → List ℕ → Type 0
-      Gone b x = b ≡ true → (decode x ≡ with_offers (decode m) (keep (λ (o : OpenOffer). not (eqb o.number n)) (decode m).offers)) × (Aside m x)
+      abbrev Gone : ℕ → List ℕ → Type 0
+      Gone w x = w ≤ q → (decode x ≡ with_offers (decode m) (keep (λ (o : OpenOffer). not (eqb o.number n)) (decode m).offers)) × (Aside m x)
 
-      abbrev Less : Bool → List ℕ → Type 0
-      Less b x = b ≡ false → (ps : List ℕ) → ((i : ℕ) → i < 24 * word m DAYS → get_or l i 0 ≡ get_or ps i 0) → OfferLessened m x j ps
+      abbrev Less : ℕ → List ℕ → Type 0
+      Less w x = q < w → (ps : List ℕ) → ((i : ℕ) → i < 24 * word m DAYS → get_or l i 0 ≡ get_or ps i 0) → OfferLessened m x j ps
 
       abbrev left : List OpenOffer
       left = offers_less n (taken_parts (decode m) n q) (decode m).offers
 
       -- what the offers come to, and what the take leaves in its place
-      module _ (b : Bool) (x : List ℕ) (w : ℕ) (hw : w ≡ min (total (table (periods (word m DAYS)) (amount_at m j))) (most_energy + 1))
-          (eb : b ≡ leb w q) (g : Gone b x) (h : Less b x) where
-        less_by : b ≡ false → OfferLessened m x j (take (24 * word m DAYS) l)
+      module _ (x : List ℕ) (w : ℕ) (hw : w ≡ total (table (periods (word m DAYS)) (amount_at m j))) (g : Gone w x) (h : Less w x) where
+        less_by : q < w → OfferLessened m x j (take (24 * word m DAYS) l)
         less_by z = h z (take (24 * word m DAYS) l) (parts_first m u j l s f.there taker room there)
 
         offers_left : (decode x ≡ with_offers (decode m) left) × (Aside m x)
-        offers_left = go b refl
+        offers_left = go (dec_lt q w)
           where
-            go : (t : Bool) → b ≡ t → (decode x ≡ with_offers (decode m) left) × (Aside m x)
-            go true z = (
-              (g z).0 ∙ ap (with_offers (decode m)) (gone_are m n q j f p.behind l p.parts s take_some (take_whole w hw (within_most eb z))),
-              (g z).1,
+            go : Dec (q < w) → (decode x ≡ with_offers (decode m) left) × (Aside m x)
+            go (no z) = let t = g (omega arith) in (
+              t.0 ∙ ap (with_offers (decode m)) (gone_are m n q j f p.behind l p.parts s take_some (omega (arith, take-most))),
+              t.1,
             )
-            go false z = let t = less_by z in (
-              t.book ∙ ap (with_offers (decode m)) (less_are m n q j f p.behind l p.parts take_some (take_less w hw (over_most eb z))),
+            go (yes z) = let t = less_by z in (
+              t.book ∙ ap (with_offers (decode m)) (less_are m n q j f p.behind l p.parts take_some (omega arith)),
               aside_by x m t.long (t.head LAYOUT (omega arith)) (λ i k. t.figures i (omega arith)),
             )
 
         amounts_left : q < total (table (periods (word m DAYS)) (amount_at m j)) → (y out : List ℕ) (k : ℕ) → RowsTraded x y out k
             → AmountsLeft m y j (parts_at m j q)
         unfolding parts_at
-        amounts_left y = go b refl
-          where
-            go : (t : Bool) → b ≡ t → (y out : List ℕ) (k : ℕ) → RowsTraded x y out k → AmountsLeft m y j (parts_at m j q)
-            go true z = absurd (omega (arith, take_whole w hw (within_most eb z)))
-            go false z = λ y out k t. let a = (less_by z).left in
-                subst (AmountsLeft m y j) (parts-taken m n q j f p.behind l p.parts ∙ amounts_are m n q j f)
-                (record {
-                  own = λ i k. t.kept.head (amount_place j i) (omega (arith, sound_readable m s)) ∙ a.own i k;
-                  others = λ i k v o. t.kept.head i k ∙ a.others i k v o;
-                })
+        amounts_left z y out k t =
+            let a = (less_by (omega arith)).left in
+            subst (AmountsLeft m y j) (parts-taken m n q j f p.behind l p.parts ∙ amounts_are m n q j f)
+            (record {
+              own = λ i k. t.kept.head (amount_place j i) (omega (arith, sound_readable m s)) ∙ a.own i k;
+              others = λ i k v o. t.kept.head i k ∙ a.others i k v o;
+            })
 
         module _ (lx : length x ≡ length m) (rows out : List ℕ) (k : ℕ) (r : RowsPut rows out k rs) where
           pub booking_asks : lent ≡ length rows → (Readable x) × (6 * k ≤ length out) × (k ≤ 744) × (RowsFit x out k) × (Small x small_figures)

@@ -1,10 +1,10 @@
 -- The open offer of a number, by its place in memory, and who can take it.
-use Rattle.std.proofs.Common.{◌≡◌, ℕ, zero, suc, ◌+◌, ◌<◌, ◌≤◌, min, Bool, true, false, not, eqb, ltb, leb, List, [], ◌∷◌, length, get_or, None, refl}
-use Rattle.std.proofs.Common.{sym, ap, ◌∙◌, arith, lt-ltb, eq-eqb, ne_eqb, le-leb}
+use Rattle.std.proofs.Common.{◌≡◌, ℕ, ◌+◌, ◌<◌, ◌≤◌, Bool, true, false, not, cond, eqb, leb, List, get_or, None, refl}
+use Rattle.std.proofs.Common.{sym, ◌∙◌, arith, eq-eqb, ne_eqb, le-leb}
+use mathlib.Core.Bool.{beq}
 use native.Mathlib.Decide.{ℕ_discrete}
 use borrow.Author.Tests.{lt-leb}
-use Rattle.measures.specs.Ranges.{most_energy}
-use Rattle.measures.specs.Lists.{keep, table}
+use Rattle.measures.specs.Lists.{table}
 use Rattle.measures.specs.Sharing.{total}
 use Rattle.measures.proofs.ListLaws.{cond-true, cond-false, and_true, and_left-false, and_right_false, and_holding}
 use Rattle.limits.specs.Units.{periods, generator}
@@ -13,19 +13,8 @@ use Rattle.book.specs.Refusals.{same_side}
 use Rattle.book.specs.Layout.{DAYS, OFFERS, offer_place, UNIT, PARTNER, word, amount_at, offer_at, decode}
 use Rattle.book.specs.Inner.RowsIn.{takes}
 use Rattle.book.specs.Inner.Search.{OfferHas, OfferFound}
+use Rattle.book.proofs.Laws.Memory.KeptLaws.{first_kept, none_kept}
 use Rattle.book.proofs.Laws.Memory.RangeFacts.{offers_held, offer_at_lem, offer_number}
-
--- the first of a list that passes a test
-module _ {A : Type 0} (f : A → Bool) (d : A) where
-  pub keep-first : (l : List A) (j : ℕ) → j < length l → f (get_or l j d) ≡ true → ((i : ℕ) → i < j → f (get_or l i d) ≡ false)
-      → (get_or (keep f l) 0 d ≡ get_or l j d) × (0 < length (keep f l))
-  keep-first [] j h e n = absurd (omega arith)
-  keep-first (x ∷ xs) zero h e n = rw e (refl, omega arith)
-  keep-first (x ∷ xs) (suc j) h e n = rw (n 0 (omega arith)) (keep-first xs j (omega arith) e (λ i k. n (suc i) (omega arith)))
-
-  pub keep_none : (l : List A) → ((i : ℕ) → i < length l → f (get_or l i d) ≡ false) → keep f l ≡ []
-  keep_none [] n = refl
-  keep_none (x ∷ xs) n = rw (n 0 (omega arith)) (keep_none xs (λ i k. n (suc i) (omega arith)))
 
 module _ (m : List ℕ) (n r : ℕ) (f : OfferHas m n r) where
   pub unmet_before : (i : ℕ) → i < r → eqb (get_or (decode m).offers i no_offer).number n ≡ false
@@ -39,19 +28,15 @@ module _ (m : List ℕ) (n r : ℕ) (f : OfferHas m n r) where
 
   pub found_offer : (offer_of (decode m) n ≡ offer_at m (word m DAYS) r) × (offer_open (decode m) n ≡ true)
   found_offer =
-      let t = f.there in
-      let k = keep-first (λ (o : OpenOffer). eqb o.number n) no_offer (decode m).offers r (omega (arith, offers_held m)) met_there unmet_before in
-      (k.0 ∙ offer_at_lem m r t, lt-ltb _ _ k.1)
+      let k = first_kept (λ (o : OpenOffer). o.number) no_offer (decode m).offers _ _ (offers_held m) (offer_number m) n r f in
+      (k.0 ∙ offer_at_lem m r f.there, k.1)
 
 -- no offer has the number
 pub found_none : (m : List ℕ) (n : ℕ) → OfferFound m n None → offer_open (decode m) n ≡ false
-found_none m n f =
-    let k = keep_none (λ (o : OpenOffer). eqb o.number n) no_offer (decode m).offers (λ i l. let u : i
-    < word m OFFERS = omega (arith, offers_held m) in ne_eqb _ _ (λ e. f i u (sym (offer_number m i u) ∙ e))) in
-    ap (λ (l : List OpenOffer). ltb 0 (length l)) k
+found_none m n f = none_kept (λ (o : OpenOffer). o.number) no_offer (decode m).offers _ _ (offers_held m) (offer_number m) n f
 
 -- who can take the offer at place j
-module _ (m : List ℕ) (j u q whole : ℕ) (hw : whole ≡ min (total (table (periods (word m DAYS)) (amount_at m j))) (most_energy + 1)) (hq : q ≤ most_energy) where
+module _ (m : List ℕ) (j u q whole : ℕ) (hw : whole ≡ total (table (periods (word m DAYS)) (amount_at m j))) where
   pub takes_other : (word m (offer_place j + PARTNER) ≡ 0 → ⊥) → (word m (offer_place j + PARTNER) ≡ u → ⊥) → false ≡ takes m j u q
   unfolding takes
   takes_other p n = sym (cond-false (eqb (word m (offer_place j + PARTNER)) 0) _ _ (ne_eqb _ _ p)
@@ -89,19 +74,15 @@ module _ (m : List ℕ) (j u q whole : ℕ) (hw : whole ≡ min (total (table (p
       (and_holding (not (same_side (decode m) (word m (offer_place j + UNIT)) u)) (leb q (total (table (periods (word m DAYS)) (amount_at m j))))
       (le-leb q (total (table (periods (word m DAYS)) (amount_at m j))) (omega arith))))
 
-  pub takes_load : word m (offer_place j + PARTNER) ≡ 0 → q ≤ whole → (h : Bool) → generator (unit_of (decode m) (word m (offer_place j + UNIT))).kind ≡ true → h
-      ≡ generator (unit_of (decode m) u).kind → not h ≡ takes m j u q
-  takes_load p l h e g =
-      rw g (ap not (sym (cond-true (generator (unit_of (decode m) (word m (offer_place j + UNIT))).kind) (generator (unit_of (decode m) u).kind)
-      (not (generator (unit_of (decode m) u).kind)) e refl)) ∙ takes_by_side p l)
-
-  pub takes-generator : word m (offer_place j + PARTNER) ≡ 0 → q ≤ whole → (h : Bool)
-      → generator (unit_of (decode m) (word m (offer_place j + UNIT))).kind ≡ false → h ≡ generator (unit_of (decode m) u).kind → h ≡ takes m j u q
-  takes-generator p l h e g =
-      g ∙ twice (generator (unit_of (decode m) u).kind) ∙ ap not
-      (sym (cond-false (generator (unit_of (decode m) (word m (offer_place j + UNIT))).kind) (generator (unit_of (decode m) u).kind)
-      (not (generator (unit_of (decode m) u).kind)) e refl)) ∙ takes_by_side p l
+  pub takes_sides : word m (offer_place j + PARTNER) ≡ 0 → q ≤ whole → (a b : Bool)
+      → a ≡ generator (unit_of (decode m) (word m (offer_place j + UNIT))).kind
+      → b ≡ generator (unit_of (decode m) u).kind → not (beq a b) ≡ takes m j u q
+  takes_sides p l a b e g =
+      rw (e, g) (go (generator (unit_of (decode m) (word m (offer_place j + UNIT))).kind) (generator (unit_of (decode m) u).kind)
+      ∙ takes_by_side p l)
     where
-      twice : (b : Bool) → b ≡ not (not b)
-      twice true = refl
-      twice false = refl
+      go : (x y : Bool) → not (beq x y) ≡ not (cond x y (not y))
+      go true true = refl
+      go true false = refl
+      go false true = refl
+      go false false = refl

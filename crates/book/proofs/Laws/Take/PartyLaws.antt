@@ -1,15 +1,17 @@
 -- The checks of a take on a sound book in memory, one by one.
-use Rattle.std.proofs.Common.{◌≡◌, ℕ, ◌+◌, ◌<◌, ◌≤◌, Bool, true, false, cond, not, ltb, List, [], ◌∷◌, ◌++◌, None, sym, refl, ap, ◌∙◌, arith, le-ltb}
+use Rattle.std.proofs.Common.{◌≡◌, ℕ, ◌+◌, ◌<◌, ◌≤◌, min, Bool, true, false, cond, not, ltb, List, [], ◌∷◌, ◌++◌, None, sym, refl, ap, ◌∙◌, arith, le-ltb}
 use Rattle.measures.specs.Ranges.{most_energy}
-use Rattle.measures.specs.Lists.{Each}
+use Rattle.measures.specs.Lists.{Each, table}
+use Rattle.measures.specs.Sharing.{total}
 use Rattle.measures.proofs.RangeLaws.{In, inside}
 use Rattle.measures.proofs.ListLaws.{all_true, all_at}
+use Rattle.limits.specs.Units.{periods}
 use Rattle.book.specs.Book.{OpenOffer, known, offer_of, offer_open}
 use Rattle.book.specs.Sound.{sound, energy_in, offer_in}
 use Rattle.book.specs.Refusals.{Check, check, first_refusal, can_take}
-use Rattle.book.specs.Layout.{DAYS, UNITS, OFFERS, offer_place, UNIT, word, offer_at, decode}
+use Rattle.book.specs.Layout.{DAYS, UNITS, OFFERS, offer_place, UNIT, word, amount_at, offer_at, decode}
 use Rattle.book.specs.Contract.{sound_in}
-use Rattle.book.specs.Inner.RowsIn.{takes, party_checks}
+use Rattle.book.specs.Inner.RowsIn.{takes, party_checks, OpenAt}
 use Rattle.book.specs.Inner.Search.{OfferHas, OfferFound}
 use Rattle.book.proofs.Laws.Memory.RangeFacts.{units_held, OfferWords, offer_facts, offers_every}
 use Rattle.book.proofs.Laws.Answer.MadeLaws.{sound-book, sound_readable}
@@ -99,12 +101,17 @@ module _ (m : List ℕ) (u n q lent : ℕ) where
         party_passed e = skip_found 0 (check 12 (not (can_take (decode m) (offer_of (decode m) n) u q))
             ∷ []) (first_skip 12 (not (can_take (decode m) (offer_of (decode m) n) u q)) [] (ap not (can_take_lem ∙ e)) refl)
 
+-- on a sound book the sum that stops behind the largest energy is the total
+pub open_at : (m : List ℕ) (n r t : ℕ) → sound_in m ≡ true → OfferHas m n r
+    → t ≡ min (total (table (periods (word m DAYS)) (amount_at m r))) (most_energy + 1) → OpenAt m n r t
+open_at m n r t s f e = let o = (offer_sound m r s f.there).whole in record { has = f; whole = omega arith }
+
 -- what asking whether a unit can take needs
-pub can_asks : (m : List ℕ) (u q n r : ℕ) → sound_in m ≡ true → OfferHas m n r → In 1 (word m UNITS) u → q ≤ most_energy
+pub can_asks : (m : List ℕ) (u n r t : ℕ) → sound_in m ≡ true → OpenAt m n r t → In 1 (word m UNITS) u
     → (r < 8) × (1 ≤ word m (offer_place r + UNIT)) × (word m (offer_place r + UNIT) ≤ word m UNITS)
-    × (1 ≤ u) × (u ≤ word m UNITS) × (q ≤ most_energy)
-can_asks m u q n r s f hu hq =
-    let o = offer_sound m r s f.there in
+    × (1 ≤ u) × (u ≤ word m UNITS) × (t ≡ total (table (periods (word m DAYS)) (amount_at m r)))
+can_asks m u n r t s f hu =
+    let o = offer_sound m r s f.has.there in
     let g = sound_readable m s in
-    let a = f.there in
-    (omega (arith, a, g.offers_to), o.unit.0, o.unit.1, hu.0, hu.1, hq)
+    let a = f.has.there in
+    (omega (arith, a, g.offers_to), o.unit.0, o.unit.1, hu.0, hu.1, f.whole)

@@ -3,18 +3,15 @@ use Rattle.std.proofs.Common.{[], refl}
 use Rattle.matching.proofs.Laws.Orders.RowLaws.{written_none}
 use Rattle.book.specs.Calls.{call_cancel}
 use Rattle.book.proofs.Laws.Answer.MadeLaws.{made_unsound, is_sound, made_checked, made_done}
-use Rattle.std.proofs.lemmas.Result.{err_from_is_err_and}
 use Rattle.book.proofs.calls.cancel.Goals as goal
 
 pub returns-in_err-sound : goal.returns-in_err-sound
-returns-in_err-sound c =
-    let p = err_from_is_err_and c.from_residual.result c.from_residual.ensures.1 in
-    rw (p.1, p.2) (made_unsound _ _ _ _ c.in_err-sound.ensures.refusal)
+returns-in_err-sound c = made_unsound _ _ _ _ _ c.from_residual.ensures.1 c.in_err-sound.ensures.refusal
 
 pub returns-in_err-k : goal.returns-in_err-k
 returns-in_err-k c =
-    let p = err_from_is_err_and c.from_residual-in_err-k.result c.from_residual-in_err-k.ensures.1 in
-    rw (p.1, p.2) (made_checked _ _ _ _ (is_sound _ c.in_ok-sound.ensures.refusal) (rw c.in_ok-sound.ensures.same at c.in_err-k.ensures.refusal))
+    let s = c.in_ok-sound.ensures in
+    made_checked _ _ _ _ _ _ c.from_residual-in_err-k.ensures.1 s.refusal s.same c.in_err-k.ensures.refusal
 
 pub cancel_effect-requires : goal.cancel_effect-requires
 cancel_effect-requires c =
@@ -23,7 +20,8 @@ cancel_effect-requires c =
 
 pub returns : goal.returns
 returns c =
+    let s = c.in_ok-sound.ensures in
     let w = c.cancel_effect in
-    let h = rw c.in_ok-sound.ensures.same at c.in_ok-k.ensures.place in
-    made_done _ [] (call_cancel c.args.unit c.args.number) 0 [] _ 0 _ [] (is_sound _ c.in_ok-sound.ensures.refusal)
-    (rw c.in_ok-sound.ensures.same at c.in_ok-k.ensures.refusal) refl refl (rw h.here at w.ensures.0) (written_none []) w.ensures.1 w.auto.book
+    let h = rw s.same at c.in_ok-k.ensures.place in
+    made_done _ [] (call_cancel c.args.unit c.args.number) 0 [] _ 0 _ _ [] s.refusal s.same c.in_ok-k.ensures.refusal refl refl
+    (rw h.here at w.ensures.0) (written_none []) w.ensures.1 w.auto.book

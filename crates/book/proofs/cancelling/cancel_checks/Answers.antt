@@ -12,16 +12,14 @@ invariant_of-book c = record { readable = sound_readable _ c.args.book.sound }
 pub returns-in_default-clause-refusal : goal.returns-in_default-clause-refusal
 returns-in_default-clause-refusal c =
     let h = is_in (unit_test _ _ c.unit_known.ensures) c.if-not-unit_known.false in
-    cancel_absent _ c.args.book.sound _ _ h c.in_default.ensures
+    cancel_absent _ (sound_readable _ c.args.book.sound).orders_to _ _ h c.in_default.ensures
 
 pub returns-then-book-k-clause-refusal : goal.returns-then-book-k-clause-refusal
 returns-then-book-k-clause-refusal c =
     let h = is_in (unit_test _ _ c.unit_known.ensures) c.if-not-unit_known.false in
-    let w = c.in-Some.ensures in
-    cancel_other _ c.args.book.sound _ _ h _ w.there w.here (omega arith)
+    cancel_other _ (sound_readable _ c.args.book.sound).orders_to _ _ h _ c.in-Some.ensures (omega arith)
 
 pub returns-clause-refusal : goal.returns-clause-refusal
 returns-clause-refusal c =
     let h = is_in (unit_test _ _ c.unit_known.ensures) c.if-not-unit_known.false in
-    let w = c.in-Some.ensures in
-    cancel_passes _ c.args.book.sound _ _ h _ w.there w.here (omega arith)
+    cancel_passes _ (sound_readable _ c.args.book.sound).orders_to _ _ h _ c.in-Some.ensures (omega arith)

@@ -10,8 +10,8 @@ bounds-book-5 c = let r = sound_readable _ c.requires.0 in omega arith
 pub empty_unit-requires : goal.empty_unit-requires
 empty_unit-requires c = (sound_readable _ c.requires.0, c.requires.1)
 
-pub returns : goal.returns
-returns c =
+pub returns-clause-book : goal.returns-clause-book
+returns-clause-book c =
     let u = c.args.unit in
     let w = c.empty_unit in
     rw c.put_words.ensures

@@ -1,4 +1,5 @@
 -- `misfit`: the amounts come to the declaration's and what is open, so the pass over them is the fit of the decoded book.
+use Rattle.std.proofs.Common.{arith}
 use Rattle.book.proofs.Laws.Answer.MadeLaws.{sound_head}
 use Rattle.book.proofs.Laws.Check.JoinLaws.{fitted_all}
 use Rattle.book.proofs.Laws.Sound.RangedLaws.{sound_ranged}
@@ -14,5 +15,5 @@ invariant_of-raising_direction c = record { readable = (sound_ranged _ c.args.bo
 pub returns : goal.returns
 returns c =
     let r = sound_ranged _ c.args.book.sound in
-    fitted_all _ _ _ _ _ _ _ _ _ _ _ _ c.requires.is_sound r.readable.orders_to c.raising_direction-direction.ensures
-    c.add_offers.ensures c.add_orders.ensures (rw c.opposite.ensures at c.add_orders-2.ensures) c.fit_of.ensures
+    fitted_all _ _ _ _ _ _ _ _ _ c.requires.enrolled r.readable (omega arith) c.raising_direction-direction.ensures
+    c.add_offers.ensures c.add_orders.ensures c.fit_of.ensures

@@ -10,11 +10,10 @@ overflow_add-number c = let h = sound_head c.args.book.now c.requires.0 in omega
 pub bounds-book-4-2 : goal.bounds-book-4-2
 bounds-book-4-2 c = let r = sound_readable _ c.requires.0 in simp length-set (omega arith)
 
-pub returns : goal.returns
-returns c =
+pub returns-clause-book : goal.returns-clause-book
+returns-clause-book c =
     let a = c.args in
-    let e = c.fresh-o.ensures in
     let w = c.put_amounts in
-    rw (c.put_words.ensures, e.0, e.1, e.2, e.3, e.4)
-    (offer_more a.book.now w.new.book a.terms.unit a.terms.partner a.terms.price.0 a.amounts.now (sound_readable _ c.requires.0) c.requires.1
+    rw c.put_words.ensures
+    (offer_more a.book.now w.new.book a.offer.unit a.offer.partner a.offer.price.0 a.amounts.now (sound_readable _ c.requires.0) c.requires.1
     c.requires.2 w.auto.book w.ensures.0 w.ensures.1)

@@ -12,8 +12,8 @@ copied c k = rw c.copy_amounts.ensures (copied_over (replicate {A = ℕ} 744 0) 
 pub copy_amounts-requires : goal.copy_amounts-requires
 copy_amounts-requires c = let r = sound_readable c.args.book.words.now c.args.book.sound in omega arith
 
-pub misfit-requires-clause-is_sound : goal.misfit-requires-clause-is_sound
-misfit-requires-clause-is_sound c = (c.requires.0, c.requires.1)
+pub misfit-requires-clause-enrolled : goal.misfit-requires-clause-enrolled
+misfit-requires-clause-enrolled c = (c.requires.0, c.requires.1)
 
 pub misfit-requires-clause-amounts : goal.misfit-requires-clause-amounts
 misfit-requires-clause-amounts c = (

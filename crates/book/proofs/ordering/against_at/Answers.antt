@@ -7,4 +7,4 @@ pub returns-then-book-at : goal.returns-then-book-at
 returns-then-book-at c = against_other _ _ _ _ _ _ (omega arith) c.of_unit_at.ensures
 
 pub returns-else-book-at : goal.returns-else-book-at
-returns-else-book-at c = rw c.from.ensures (against_same _ _ _ _ _ (omega arith))
+returns-else-book-at c = against_same _ _ _ _ _ (omega arith)

@@ -2,7 +2,6 @@
 use Rattle.std.proofs.Common.{refl}
 use Rattle.std.proofs.lemmas.Result.{err_from_is_err_and}
 use Rattle.measures.proofs.RefusedLaws.{number_some}
-use Rattle.book.specs.Layout.{decode}
 use Rattle.book.proofs.Laws.Answer.MadeLaws.{sound_readable}
 use Rattle.book.proofs.Laws.Order.OrderCheckLaws.{order_names_first, order_days_first, order_fit_first}
 use Rattle.book.proofs.ordering.order_checks.Goals as goal
@@ -30,6 +29,5 @@ order_fit-requires c = (c.in_ok-direction.ensures.direction, c.in_ok-direction.e
 
 pub returns : goal.returns
 returns c =
-    let s = c.args.wanted in
-    order_fit_first (decode c.args.book.words.now) s.unit s.direction s.period s.price.0 s.quantity.0 c.args.lent _
-    c.in_ok-direction.ensures.checked.answer c.in_ok-order_days.ensures c.order_fit.ensures
+    rw c.order_fit.ensures
+    (order_fit_first _ _ _ _ _ _ _ c.in_ok-direction.ensures.checked.answer c.in_ok-order_days.ensures)

@@ -13,19 +13,19 @@ bounds-book-4 c = let r = sound_readable _ c.requires.0 in omega arith
 pub append-requires : goal.append-requires
 append-requires c = let r = sound_readable _ c.requires.0 in (omega arith, omega arith)
 
-pub next_number-requires : goal.next_number-requires
-next_number-requires c =
+pub give_number-requires : goal.give_number-requires
+give_number-requires c =
     let r = sound_readable _ c.requires.0 in
     let h = c.append.ensures in
     let a = h.low GIVEN (omega arith) (omega arith) in
     let l = h.long in
     (omega arith, omega arith)
 
-pub returns : goal.returns
-returns c =
+pub returns-clause-book : goal.returns-clause-book
+returns-clause-book c =
     let r = sound_readable _ c.requires.0 in
     let h = put_same _ _ c.numbered-o.ensures _ _ c.append.ensures in
-    let n = c.next_number.ensures in (
+    let n = c.give_number.ensures in (
       called c.args.book.now _ _ _ _ _ _ _ r.units_to r.offers_to h n.0,
       aside_then _ _ _ (h.low DAYS (omega arith) (omega arith)) (put_aside _ _ _ h) n.1,
     )

@@ -24,11 +24,11 @@ rest_waits-requires c = rest_room _ _ _ _ _ _ _ c.requires.0 c.requires.1 _ c.nu
 pub book_rows-requires : goal.book_rows-requires
 book_rows-requires c = booking_room _ _ _ _ _ _ _ c.requires.0 c.requires.1 _ c.numbered-o.ensures _ _ _ _ c.meet_orders-met.ensures _ c.rest_waits.ensures
 
-pub next_number-requires : goal.next_number-requires
-next_number-requires c =
+pub give_number-requires : goal.give_number-requires
+give_number-requires c =
     number_room _ _ _ _ _ _ _ c.requires.0 c.requires.1 _ c.numbered-o.ensures _ _ _ _ c.meet_orders-met.ensures _ c.rest_waits.ensures _ c.book_rows.ensures
 
-pub returns : goal.returns
-returns c =
+pub returns-clause-rolled : goal.returns-clause-rolled
+returns-clause-rolled c =
     rolled_on _ _ _ _ _ _ _ c.requires.0 c.requires.1 _ c.numbered-o.ensures _ _ _ _ c.meet_orders-met.ensures _ c.rest_waits.ensures _ c.book_rows.ensures _
-    c.next_number.ensures.0 c.next_number.ensures.1
+    c.give_number.ensures.0 c.give_number.ensures.1

@@ -4,7 +4,7 @@ use Rattle.book.proofs.Laws.Check.TogetherLaws.{stood_none, stood_more, stood_fa
 use Rattle.book.proofs.pairs.all_stand.Goals as goal
 
 pub loop-k-init : goal.loop-k-init
-loop-k-init g c = stood_none _ _ _ c.requires.2
+loop-k-init g c = stood_none _ _ _ c.requires.1
 
 pub returns-then-not-order_stands : goal.returns-then-not-order_stands
 returns-then-not-order_stands g c =

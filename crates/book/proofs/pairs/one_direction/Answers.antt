@@ -11,4 +11,4 @@ returns-in_default c =
 pub returns : goal.returns
 returns c =
     let n = c.args.book.ranged.readable.orders_to in
-    direction_tested _ _ (omega arith) _ c.in-Some.ensures c.requires.2
+    direction_tested _ _ (omega arith) _ c.in-Some.ensures c.requires.1

@@ -8,7 +8,7 @@ loop-d-init g c = λ f l h. pass_none f
 
 pub loop-d-preserved : goal.loop-d-preserved
 loop-d-preserved g c = λ f l h.
-    days_more f l c.loop-d.d _ _ _ _ _ _ _ _ _ _ _ _ (omega (arith, c.loop-d-test.true, c.requires.0))
+    days_more f l c.loop-d.d _ _ _ (omega (arith, c.loop-d-test.true, c.requires.0))
     (c.loop-d.invariant f l (λ d s b p. h d s (omega arith) p))
     (h c.loop-d.d c.day.result (omega arith) c.day.ensures) c.together-s.ensures
 

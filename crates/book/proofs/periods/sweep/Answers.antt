@@ -2,8 +2,8 @@
 use borrow.Rule.Slice.PartMut.{mid_len}
 use Rattle.std.proofs.Common.{ap, ◌∙◌, arith}
 use Rattle.std.specs.Prelude.{Option}
-use Rattle.matching.specs.declared.orders.Matched.{Matched}
-use Rattle.matching.specs.Answers.{answer_of}
+use Rattle.matching.specs.declared.orders.Cleared.{Cleared}
+use Rattle.matching.specs.Answers.{clear_answer}
 use Rattle.matching.proofs.Laws.Periods.PassingLaws.{all_gives, all_fit}
 use Rattle.book.specs.Layout.{orders_start, amounts_start}
 use Rattle.book.proofs.Laws.Answer.MadeLaws.{sound_readable}
@@ -30,12 +30,12 @@ bounds-book-7-2 c =
 pub unreachable-requires : goal.unreachable-requires
 unreachable-requires c =
     all_fit _ _ _ _ _ _ _ (clear_fits _ _ c.requires.0 c.requires.1) c.clear_periods.ensures
-    (ap (λ (a : Option Matched). (answer_of a).fits) c.in_default.is)
+    (ap (λ (a : Option Cleared). (clear_answer a).fits) c.in_default.is)
 
 pub returns : goal.returns
 returns c =
     let r = sound_readable _ c.requires.0 in
     let t = c.clear_periods in
     swept _ _ _ _ _ _ c.requires.0 (t.auto.orders ∙ mid_len orders_start amounts_start c.args.book.now (omega arith))
-    (all_gives _ _ _ _ _ _ _ _ _ (clear_fits _ _ c.requires.0 c.requires.1) t.ensures (ap (λ (a : Option Matched). (answer_of a).count) c.in-Some.is)
-    (ap (λ (a : Option Matched). (answer_of a).standing) c.in-Some.is))
+    (all_gives _ _ _ _ _ _ _ _ _ (clear_fits _ _ c.requires.0 c.requires.1) t.ensures (ap (λ (a : Option Cleared). (clear_answer a).count) c.in-Some.is)
+    (ap (λ (a : Option Cleared). (clear_answer a).standing) c.in-Some.is))

@@ -1,7 +1,7 @@
 -- `order_in`: a test that fails contradicts one of the order's facts; the quantity decides the rest.
 use Rattle.std.proofs.Common.{sym, ◌∙◌, arith}
 use Rattle.book.proofs.Laws.Memory.RangeFacts.{unit_test, order_fails, order_holds}
-use Rattle.book.proofs.Laws.Memory.TestLaws.{is_in, not_in, settles, no_direction, some_direction}
+use Rattle.book.proofs.Laws.Memory.TestLaws.{is_below, not_below_lem, is_in, not_in, settles, where_err, where_ok, direction_most}
 use Rattle.book.proofs.ranges.order_in.Goals as goal
 
 pub returns-then-not-number_given : goal.returns-then-not-number_given
@@ -11,10 +11,13 @@ pub returns-then-not-unit_known : goal.returns-then-not-unit_known
 returns-then-not-unit_known c = order_fails _ _ c.requires (λ h. not_in (unit_test _ _ c.unit_known.ensures) c.if-not-unit_known.true h.unit)
 
 pub returns-then-is_err : goal.returns-then-is_err
-returns-then-is_err c = order_fails _ _ c.requires (λ h. let n = no_direction _ c.try_from.result c.try_from.ensures (sym c.is_err.ensures.value ∙ c.if-is_err.true) in omega (arith, h.direction))
+returns-then-is_err c =
+    order_fails _ _ c.requires
+    (λ h. where_err _ _ c.try_from.result c.try_from.ensures (λ e n. omega (arith, n, h.direction)) (sym c.is_err.ensures.value ∙ c.if-is_err.true))
 
-pub returns-then-book-at : goal.returns-then-book-at
-returns-then-book-at c = order_fails _ _ c.requires (λ h. omega (arith, h, c.if-book-at.true))
+pub returns-then-not-has : goal.returns-then-not-has
+returns-then-not-has c =
+    order_fails _ _ c.requires (λ h. let n = not_below_lem c.has.ensures c.if-not-has.true in omega (arith, n, h.period))
 
 pub returns-then-not-price_in : goal.returns-then-not-price_in
 returns-then-not-price_in c = order_fails _ _ c.requires (λ h. not_in c.price_in.ensures c.if-not-price_in.true h.price)
@@ -27,8 +30,8 @@ returns c =
     (record {
       number = is_in c.number_given.ensures c.if-not-number_given.false;
       unit = is_in (unit_test _ _ c.unit_known.ensures) c.if-not-unit_known.false;
-      direction = some_direction _ c.try_from.result c.try_from.ensures (sym c.is_err.ensures.value ∙ c.if-is_err.false);
-      period = omega arith;
+      direction = where_ok _ _ c.try_from.result c.try_from.ensures (direction_most _) (sym c.is_err.ensures.value ∙ c.if-is_err.false);
+      period = is_below c.has.ensures c.if-not-has.false;
       price = is_in c.price_in.ensures c.if-not-price_in.false;
       quantity = is_in c.can_be_declared.ensures t;
     }))

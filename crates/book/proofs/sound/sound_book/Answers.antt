@@ -62,5 +62,5 @@ returns c =
     let h = sym c.head_in.ensures ∙ c.if-not-head_in.false in
     let r = in_range (goal.at.returns c).Else-not-orders_in in
     c.open_fit.ensures
-    ∙ sound_by_open c.args.book.now (omega arith) c.if-book-ne-LAYOUT_NUMBER.false h r.units r.offers r.orders
+    ∙ sound_by_open c.args.book.now (omega arith) (omega arith) h r.units r.offers r.orders
     (sym c.numbers_differ.ensures ∙ c.if-not-numbers_differ.false)

@@ -6,17 +6,18 @@ use Rattle.book.proofs.standing.add_day_orders.Goals as goal
 
 pub loop-next-init : goal.loop-next-init
 loop-next-init c =
-    walking_starts _ _ _ c.args.book.ranged c.requires.0 _ _ _ _ c.day_head-next.ensures
+    let u = c.args.unit.at in
+    walking_starts _ _ _ u.book.ranged u.placed _ _ _ c.day_head-next.ensures
 
 pub loop-next-preserved : goal.loop-next-preserved
 loop-next-preserved c =
-    let g = c.requires in
+    let u = c.args.unit.at in
     let w = rw c.in-Some.is at c.loop-next.invariant in
     rw c.before-next.ensures
-    (walking_more _ _ _ c.args.book.ranged g.0 _ _ _ _ _ _ _ _ _ w (g.2.chain _ (omega (arith, w.few))) c.add_day_order.ensures)
+    (walking_more _ _ _ u.book.ranged u.placed _ _ _ _ _ _ w (c.args.unit.linked.chain _ (omega (arith, w.few))) c.add_order.ensures)
 
 pub returns : goal.returns
 returns c =
-    let u = c.requires.0 in
-    walking_ends _ _ _ c.args.book.ranged u _ _ _ _ _ (rw c.in_default.is at c.loop-next.invariant)
-    (direction_is _ _ u _ c.raising_direction-direction.ensures)
+    let u = c.args.unit.at in
+    walking_ends _ _ _ u.book.ranged u.placed _ _ _ (rw c.in_default.is at c.loop-next.invariant)
+    (direction_is _ _ u.placed _ (rw c.number.ensures at c.raising_direction-direction.ensures))

@@ -5,8 +5,7 @@ use Rattle.book.proofs.standing.add_day_orders.Given as goal
 
 abbrev pub invariant-loop-next : goal.invariant-loop-next
 invariant-loop-next l =
-    let a = l.initial.amounts in
-    Walking l.book.words.now l.k l.d (direction_number l.direction) a.raising a.lowering l.amounts.raising l.amounts.lowering (link_of l.next)
+    Walking l.unit.at.book.words.now l.unit.at.place l.d (direction_number l.direction) l.initial.amounts l.amounts (link_of l.next)
 
 abbrev pub decreases-loop-next : goal.decreases-loop-next
 decreases-loop-next l = link_of l.next

@@ -5,4 +5,5 @@ use Rattle.book.proofs.standing.day_open.Goals as goal
 
 pub returns : goal.returns
 returns c =
-    λ h. day_idle _ _ _ c.args.book.ranged c.requires.0 _ (sym c.is_some.ensures ∙ h) c.day_head.ensures (c.requires.3 c.if-offered.false)
+    let u = c.args.unit.at in
+    λ h. day_idle _ _ _ u.book.ranged u.placed _ (sym c.is_some.ensures ∙ h) c.day_head.ensures c.requires.1

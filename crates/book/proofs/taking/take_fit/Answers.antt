@@ -15,17 +15,15 @@ share_offer-requires c =
     let g = sound_readable _ c.args.book.sound in
     (omega arith, p.3, p.4, (offer_sound _ c.args.j c.args.book.sound p.0).whole.1, search rules)
 
-pub misfit-requires-clause-is_sound : goal.misfit-requires-clause-is_sound
-misfit-requires-clause-is_sound c = (c.requires.1, c.requires.2)
+pub misfit-requires-clause-enrolled : goal.misfit-requires-clause-enrolled
+misfit-requires-clause-enrolled c = (c.requires.1, c.requires.2)
 
 pub misfit-requires-clause-amounts : goal.misfit-requires-clause-amounts
 misfit-requires-clause-amounts c =
-    let a = c.args in
     let p = c.requires in
-    (raising_small a.book.words.now a.unit a.j a.quantity.0 a.book.sound p.0 (p.1, p.2) p.3 p.4 _ _ p.5 c.share_offer.ensures, zeros_below 744 _)
+    (raising_small _ c.args.claim.unit c.args.j _ c.args.book.sound p.0 (p.1, p.2) p.3 p.4 _ _ p.5 c.share_offer.ensures, zeros_below 744 _)
 
 pub returns : goal.returns
 returns c =
-    let a = c.args in
     let p = c.requires in
-    take_fitted a.book.words.now a.unit a.j a.quantity.0 a.book.sound p.0 (p.1, p.2) p.3 p.4 _ _ p.5 c.share_offer.ensures _ c.misfit.ensures
+    take_fitted _ c.args.claim.unit c.args.j _ c.args.book.sound p.0 (p.1, p.2) p.3 p.4 _ _ p.5 c.share_offer.ensures _ c.misfit.ensures

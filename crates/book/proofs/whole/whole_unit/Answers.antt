@@ -5,7 +5,6 @@ use Rattle.book.proofs.whole.whole_unit.Goals as goal
 
 pub returns : goal.returns
 returns c =
-    let r = c.args.book.ranged in
-    let g = c.requires in
-    c.all_days.ensures _ (unit_limited _ _ _ _ r g.0)
-    (λ d s b p. unit_day _ _ _ _ r g.0 _ _ _ g.1 d _ _ _ _ (λ h l. refl) (λ h l. refl) (search rules))
+    let u = c.args.unit.at in
+    c.all_days.ensures _ (unit_limited _ _ _ _ u.book.ranged u.placed)
+    (λ d s b p. unit_day _ _ _ _ u.book.ranged u.placed _ _ _ u.limited d _ _ _ _ (λ h l. refl) (λ h l. refl) (search rules))

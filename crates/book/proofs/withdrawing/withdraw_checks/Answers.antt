@@ -11,22 +11,19 @@ invariant_of-book c = record { readable = sound_readable _ c.args.book.sound }
 pub returns-in_default-clause-refusal : goal.returns-in_default-clause-refusal
 returns-in_default-clause-refusal c =
     let h = is_in (unit_test _ _ c.unit_known.ensures) c.if-not-unit_known.false in
-    withdraw_absent _ c.args.book.sound _ _ h c.in_default.ensures
+    withdraw_absent _ _ _ h c.in_default.ensures
 
 pub returns-then-book-j-clause-refusal : goal.returns-then-book-j-clause-refusal
 returns-then-book-j-clause-refusal c =
     let h = is_in (unit_test _ _ c.unit_known.ensures) c.if-not-unit_known.false in
-    let w = c.in-Some.ensures in
-    withdraw_other _ c.args.book.sound _ _ h _ w.there w.here c.if-book-j.true
+    withdraw_other _ _ _ h _ c.in-Some.ensures c.if-book-j.true
 
 pub returns-then-book-j-eq1-clause-refusal : goal.returns-then-book-j-eq1-clause-refusal
 returns-then-book-j-eq1-clause-refusal c =
     let h = is_in (unit_test _ _ c.unit_known.ensures) c.if-not-unit_known.false in
-    let w = c.in-Some.ensures in
-    withdraw_taken _ c.args.book.sound _ _ h _ w.there w.here c.if-book-j.false c.if-book-j-eq1.true
+    withdraw_taken _ _ _ h _ c.in-Some.ensures c.if-book-j.false c.if-book-j-eq1.true
 
 pub returns-clause-refusal : goal.returns-clause-refusal
 returns-clause-refusal c =
     let h = is_in (unit_test _ _ c.unit_known.ensures) c.if-not-unit_known.false in
-    let w = c.in-Some.ensures in
-    withdraw_passes _ c.args.book.sound _ _ h _ w.there w.here c.if-book-j.false c.if-book-j-eq1.false
+    withdraw_passes _ _ _ h _ c.in-Some.ensures c.if-book-j.false c.if-book-j-eq1.false

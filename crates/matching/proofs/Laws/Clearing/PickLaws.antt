@@ -7,7 +7,7 @@ use native.Mathlib.Omega.{arith}
 use native.Mathlib.Numerals.{add-one}
 use lib.Dec.{ltb}
 use borrow.Author.Tests.{ne_eqb, ltb-true}
-use borrow.Rule.Slice.PartMut.{post_of, put_mid, same_len_mid}
+use borrow.Rule.Slice.PartMut.{post_of, put_mid}
 use lib.ListN.{length, get_or, take, drop, set, length-append, length-set, length-drop, drop_of_length-le}
 use lib.Seq.{drop-cons, take-suc-set, length-take-le, take_at, drop_at, take-add}
 use Rattle.std.specs.Prelude.{sum}
@@ -302,9 +302,7 @@ module _ (m ps : List ℕ) (n : ℕ) (d : Direction) (margin v : ℕ) (s : Stand
             (filled_join (orders_at m K) (orders_at m M) (open_at m K) (parts D R) (length_mapped (order_at m) K ∙ sym l_k)
             ∙ rw (open_orders_lem m K, open_orders_lem m M, picked_orders m (Better d) margin ps, picked_orders m Margin margin ps, e_d) refl)
 
-        pub side-filled : (all ≤ length ps) × (all ≤ length to₂) × (all ≤ length (put_mid better (all - better) am₁ ys))
-            × Filling (take all to₂) (take all (put_mid better (all - better) am₁ ys)) n
+        pub side-filled : (all ≤ length ps) × (all ≤ n) × Filling (take all to₂) (take all (put_mid better (all - better) am₁ ys)) n
             × (fills_at m (take all to₂) (take all (put_mid better (all - better) am₁ ys))
             ≡ fills_of v (keep (chosen (Better d) margin) (orders_at m ps)) (keep (chosen Margin margin) (orders_at m ps)))
-        side-filled =
-            (all_within, omega (arith, all_few, room_to), omega (arith, all_few, room_am, same_len_mid better (all - better) am₁ ys (ly ∙ sym l_p)), filling, fills_are)
+        side-filled = (all_within, all_few, filling, fills_are)

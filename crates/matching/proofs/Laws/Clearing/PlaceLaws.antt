@@ -15,16 +15,12 @@ use Rattle.measures.proofs.ListLaws.{both_ways}
 use Rattle.matching.specs.Orders.{Order, quantities}
 use Rattle.matching.specs.Memory.{order_at, orders_in, no_order}
 use Rattle.matching.specs.Clearing.{cleared_volume, marginal}
-use Rattle.matching.specs.Inner.Places.{orders_at, ahead_on, belongs, Stand, Sides, AreMargins, AtMargin}
+use Rattle.matching.specs.Inner.Places.{orders_at, ahead_on, belongs, Sides, AreMargins, AtMargin}
 use Rattle.matching.proofs.Laws.Orders.LaidLaws.{laid-quantities}
 use Rattle.matching.proofs.Laws.Orders.AheadLaws.{Strict, Ordered, Falling, Rising, bids_fall, asks_rise}
 use Rattle.matching.proofs.Laws.Clearing.VolumeLaws.{keep_some, keep_none}
 use Rattle.matching.proofs.Laws.Clearing.WalkLaws.{price_at, quantity_at, Walking, walking_takes, walking_next_bid, walking_next_ask, walking_bids_end, walking_asks_end, walking_apart}
 use Rattle.matching.proofs.Laws.Laying.LayingLaws.{length_mapped}
-
--- places of laid orders are places
-pub stand_here : (m ps : List ℕ) (n : ℕ) (l : List Order) → Stand m ps n l → Stand m ps n (orders_at m ps)
-stand_here m ps n l s = record { few = s.few; below = s.below; orders = refl }
 
 pub mapped_at : (m ps : List ℕ) (i : ℕ) → i < length ps → get_or (orders_at m ps) i no_order ≡ order_at m (get_or ps i 0)
 mapped_at m [] i h = absurd (not-suc-le-zero h)

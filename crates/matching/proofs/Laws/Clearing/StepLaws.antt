@@ -11,7 +11,7 @@ use Rattle.measures.specs.Lists.{keep}
 use Rattle.measures.specs.Ranges.{most_energy}
 use Rattle.measures.proofs.ListLaws.{cond-true, cond-false, both_ways, and_left}
 use Rattle.std.specs.Prelude.{Some}
-use Rattle.matching.specs.declared.orders.Matched.{Matched}
+use Rattle.matching.specs.declared.orders.Cleared.{Cleared as ClearedValue}
 use Rattle.matching.specs.Orders.{Order, quantities, bid_ahead, ask_ahead, laid, bids, asks}
 use Rattle.matching.specs.Memory.{orders_in, written}
 use Rattle.matching.specs.Clearing.{
@@ -62,21 +62,21 @@ some_trades period os v b s fb fa ev pos eb es efb efa =
     let n : (cleared_volume (bids period os) (asks period os) ≡ 0 → ⊥) = λ z. (let y : v ≡ 0 = ev ∙ z in omega arith) in
     rw (efb, efa, eb, es, ev) (cond-false _ _ _ (ne_eqb _ 0 n) refl)
 
-pub clears_none : (m rows : List ℕ) (n period v b s : ℕ) (bs ks : List ℕ) (a : Matched)
-    → fit m n rows ≡ true → a.left.0 ≡ 0 → a.count ≡ 0 → a.standing ≡ n
+pub clears_none : (m rows : List ℕ) (n period v b s : ℕ) (bs ks : List ℕ) (a : ClearedValue)
+    → fit m n rows ≡ true → a.count ≡ 0 → a.standing ≡ n
     → Stand m bs n (laid (ahead_on 1) (keep (belongs 1 period) (orders_in m n)))
     → Stand m ks n (laid (ahead_on 0) (keep (belongs 0 period) (orders_in m n)))
     → AreMargins (orders_at m bs) (orders_at m ks) v b s → v ≡ 0
     → Clears m rows n period (Some a) m rows
 unfolding ahead_on
-clears_none m rows n period v b s bs ks a e ez ec en sb sa g ev =
+clears_none m rows n period v b s bs ks a e ec en sb sa g ev =
     let c : cleared_volume (bids period (orders_in m n)) (asks period (orders_in m n)) ≡ 0 = ap₂ cleared_volume (sym sb.orders) (sym sa.orders)
     ∙ sym g.cleared ∙ ev in
     let k = none_trades period (orders_in m n) c in
     record {
       fits = sym e;
       stay = λ t. both_ways (sym e ∙ t);
-      left = λ _. ez;
+      left = λ _. refl;
       count = λ _. ec ∙ ap (λ (x : Cleared). length x.rows) (sym k);
       orders = λ _. ap (λ (x : ℕ). orders_in m x) en ∙ ap (λ (x : Cleared). x.orders) (sym k);
       handed = λ _. written_none rows ∙ ap (λ (x : Cleared). written rows x.rows) (sym k);
@@ -141,20 +141,20 @@ module _ (m rows bs ks : List ℕ) (n period v b s : ℕ) (e : fit m n rows ≡ 
       rw (g.of_asks pos, asks_are) (at_margin cheaper cheaper_strict v (asks period (orders_in m n)) (asks-ordered period (orders_in m n)) pos
       (omega (arith, volume_is)) asks-small)
 
-  pub clears_some : (fb fa : List Fill) (p : ℕ) (a : Matched) (m' rows' : List ℕ) → a.left.0 ≡ 0 → p ≡ clearing_price b s
+  pub clears_some : (fb fa : List Fill) (p : ℕ) (a : ClearedValue) (m' rows' : List ℕ) → p ≡ clearing_price b s
       → fb ≡ fills_of v (keep (chosen (Better Buy) b) (orders_at m bs)) (keep (chosen Margin b) (orders_at m bs))
       → fa ≡ fills_of v (keep (chosen (Better Sell) s) (orders_at m ks)) (keep (chosen Margin s) (orders_at m ks))
       → rows' ≡ written rows (overlap_rows period p (end_to_end 0 fb) (end_to_end 0 fa)) → a.count ≡ length (overlap_rows period p (end_to_end 0 fb) (end_to_end 0 fa))
       → orders_in m' a.standing ≡ after_fills fa (after_fills fb (orders_in m n)) → drop (6 * n) m' ≡ drop (6 * n) m
       → Clears m rows n period (Some a) m' rows'
-  clears_some fb fa p a m' rows' ez ep efb efa er ec eo past =
+  clears_some fb fa p a m' rows' ep efb efa er ec eo past =
       let k = some_trades period (orders_in m n) v b s fb fa volume_is pos (g.of_bids pos ∙ ap (marginal v) bids_are) (g.of_asks pos
       ∙ ap (marginal v) asks_are)
       (rw bids_are at efb) (rw asks_are at efa) in
       record {
         fits = sym e;
         stay = λ t. both_ways (sym e ∙ t);
-        left = λ _. ez;
+        left = λ _. refl;
         count = λ _. ec ∙ ap (λ (x : ℕ). length (overlap_rows period x (end_to_end 0 fb) (end_to_end 0 fa))) ep ∙ ap (λ (x : Cleared). length x.rows) (sym k);
         orders = λ _. eo ∙ ap (λ (x : Cleared). x.orders) (sym k);
         handed = λ _. er ∙ ap (λ (x : ℕ). written rows (overlap_rows period x (end_to_end 0 fb) (end_to_end 0 fa))) ep

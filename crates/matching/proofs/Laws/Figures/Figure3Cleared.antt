@@ -4,7 +4,7 @@ use mathlib.Core.Path.{◌≡◌, ap₂, ◌∙◌}
 use mathlib.Core.Bool.{true}
 use mathlib.Core.List.{List}
 use Rattle.std.specs.Prelude.{Option}
-use Rattle.matching.specs.declared.orders.Matched.{Matched}
+use Rattle.matching.specs.declared.orders.Cleared.{Cleared}
 use Rattle.matching.specs.Orders.{bids, asks}
 use Rattle.matching.specs.Memory.{orders_in, written}
 use Rattle.matching.specs.Clearing.{cleared_volume, marginal, clearing_price, clear_period}
@@ -22,7 +22,7 @@ module _ (m rows : List ℕ) (n period : ℕ)
   price : price_of period (orders_in m n) ≡ 476
   price = ap₂ clearing_price bid ask ∙ figure3_holds.0
 
-  pub figure3_cleared : (a : Option Matched) (m' rows' : List ℕ) → fit m n rows ≡ true → Clears m rows n period a m' rows'
+  pub figure3_cleared : (a : Option Cleared) (m' rows' : List ℕ) → fit m n rows ≡ true → Clears m rows n period a m' rows'
       → (rows' ≡ written rows (clear_period period (orders_in m n)).rows) × Each (λ r. r.price ≡ 476) (clear_period period (orders_in m n)).rows
   figure3_cleared a m' rows' e c = (
     c.handed e,

@@ -10,12 +10,12 @@ use lib.ListN.{length, take, drop, length-append, length-take, length-drop, drop
 use lib.Seq.{take_at, drop_at, take_all, drop-drop}
 use Rattle.measures.specs.Ranges.{most_energy}
 use Rattle.measures.proofs.ListLaws.{both_ways}
-use Rattle.matching.specs.declared.orders.Matched.{Matched}
+use Rattle.matching.specs.declared.orders.Cleared.{Cleared as ClearedValue}
 use Rattle.std.specs.Prelude.{Option, Some}
 use Rattle.matching.specs.Orders.{Order, Row, rising, numbers, quantities}
 use Rattle.matching.specs.Memory.{orders_in, flat, written}
 use Rattle.matching.specs.Clearing.{Cleared, clear_period, clear_from}
-use Rattle.matching.specs.Answers.{fit, answer_of, Clears, fit_below, ClearsAll}
+use Rattle.matching.specs.Answers.{fit, clear_answer, Clears, fit_below, ClearsAll}
 use Rattle.matching.proofs.Laws.Orders.OrderLaws.{orders_length}
 use Rattle.matching.proofs.Laws.Orders.RowLaws.{flat-length, flat_append, written_none}
 use Rattle.matching.proofs.Laws.Orders.FitLaws.{is_fit, below_is, below_gives}
@@ -99,7 +99,7 @@ module _ (m rows : List ℕ) (n p count : ℕ) (h : Clearable m rows n count) wh
   pub fit_part : fit m n part ≡ true
   fit_part = is_fit m part n h.few h.inside room h.rises ∙ le-leb (quantities (orders_in m n)) most_energy h.small
 
-  module _ (a : Matched) (m' ys : List ℕ) (x : Clears m part n p (Some a) m' ys) where
+  module _ (a : ClearedValue) (m' ys : List ℕ) (x : Clears m part n p (Some a) m' ys) where
     pub step_few : a.count ≤ 256
     step_few =
         let c = x.count fit_part in
@@ -253,8 +253,8 @@ module _ (m rows : List ℕ) (n end : ℕ) where
       below_is m rows n end f (omega arith) ∙ le-leb end 744 l
 
   -- what the contract leaves where they fit
-  pub all_gives : (a : Option Matched) (count n' : ℕ) (m' rows' : List ℕ) → fit_below m n end rows ≡ true → ClearsAll m rows n end a m' rows'
-      → (answer_of a).count ≡ count → (answer_of a).standing ≡ n' → PassedAll m rows n end count n' m' rows'
+  pub all_gives : (a : Option ClearedValue) (count n' : ℕ) (m' rows' : List ℕ) → fit_below m n end rows ≡ true → ClearsAll m rows n end a m' rows'
+      → (clear_answer a).count ≡ count → (clear_answer a).standing ≡ n' → PassedAll m rows n end count n' m' rows'
   all_gives a count n' m' rows' e c ec en =
       record {
         orders = rw en at (c.orders e);
@@ -263,8 +263,8 @@ module _ (m rows : List ℕ) (n end : ℕ) where
         past = c.past;
       }
 
-  pub all_fit : {X : Type 0} (a : Option Matched) (m' rows' : List ℕ) → fit_below m n end rows ≡ true → ClearsAll m rows n end a m' rows'
-      → (answer_of a).fits ≡ false → X
+  pub all_fit : {X : Type 0} (a : Option ClearedValue) (m' rows' : List ℕ) → fit_below m n end rows ≡ true → ClearsAll m rows n end a m' rows'
+      → (clear_answer a).fits ≡ false → X
   all_fit a m' rows' e c f = both_ways (sym e ∙ sym c.fits ∙ f)
 
   module _ (count n' : ℕ) (m' rows' : List ℕ) (g : PassedAll m rows n end count n' m' rows') where

@@ -1,14 +1,17 @@
 -- What is left of an incoming order is its quantity less what crosses it, in whatever order that stands.
 use Prim.Native.Nat.{ℕ, ◌+◌, ◌-◌, ◌<◌, ◌≤◌}
-use mathlib.Core.Path.{◌≡◌, sym, ap, ◌∙◌}
-use mathlib.Core.Bool.{true, cond}
+use mathlib.Core.Path.{◌≡◌, refl, sym, ap, ◌∙◌}
+use mathlib.Core.Bool.{true, false, cond, ◌&&◌}
 use mathlib.Core.List.{List}
 use native.Mathlib.Omega.{arith}
+use native.Mathlib.Decide.{dec_lt}
 use lib.ListN.{drop, drop_of_length-le}
+use lib.Dec.{ltb}
+use borrow.Author.Tests.{lt-ltb, le-ltb}
 use Rattle.measures.specs.Lists.{sum_of, keep}
 use Rattle.measures.proofs.ListLaws.{sum_of-drop}
 use Rattle.matching.specs.Orders.{Order, order_with}
-use Rattle.matching.specs.Memory.{order_at, orders_in, no_order, place_in}
+use Rattle.matching.specs.Memory.{order_at, orders_in, no_order, all_there, place_in}
 use Rattle.matching.specs.Rolling.{candidate, ahead_for, counterparts, meet}
 use Rattle.matching.specs.Answers.{left_over}
 use Rattle.matching.proofs.Laws.Lists.EachLaws.{keep-sum}
@@ -55,6 +58,14 @@ module _ (m : List ℕ) (n : ℕ) (i : Order) where
       omega (arith, h.rest)
 
   -- orders that stand in the memory, and those that do not
-  pub left_there : place_in m n 0 ≡ true → left_over m n i ≡ (meet i (orders_in m n)).left
-  unfolding left_over
-  left_there e = rw e
+  pub left_there : all_there m n ≡ true → left_over m n i ≡ (meet i (orders_in m n)).left
+  unfolding left_over place_in
+  left_there e = go (dec_lt 0 n)
+    where
+      go : Dec (0 < n) → cond (all_there m n && ltb 0 n) (meet i (orders_in m n)).left i.quantity ≡ (meet i (orders_in m n)).left
+      go (yes l) = rw (e, lt-ltb 0 n l) refl
+      go (no l) = rw (e, le-ltb 0 n (omega arith)) (leaving_ends i.quantity 0 (omega arith) leaving_starts)
+
+  pub left_absent : all_there m n ≡ false → left_over m n i ≡ i.quantity
+  unfolding left_over place_in
+  left_absent e = rw e refl

@@ -11,18 +11,17 @@ use borrow.Author.Tests.{eq-eqb, ne_eqb, le-leb, lt-leb}
 use lib.ListN.{length, get_or, take, drop, set, length-append}
 use lib.Seq.{length-take-le, take-suc-set}
 use lib.Dec.{eqb, leb, ltb}
+use Rattle.std.specs.Prelude.{Option, Some}
 use Rattle.measures.specs.Lists.{every, keep, sum_of}
 use Rattle.measures.specs.Sharing.{total}
 use Rattle.measures.proofs.ListLaws.{both_ways, cond_case, sum_of_append}
-use Rattle.std.specs.Prelude.{Option}
-use Rattle.matching.specs.declared.orders.Matched.{Matched}
 use Rattle.matching.specs.Orders.{Order, Row, bid_ahead, ask_ahead, laid, quantities}
 use Rattle.matching.specs.Memory.{most_word, order_at, orders_in, written}
 use Rattle.matching.specs.Rolling.{Match, candidate, ahead_for, counterparts, matches, match_row, after_matches, meet}
 use Rattle.matching.specs.Clearing.{Fill, filled, after_fills}
 use Rattle.matching.specs.Inner.Places.{orders_at, ahead_on, fills_at, Filling}
 use Rattle.matching.specs.Inner.Runs.{key_of, wanted, merged, run_at, Runs, FirstOf, RunsMet, InTurn}
-use Rattle.matching.specs.Answers.{fit, Answer, answer_of, Meets}
+use Rattle.matching.specs.Answers.{fit, Matches}
 use Rattle.matching.proofs.Laws.Orders.OrderLaws.{orders_length}
 use Rattle.matching.proofs.Laws.Orders.RowLaws.{written_none}
 use Rattle.matching.proofs.Laws.Orders.FitLaws.{fit_gives}
@@ -50,11 +49,11 @@ leb_turned m a b ha hb = go (dec_lt a b)
     go (no h) = le-leb (m - a) (m - b) (omega arith) ∙ sym (le-leb b a (omega arith))
 
 module _ (i o : Order) where
-  wanted_sale : i.direction ≡ 1 → wanted 0 i.period (key_of 0 i.price) o ≡ candidate i o
+  wanted_sale : i.direction ≡ 1 → wanted 0 i.period (Some (key_of 0 i.price)) o ≡ candidate i o
   unfolding wanted candidate key_of
   wanted_sale e = rw (eq-eqb i.direction 1 e) (turned (eqb o.direction 0) (eqb o.period i.period) (leb o.price i.price))
 
-  wanted_buy : i.direction ≡ 0 → o.price ≤ most_word → i.price ≤ most_word → wanted 1 i.period (key_of 1 i.price) o ≡ candidate i o
+  wanted_buy : i.direction ≡ 0 → o.price ≤ most_word → i.price ≤ most_word → wanted 1 i.period (Some (key_of 1 i.price)) o ≡ candidate i o
   unfolding wanted candidate key_of
   wanted_buy e ho hi =
       rw (ne_eqb i.direction 1 (omega arith), eq-eqb i.direction 0 e, leb_turned most_word o.price i.price ho hi)
@@ -70,8 +69,8 @@ module _ (i o : Order) where
       go true e f = rw (e, f)
       go false e f = refl
 
-pub side_is : (i : Order) (m : List ℕ) (n d period limit : ℕ) → ((k : ℕ) → get_or m k 0 ≤ most_word) → i.price ≤ most_word → i.direction < 2
-    → d ≡ 1 - i.direction → period ≡ i.period → limit ≡ key_of (1 - i.direction) i.price
+pub side_is : (i : Order) (m : List ℕ) (n d period : ℕ) (limit : Option ℕ) → ((k : ℕ) → get_or m k 0 ≤ most_word) → i.price ≤ most_word → i.direction < 2
+    → d ≡ 1 - i.direction → period ≡ i.period → limit ≡ Some (key_of (1 - i.direction) i.price)
     → laid (ahead_on d) (keep (wanted d period limit) (orders_in m n)) ≡ counterparts i (orders_in m n)
 unfolding counterparts ahead_on
 side_is i m n d period limit words hi small ed ep el = go (ℕ_discrete i.direction 1)
@@ -81,15 +80,15 @@ side_is i m n d period limit words hi small ed ep el = go (ℕ_discrete i.direct
         let z : 1 - i.direction ≡ 0 = omega arith in
         let a : ahead_for i ≡ ask_ahead = rw (eq-eqb i.direction 1 e) in
         rw (ed, ep, el, z, a)
-        (ap (laid ask_ahead) (keep_ext (wanted 0 i.period (key_of 0 i.price)) (candidate i) (orders_in m n)
-        (each_order (λ o. wanted 0 i.period (key_of 0 i.price) o ≡ candidate i o) m n (λ k. wanted_sale i (order_at m k) e))))
+        (ap (laid ask_ahead) (keep_ext (wanted 0 i.period (Some (key_of 0 i.price))) (candidate i) (orders_in m n)
+        (each_order (λ o. wanted 0 i.period (Some (key_of 0 i.price)) o ≡ candidate i o) m n (λ k. wanted_sale i (order_at m k) e))))
     go (no ne) =
         let z : 1 - i.direction ≡ 1 = omega arith in
         let s : i.direction ≡ 0 = omega arith in
         let a : ahead_for i ≡ bid_ahead = rw (ne_eqb i.direction 1 ne) in
         rw (ed, ep, el, z, a)
-        (ap (laid bid_ahead) (keep_ext (wanted 1 i.period (key_of 1 i.price)) (candidate i) (orders_in m n)
-        (each_order (λ o. wanted 1 i.period (key_of 1 i.price) o ≡ candidate i o) m n (λ k. wanted_buy i (order_at m k) s (words (6 * k + 4)) hi))))
+        (ap (laid bid_ahead) (keep_ext (wanted 1 i.period (Some (key_of 1 i.price))) (candidate i) (orders_in m n)
+        (each_order (λ o. wanted 1 i.period (Some (key_of 1 i.price)) o ≡ candidate i o) m n (λ k. wanted_buy i (order_at m k) s (words (6 * k + 4)) hi))))
 
 counterparts_few : (i : Order) (m : List ℕ) (n : ℕ) → length (counterparts i (orders_in m n)) ≤ n
 unfolding counterparts
@@ -131,8 +130,8 @@ meeting_start m ks ps hs es n r i met taken rows g =
     }
 
 -- the runs of the side that is met hold the counterparts
-pub runs_met : (m ks ps hs es : List ℕ) (d n r : ℕ) (i : Order) (period limit : ℕ) → ((k : ℕ) → get_or m k 0 ≤ most_word) → i.price ≤ most_word
-    → i.direction < 2 → d ≡ 1 - i.direction → period ≡ i.period → limit ≡ key_of (1 - i.direction) i.price → Runs m ks ps hs es d n r
+pub runs_met : (m ks ps hs es : List ℕ) (d n r : ℕ) (i : Order) (period : ℕ) (limit : Option ℕ) → ((k : ℕ) → get_or m k 0 ≤ most_word) → i.price ≤ most_word
+    → i.direction < 2 → d ≡ 1 - i.direction → period ≡ i.period → limit ≡ Some (key_of (1 - i.direction) i.price) → Runs m ks ps hs es d n r
     → merged (ahead_on d) (run_at m ps hs es) r ≡ laid (ahead_on d) (keep (wanted d period limit) (orders_in m n))
     → RunsMet m ks ps hs es n r i
 runs_met m ks ps hs es d n r i period limit words hi small ed ep el g e =
@@ -147,15 +146,14 @@ module _ (m ks ps es : List ℕ) (d n r : ℕ) (i : Order) (rows₀ hs met taken
   left = merged (ahead_on d) (run_at m ps hs es) r
 
   -- one match more, with the first order of run b
-  module _ (b p x : ℕ) (f : FirstOf m ps hs es d r b) (ne : b ≡ r → ⊥) (lp : n ≤ length ps) (lh : r ≤ length hs) (lm : n ≤ length met) (lt : n
+  module _ (b p x : ℕ) (f : FirstOf m ps hs es d r b) (lp : n ≤ length ps) (lh : r ≤ length hs) (lm : n ≤ length met) (lt : n
       ≤ length taken) where
     pub meeting_room : (b < r) × (get_or hs b 0 < get_or es b 0) × (get_or hs b 0 < n) × (get_or ps (get_or hs b 0) 0 < n) × (c < n)
     meeting_room =
-        let w = f.left ne in
-        let u = first_below m ks ps hs es d n r b g.runs w in
-        let k = ap length (f.first ne) in
+        let u = first_below m ks ps hs es d n r b g.runs (f.inside, f.left) in
+        let k = ap length f.first in
         let y = g.few in
-        (w.0, w.1, u.0, u.1, omega arith)
+        (f.inside, f.left, u.0, u.1, omega arith)
 
     pub meeting_more : (hs' rows' : List ℕ) → (q ≡ 0 → ⊥) → p ≡ get_or ps (get_or hs b 0) 0 → hs' ≡ set hs b (get_or hs b 0 + 1) → x
         ≡ min q (order_at m p).quantity
@@ -166,7 +164,7 @@ module _ (m ks ps es : List ℕ) (d n r : ℕ) (i : Order) (rows₀ hs met taken
         let o = order_at m p in
         let y = match o x in
         let more = merged (ahead_on d) (run_at m ps hs' es) r in
-        let first : left ≡ o ∷ more = f.first ne ∙ ap₂ (λ (k : ℕ) (l : List ℕ). order_at m k ∷ merged (ahead_on d) (run_at m ps l es) r) (sym ep) (sym eh) in
+        let first : left ≡ o ∷ more = f.first ∙ ap₂ (λ (k : ℕ) (l : List ℕ). order_at m k ∷ merged (ahead_on d) (run_at m ps l es) r) (sym ep) (sym eh) in
         let em : map (match_row i) (g.done ++ (y ∷ [])) ≡ map (match_row i) g.done ++ (match_row i y ∷ []) = map_join (match_row i) g.done (y ∷ []) in
         let k : length left ≡ suc (length more) = ap length first in
         let fw = g.few in
@@ -244,6 +242,12 @@ unfolding filled
 filled_fills [] = refl
 filled_fills (d ∷ ms) = ap (λ (l : List Fill). record { order = d.order; amount = d.quantity } ∷ l) (filled_fills ms)
 
+-- an incoming order met the n orders, which fit: q of it is left, there are c rows, and some orders stand
+abbrev pub MeetsWith : List ℕ → List ℕ → ℕ → Order → ℕ → ℕ → ℕ → List ℕ → List ℕ → Type 0
+MeetsWith m rows n i q c standing m' rows' =
+    let met = meet i (orders_in m n) in
+    Matches m rows n (fit m n rows) met.rows met.orders met.left (record { fits = true; left = q; count = c; standing = standing }) m' rows'
+
 module _ (m : List ℕ) (n : ℕ) (i : Order) (rows₀ : List ℕ) (q c : ℕ) (met taken rows : List ℕ)
     (t : InTurn m n i (matches i.quantity (counterparts i (orders_in m n))) rows₀ q c met taken rows) (e : fit m n rows₀ ≡ true) where
   abbrev ms : List Match
@@ -261,18 +265,18 @@ module _ (m : List ℕ) (n : ℕ) (i : Order) (rows₀ : List ℕ) (q c : ℕ) (
             (omega (arith, met_under i (orders_in m n)));
       }
 
-  pub meets_turn : (a : Option Matched) (m' : List ℕ) (standing : ℕ) → answer_of a ≡ record { fits = true; left = q; count = c; standing = standing }
-      → orders_in m' standing ≡ after_fills (fills_at m (take c met) (take c taken)) (orders_in m n) → drop (6 * n) m' ≡ drop (6 * n) m → Meets m rows₀ n i a m' rows
+  pub meets_turn : (m' : List ℕ) (standing : ℕ) → orders_in m' standing ≡ after_fills (fills_at m (take c met) (take c taken)) (orders_in m n)
+      → drop (6 * n) m' ≡ drop (6 * n) m → MeetsWith m rows₀ n i q c standing m' rows
   unfolding meet fills_at
-  meets_turn a m' standing ea eo past =
+  meets_turn m' standing eo past =
       let l = t.left in
       record {
-        fits = ap (λ (y : Answer). y.fits) ea ∙ sym e;
+        fits = sym e;
         stay = λ f. both_ways (sym e ∙ f);
-        left = λ f. ap (λ (y : Answer). y.left) ea ∙ omega arith;
-        count = λ f. ap (λ (y : Answer). y.count) ea ∙ t.count;
+        left = λ f. omega arith;
+        count = λ f. t.count;
         orders = λ f.
-            ap (λ (y : Answer). orders_in m' y.standing) ea ∙ eo
+            eo
             ∙ ap (λ (fs : List Fill). after_fills fs (orders_in m n)) (ap₂ filled t.orders t.amounts ∙ filled_fills ms)
             ∙ sym (matches_fill ms (orders_in m n));
         handed = λ f. t.handed;
@@ -286,29 +290,32 @@ counterparts_none i os h =
     let k : keep (candidate i) os ≡ [] = keep-nothing (candidate i) os (each_all (λ o. candidate i o ≡ false) os (λ o. no-side i o h)) in
     rw k
 
--- where nothing matches, all stays
-meets_alone : (m rows : List ℕ) (n : ℕ) (i : Order) (a : Option Matched) → fit m n rows ≡ true → matches i.quantity (counterparts i (orders_in m n)) ≡ []
-    → answer_of a ≡ record { fits = true; left = i.quantity; count = 0; standing = n } → Meets m rows n i a m rows
+-- and all of it is left
+pub left_whole : (i : Order) (os : List Order) → 1 < i.direction → (meet i os).left ≡ i.quantity
 unfolding meet
-meets_alone m rows n i a e z ea =
+left_whole i os h =
+    let z : matches i.quantity (counterparts i os) ≡ [] = ap (matches i.quantity) (counterparts_none i os h) ∙ matches_none i.quantity in
+    omega (arith, ap (λ (l : List Match). sum_of (λ d. d.quantity) l) z)
+
+-- where nothing matches, all stays
+meets_alone : (m rows : List ℕ) (n : ℕ) (i : Order) → fit m n rows ≡ true → matches i.quantity (counterparts i (orders_in m n)) ≡ []
+    → MeetsWith m rows n i i.quantity 0 n m rows
+unfolding meet
+meets_alone m rows n i e z =
     let s : sum_of (λ d. d.quantity) (matches i.quantity (counterparts i (orders_in m n))) ≡ 0 = ap (λ (l : List Match). sum_of (λ d. d.quantity) l) z in
     record {
-      fits = ap (λ (y : Answer). y.fits) ea ∙ sym e;
+      fits = sym e;
       stay = λ f. (refl, refl);
-      left = λ f. ap (λ (y : Answer). y.left) ea ∙ omega arith;
-      count = λ f. ap (λ (y : Answer). y.count) ea ∙ sym (ap (λ (l : List Match). length (map (match_row i) l)) z);
-      orders = λ f. ap (λ (y : Answer). orders_in m y.standing) ea
-          ∙ sym (ap (λ (l : List Match). after_matches l (orders_in m n)) z ∙ after_none (orders_in m n));
+      left = λ f. omega arith;
+      count = λ f. sym (ap (λ (l : List Match). length (map (match_row i) l)) z);
+      orders = λ f. sym (ap (λ (l : List Match). after_matches l (orders_in m n)) z ∙ after_none (orders_in m n));
       handed = λ f. written_none rows ∙ sym (ap (λ (l : List Match). written rows (map (match_row i) l)) z);
       past = refl;
     }
 
-pub meets_none : (m rows : List ℕ) (n : ℕ) (i : Order) (a : Option Matched) → fit m n rows ≡ true → 1 < i.direction
-    → answer_of a ≡ record { fits = true; left = i.quantity; count = 0; standing = n } → Meets m rows n i a m rows
-meets_none m rows n i a e h ea =
-    meets_alone m rows n i a e (ap (matches i.quantity) (counterparts_none i (orders_in m n) h) ∙ matches_none i.quantity) ea
+pub meets_none : (m rows : List ℕ) (n : ℕ) (i : Order) → fit m n rows ≡ true → 1 < i.direction → MeetsWith m rows n i i.quantity 0 n m rows
+meets_none m rows n i e h = meets_alone m rows n i e (ap (matches i.quantity) (counterparts_none i (orders_in m n) h) ∙ matches_none i.quantity)
 
 -- and an order of which nothing is open
-pub meets_spent : (m rows : List ℕ) (n : ℕ) (i : Order) (a : Option Matched) → fit m n rows ≡ true → i.quantity ≡ 0
-    → answer_of a ≡ record { fits = true; left = i.quantity; count = 0; standing = n } → Meets m rows n i a m rows
-meets_spent m rows n i a e z ea = meets_alone m rows n i a e (matches_spent i.quantity (counterparts i (orders_in m n)) z) ea
+pub meets_spent : (m rows : List ℕ) (n : ℕ) (i : Order) → fit m n rows ≡ true → i.quantity ≡ 0 → MeetsWith m rows n i i.quantity 0 n m rows
+meets_spent m rows n i e z = meets_alone m rows n i e (matches_spent i.quantity (counterparts i (orders_in m n)) z)

@@ -15,13 +15,13 @@ pub lay-nb-requires : goal.lay-nb-requires
 lay-nb-requires c =
     let f = fit_gives _ _ _ c.requires in
     let here = c.new-open.ensures in
-    rw (here.0, here.1) (f.few, f.rises)
+    rw (here.0, here.1) f.rises
 
 pub lay-na-requires : goal.lay-na-requires
 lay-na-requires c =
     let f = fit_gives _ _ _ c.requires in
     let here = c.new-open.ensures in
-    rw (here.0, here.1) (f.few, f.rises)
+    rw (here.0, here.1) f.rises
 
 pub find_margins-margins-requires : goal.find_margins-margins-requires
 find_margins-margins-requires c =
@@ -29,7 +29,7 @@ find_margins-margins-requires c =
     let here = c.new-open.ensures in
     let bids = rw (here.0, here.1) at c.lay-nb.ensures.1 in
     let asks = rw (here.0, here.1) at c.lay-na.ensures.1 in
-    rw (here.0, here.1) (record { period = c.args.period; bids_stand = bids; asks_stand = asks; small = f.small })
+    rw (here.0, here.1) (refl, record { period = c.args.period; bids_stand = bids; asks_stand = asks; small = f.small })
 
 pub returns-then-eq : goal.returns-then-eq
 returns-then-eq c =
@@ -37,7 +37,7 @@ returns-then-eq c =
     let bids = rw (here.0, here.1) at c.lay-nb.ensures.1 in
     let asks = rw (here.0, here.1) at c.lay-na.ensures.1 in
     let margins = rw here.0 at c.find_margins-margins.ensures in
-    clears_none _ _ _ _ _ _ _ _ _ _ c.requires refl refl refl bids asks margins
+    clears_none _ _ _ _ _ _ _ _ _ _ c.requires refl refl bids asks margins
     (eqb-true _ _ (sym c.eq.ensures ∙ c.if-eq.true))
 
 pub trade-requires : goal.trade-requires

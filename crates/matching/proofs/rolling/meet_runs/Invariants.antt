@@ -9,17 +9,17 @@ use Rattle.matching.proofs.rolling.meet_runs.Given as goal
 abbrev pub invariant-loop-j : goal.invariant-loop-j
 invariant-loop-j l =
     let s = l.runs in
-    let d = 1 - l.incoming.direction in
+    let d = 1 - l.incoming.order.direction in
     (l.j ≤ s.count)
-    × Found l.orders.words.now s.keys s.places s.heads s.ends d l.orders.count s.count s.count l.j l.best.run l.best.key
+    × Found l.orders.words.now s.keys s.places s.heads s.ends d l.orders.count s.count l.j l.best
 
 abbrev pub invariant-meeting : goal.invariant-meeting
 invariant-meeting l =
     let s = l.runs in
-    let d = 1 - l.incoming.direction in
+    let d = 1 - l.incoming.order.direction in
     (length s.places ≡ 256) × (length s.heads ≡ 16) × (length l.met ≡ length l.initial.met)
     × (length l.taken ≡ length l.initial.taken) × (length l.rows ≡ length l.initial.rows) × (0 < l.left.0)
-    × MetSoFar l.orders.words.now s.keys s.places s.ends d l.orders.count s.count (as_order l.incoming) l.initial.rows s.heads
+    × MetSoFar l.orders.words.now s.keys s.places s.ends d l.orders.count s.count (as_order l.incoming.order) l.initial.rows s.heads
     l.met l.taken l.rows l.left.0 l.count
 
 abbrev pub decreases-meeting : goal.decreases-meeting

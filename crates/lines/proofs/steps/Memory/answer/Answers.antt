@@ -1,34 +1,25 @@
--- `answer`: a line that is not understood, or no book, gives `no 0`; else the opening or the call answers.
-use mathlib.Core.Path.{refl, sym, ◌∙◌}
-use Rattle.lines.proofs.AnswerLaws.{turned_down, unknown_down, early_down, not_said, said_opening, said_call, no-book}
-use Rattle.lines.proofs.AnswerLaws.{has_started, answered_as}
+-- `answer`: a line that is not understood, or that makes no call, gives `no 0`; else the library's answer and rows are printed.
+use Rattle.std.proofs.Common.{refl, sym, ap, ◌∙◌, ◌||◌, arith}
+use Rattle.lines.proofs.AnswerLaws.{turned_down, unknown_down, nothing_made, rows_within, line_answered}
 use Rattle.lines.proofs.steps.Memory.answer.Goals as goal
 
 pub returns-in_default : goal.returns-in_default
-returns-in_default c = turned_down _ _ _ _ _ (unknown_down _ _ c.in_default.ensures) refl c.print_no.ensures
+returns-in_default c = turned_down _ _ _ _ _ (unknown_down _ _ c.in_default.ensures) refl c.print_no_call.ensures
 
-pub returns-then-ne : goal.returns-then-ne
-returns-then-ne c =
-    let h = c.in-Some.ensures in
-    let w = not_said _ _ _ _ h.0 h.1 c.end_line.array_long.0 _ c.count_of.ensures _ c.ne.ensures c.if-ne.true in
-    turned_down _ _ _ _ _ (unknown_down _ _ w) refl c.print_no-then-ne.ensures
+pub returns-then-is_beyond : goal.returns-then-is_beyond
+returns-then-is_beyond c =
+    let w = nothing_made _ _ _ c.in-Some.ensures _ _ (sym c.is_beyond.ensures ∙ c.if-is_beyond.true) in
+    turned_down _ _ _ _ _ w refl c.print_no_call-then-is_beyond.ensures
 
-pub returns-then-heard-eq79 : goal.returns-then-heard-eq79
-returns-then-heard-eq79 c =
-    let h = c.in-Some.ensures in
-    let w = said_opening _ _ _ _ h.0 h.1 c.end_line.array_long.0 _ c.count_of.ensures _ c.ne.ensures c.if-ne.false c.if-heard-eq79.true in
-    answered_as _ _ _ _ _ _ _ _ refl w c.answer_opening.ensures
-
-pub returns-then-not-has_book : goal.returns-then-not-has_book
-returns-then-not-has_book c =
-    let h = c.in-Some.ensures in
-    let w = said_call _ _ _ _ h.0 h.1 c.end_line.array_long.0 _ c.count_of.ensures _ c.ne.ensures c.if-ne.false c.if-heard-eq79.false in
-    let n = no-book c.args.self.now.desk.started c.args.self.now.book (sym c.has_book.ensures ∙ c.if-not-has_book.true) in
-    turned_down _ _ _ _ _ (early_down _ _ _ n w) refl c.print_no-then-not-has_book.ensures
+pub print_answer-requires-clause-counted : goal.print_answer-requires-clause-counted
+print_answer-requires-clause-counted c =
+    let m = c.make_call-answer.ensures in
+    let w = sym c.is_beyond.ensures ∙ c.if-is_beyond.false in
+    rows_within _ _ _ c.in-Some.ensures c.args.self.now.desk.started _ _ _ _ _ m.made w (omega arith) (omega arith) (omega arith)
 
 pub returns : goal.returns
 returns c =
-    let h = c.in-Some.ensures in
-    let w = said_call _ _ _ _ h.0 h.1 c.end_line.array_long.0 _ c.count_of.ensures _ c.ne.ensures c.if-ne.false c.if-heard-eq79.false in
-    let s = has_started c.args.self.now.desk.started c.args.self.now.book (sym c.has_book.ensures ∙ c.if-not-has_book.false) in
-    answered_as _ _ _ _ _ _ _ _ s w c.answer_call.ensures
+    let m = c.make_call-answer.ensures in
+    let w = sym c.is_beyond.ensures ∙ c.if-is_beyond.false in
+    line_answered _ _ _ c.in-Some.ensures c.args.self.now.desk.started _ _ _ _ _ m.made w (omega arith) (omega arith) (omega arith) _ _
+    (rw m.desk (ap (λ t. c.args.self.now.desk.started || t) c.is_ok.ensures.value)) c.print_answer.ensures
