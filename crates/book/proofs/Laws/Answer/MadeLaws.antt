@@ -179,32 +179,33 @@ is_sound m e = go (sound_in m) refl e
     go false p q = absurd (omega arith)
 
 -- a call on the memory m, whose checks read x
-module _ (m rows : List ℕ) (c : Call) where
-  -- a refusal r that a `?` hands on, so that a is the call's answer
-  handed_on : (a : Answer) (r : Refusal) → IsErrAnd a (λ y. y ≡ r)
-      → outcome_on m c ≡ record { refusal = number_of r; number = 0; rows = []; book = decode m } → Made m rows c a m rows
-  handed_on (Ok d) r i o = absurd i
-  handed_on (Err y) r i o = rw i (made_refused m rows c r o)
+-- a refusal r that a `?` hands on is the answer: what holds of the one holds of the other
+pub handed_on : (P : Answer → Type 0) (a : Answer) (r : Refusal) → IsErrAnd a (λ y. y ≡ r) → P (Err r) → P a
+handed_on P (Ok d) r i p = absurd i
+handed_on P (Err y) r i p = rw i p
 
+module _ (m rows : List ℕ) (c : Call) where
   pub made_unsound : (a : Answer) (r : Refusal) → IsErrAnd a (λ y. y ≡ r) → number_of r ≡ cond (sound_in m) 0 1 → Made m rows c a m rows
   made_unsound a r i e = go (sound_in m) refl e
     where
       go : (s : Bool) → sound_in m ≡ s → number_of r ≡ cond s 0 1 → Made m rows c a m rows
       go true p q = absurd (number_some r q)
       go false p q =
-          handed_on a r i
-          (unsound_outcome m c p ∙ ap (λ (n : ℕ). record { refusal = n; number = 0; rows = []; book = decode m }) (sym q))
+          handed_on (λ x. Made m rows c x m rows) a r i
+          (made_refused m rows c r
+          (unsound_outcome m c p ∙ ap (λ (n : ℕ). record { refusal = n; number = 0; rows = []; book = decode m }) (sym q)))
 
   pub made_checked : (x : List ℕ) (a : Answer) (r : Refusal) → IsErrAnd a (λ y. y ≡ r) → zero ≡ cond (sound_in m) 0 1 → x ≡ m
       → number_of r ≡ first_refusal (checks_of (decode x) c) → Made m rows c a m rows
   made_checked x a r i z same f =
       let e = is_sound m z in
       let g = rw same at f in
-      handed_on a r i
+      handed_on (λ y. Made m rows c y m rows) a r i
+      (made_refused m rows c r
       (outcome-sound m c e ∙ outcome_is (decode m) c
       ∙ ap (λ (t : ℕ). decided t (decode m) (effect_of (decode m) c))
       (chain_sound (decode m) (checks_of (decode m) c) (sound-book m e) ∙ sym g)
-      ∙ decided-refused (number_of r) (decode m) (effect_of (decode m) c) (number_some r))
+      ∙ decided-refused (number_of r) (decode m) (effect_of (decode m) c) (number_some r)))
 
   pub made_done : (n : ℕ) (rs : List Row) (b : Book) (k : ℕ) (x m' rows' : List ℕ) → zero ≡ cond (sound_in m) 0 1 → x ≡ m
       → 0 ≡ first_refusal (checks_of (decode x) c) → effect_of (decode m) c ≡ accepted n rs b

@@ -23,7 +23,7 @@ use Rattle.measures.proofs.RefusedLaws.{number_some}
 use Rattle.book.specs.Contract.{Answer, sound_in, curve_on, Curved}
 use Rattle.book.specs.Inner.Readable.{Netted}
 use Rattle.book.proofs.Laws.Memory.RangeFacts.{units_held, unit_at_lem, days_held}
-use Rattle.book.proofs.Laws.Answer.MadeLaws.{sound-book, sound-laid, chain_sound, chain_unsound}
+use Rattle.book.proofs.Laws.Answer.MadeLaws.{sound-book, sound-laid, chain_sound, chain_unsound, handed_on}
 use Rattle.book.proofs.Laws.Answer.RefusalLaws.{none_applies}
 use Rattle.book.proofs.Laws.Sound.SoundLaws.{UnitRanges, Sound, sound_facts}
 use Rattle.book.proofs.Laws.Sound.FitLaws.{Fits}
@@ -164,27 +164,24 @@ module _ (m pts : List ℕ) (u day : ℕ) where
           (rw (chain_unsound (decode m) (curve_checks (decode m) u day (length pts)) es) refl)
       go true true ea es = both_ways (sym (and_true (laid_out m) (sound (decode m)) ea es) ∙ e)
 
-  -- a refusal r that a `?` hands on, so that a is the answer
-  handed_on : (a : Answer) (r : Refusal) → IsErrAnd a (λ y. y ≡ r)
-      → curve_on m u day (length pts) ≡ record { refusal = number_of r; points = [] } → Curved m pts u day a pts
-  handed_on (Ok d) r i o = absurd i
-  handed_on (Err y) r i o = rw i (curved_refused r o)
-
   pub curved_unsound : (a : Answer) (r : Refusal) → IsErrAnd a (λ y. y ≡ r) → number_of r ≡ cond (sound_in m) 0 1 → Curved m pts u day a pts
   curved_unsound a r i e = go (sound_in m) refl e
     where
       go : (s : Bool) → sound_in m ≡ s → number_of r ≡ cond s 0 1 → Curved m pts u day a pts
       go true p q = absurd (number_some r q)
-      go false p q = handed_on a r i (unsound_drawn p ∙ ap (λ (n : ℕ). record { refusal = n; points = [] }) (sym q))
+      go false p q =
+          handed_on (λ x. Curved m pts u day x pts) a r i
+          (curved_refused r (unsound_drawn p ∙ ap (λ (n : ℕ). record { refusal = n; points = [] }) (sym q)))
 
   pub curved_checked : (a : Answer) (r : Refusal) → IsErrAnd a (λ y. y ≡ r) → sound_in m ≡ true
       → number_of r ≡ first_refusal (curve_checks (decode m) u day (length pts)) → Curved m pts u day a pts
   unfolding curve curve_refusal
   curved_checked a r i e f =
-      handed_on a r i
+      handed_on (λ x. Curved m pts u day x pts) a r i
+      (curved_refused r
       (on_sound e
       ∙ rw (chain_sound (decode m) (curve_checks (decode m) u day (length pts)) (sound-book m e), ← f)
-      (cond-false (eqb (number_of r) 0) _ _ (ne_eqb (number_of r) 0 (number_some r)) refl))
+      (cond-false (eqb (number_of r) 0) _ _ (ne_eqb (number_of r) 0 (number_some r)) refl)))
 
   pub curved_drawn : (pts' : List ℕ) → sound_in m ≡ true → 0 ≡ first_refusal (curve_checks (decode m) u day (length pts)) → pts' ≡ points (decode m) u day
       ++ drop 48 pts → Curved m pts u day (Ok (record { number = 0; count = 0 })) pts'

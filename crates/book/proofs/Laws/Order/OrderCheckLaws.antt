@@ -6,6 +6,7 @@ use borrow.Author.Tests.{lt-leb}
 use mir.Val.{bool_byte}
 use Rattle.measures.specs.Ranges.{most_energy}
 use Rattle.measures.specs.Lists.{keep, sum_of, sum}
+use Rattle.measures.proofs.SelectLaws.{byte_one}
 use Rattle.measures.proofs.RangeLaws.{In, inside}
 use Rattle.measures.proofs.ListLaws.{cond-true, cond-false, or_left, or_right, sum_of-table, sum_ext, sum_none, sum_more, or_none}
 use Rattle.matching.specs.Orders.{Order as OpenOrder, sells}
@@ -168,11 +169,7 @@ one_at_most true = omega arith
 one_at_most false = omega arith
 
 pub counting_more : (f : ℕ → ℕ) (k s r : ℕ) (b : Bool) → s ≡ sum k f → r ≡ bool_byte b → cond b 1 0 ≡ f k → s + r ≡ sum (k + 1) f
-counting_more f k s r b e g h = rw (e, g ∙ as_number b ∙ h) (sym (sum_more k f))
-  where
-    as_number : (t : Bool) → bool_byte t ≡ cond t 1 0
-    as_number true = refl
-    as_number false = refl
+counting_more f k s r b e g h = rw (e, g ∙ byte_one b ∙ h) (sym (sum_more k f))
 
 pub counting_end : (f : ℕ → ℕ) (k n s : ℕ) → s ≡ sum k f → k ≡ n → s ≡ sum n f
 counting_end f k n s h e = h ∙ ap (λ (x : ℕ). sum x f) e

@@ -1,11 +1,14 @@
 -- `order_in_call`: the order waits behind the others, and its number is given.
 use Rattle.book.specs.Layout.{DAYS, GIVEN}
-use Rattle.std.proofs.Common.{arith}
+use Rattle.std.proofs.Common.{arith, refl}
 use Rattle.book.proofs.Laws.Answer.MadeLaws.{sound_readable}
 use Rattle.book.proofs.Laws.Memory.WordLaws.{aside_then}
 use Rattle.book.proofs.Laws.Order.WaitLaws.{put_aside, called}
 use Rattle.book.proofs.Laws.Order.RestWaitLaws.{put_same}
 use Rattle.book.proofs.ordering.order_in_call.Goals as goal
+
+pub returns-clause-done : goal.returns-clause-done
+returns-clause-done c = (refl, refl)
 
 pub bounds-book-4 : goal.bounds-book-4
 bounds-book-4 c = let r = sound_readable _ c.requires.0 in omega arith
