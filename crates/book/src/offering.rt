@@ -148,7 +148,10 @@ fn put_amounts(book: &mut [u64], j: usize, amounts: &[u64])
         × ((i : ℕ) → ((p : ℕ) → p < 24 * word book.old DAYS → i ≢ amount_place j p) → word book.new i ≡ word book.old i) }
 {
     let from = AMOUNTS + AMOUNT_WORDS * j;
-    book[from..from + amounts.len()].copy_from_slice(amounts);
+    // one by one: a copy of a slice that a caller lends is a call of `memmove`, which the archive asks of no one
+    for (p, amount) in amounts.iter().enumerate() {
+        book[from + p] = *amount;
+    }
 }
 
 // The words of an offer beside its amounts, of which nothing is taken; the first stands at `at`.

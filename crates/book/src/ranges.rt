@@ -47,7 +47,7 @@ pub(crate) fn unit_known(book: ReadableBook<'_>, unit: u64) -> bool
 pub(crate) fn price_in(book: ReadableBook<'_>, price: Price) -> bool
     ensures { result ≡ between (word book.entry.words.now FLOOR) (word book.entry.words.now CEILING) price.0 }
 {
-    (book.words[FLOOR]..=book.words[CEILING]).contains(&price.0)
+    Price(book.words[FLOOR]) <= price && price <= Price(book.words[CEILING])
 }
 
 // Whether a number was given today.

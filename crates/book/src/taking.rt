@@ -160,7 +160,11 @@ fn write_rows(parts: &[u64], rows: &mut [u64], deal: Deal) -> usize
     ensures { RowsPut rows.old rows.new result (take_rows_from 0 (way_number deal.way) deal.seller deal.buyer deal.price.0 parts.now) }
 {
     let mut k: usize = 0;
-    for (p, part) in parts.iter().enumerate().filter(|(_, part)| **part != 0) {
+    for (p, part) in parts
+        .iter()
+        .enumerate()
+        .filter(|(_, part)| Energy(**part) != Energy(0))
+    {
         let row = Row {
             way: u64::from(deal.way),
             period: p as u64,

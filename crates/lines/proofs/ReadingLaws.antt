@@ -158,6 +158,14 @@ module _ (ns : List ℕ) (l n v : ℕ) where
         begins = refl;
       }
 
+  large : 4_294_967_296 ≤ v → goes_on v [] ≡ false
+  unfolding goes_on value_from
+  large h = le-ltb v 4_294_967_296 h
+
+  pub number_large : 4_294_967_296 ≤ v → ReadsOn (Digits l n v) ns (32 ∷ []) Lost ns
+  unfolding rest_of first_field other_fields
+  number_large h = record { rest = λ more. rw (large h); begins = refl }
+
   -- at the end of a line
   pub end_number : v < 4_294_967_296 → n < length ns → rest_of (Digits l n v) ns [] ≡ called l (take (n + 1) (set ns n v))
   unfolding rest_of first_field other_fields goes_on value_from values
@@ -166,6 +174,10 @@ module _ (ns : List ℕ) (l n v : ℕ) where
   pub end_many : 27 ≤ n → length ns ≡ 27 → rest_of (Digits l n v) ns [] ≡ unknown
   unfolding rest_of first_field other_fields values
   end_many h e = let k = length-take n ns in many (goes_on v [] && every is_number []) (value_from v [] ∷ []) (omega arith)
+
+  pub end_large : 4_294_967_296 ≤ v → rest_of (Digits l n v) ns [] ≡ unknown
+  unfolding rest_of first_field other_fields
+  end_large h = rw (large h)
 
 -- a count or a value that no line yields says nothing that is understood, whatever follows
 module _ (l n v : ℕ) (ns more : List ℕ) where

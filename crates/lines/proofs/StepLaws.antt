@@ -15,8 +15,8 @@ use Rattle.measures.proofs.ListLaws.{both_ways}
 use Rattle.lines.specs.declared.reading.Reading.{Reading}
 use Rattle.lines.specs.declared.reading.Reading.TheVariants.{Start}
 use Rattle.lines.specs.declared.steps.Desk.{Desk}
-use Rattle.lines.specs.Readings.{rest_of, ReadsOn}
-use Rattle.lines.specs.Stepping.{State, state, Answered, until_end, ends_in, Stepped}
+use Rattle.lines.specs.Readings.{rest_of, begun, ReadsOn}
+use Rattle.lines.specs.Stepping.{State, state, Answered, until_end, ends_in, Stepped, Ended}
 
 -- the bytes before the first line end
 module _ (b : ℕ) (bs : List ℕ) where
@@ -87,11 +87,12 @@ end_placed bs place r e u = go (ltb (position_or_len (λ b. eqb b 10) bs) (lengt
 
 module _ (d : Desk) (ns m bs : List ℕ) (r' : Reading) (ns' : List ℕ) (end : ℕ) (at : end ≡ length (until_end bs))
     (f : ReadsOn d.reading ns (take end bs) r' ns') where
-  pub stepped_on : end ≡ length bs → Stepped (state d ns m) bs (state (record { reading = r'; started = d.started }) ns' m) end []
-  stepped_on e =
+  pub stepped_on : end ≡ length bs → (text : List ℕ) → text ≡ []
+      → Stepped (state d ns m) bs (state (record { reading = r'; started = d.started }) ns' m) end text
+  stepped_on e text silent =
       record {
         runs_on =
-            λ h. record { all = e; reads = rw (take_all end bs (omega arith)) at f; started = refl; memory = refl; silent = refl };
+            λ h. record { all = e; reads = rw (take_all end bs (omega arith)) at f; started = refl; memory = refl; silent = silent };
         line_ends = λ h. let l = ends_shorter bs h in absurd (omega arith);
       }
 
@@ -109,6 +110,15 @@ module _ (d : Desk) (ns m bs : List ℕ) (r' : Reading) (ns' : List ℕ) (end : 
         runs_on = λ h. let l = ap length (runs_on_lem bs h) in absurd (ne (at ∙ l));
         line_ends = λ h. record { up_to = omega arith; next = refl; answered = rw line_says a };
       }
+
+-- the end of the input
+module _ (d : Desk) (ns m : List ℕ) where
+  pub ended_none : begun d.reading ≡ false → Ended (state d ns m) d.started m []
+  ended_none e = record { none = λ h. (refl, refl, refl); last = λ h. both_ways (sym (sym e ∙ h)) }
+
+  pub ended_last : (started' : Bool) (m' text : List ℕ) → begun d.reading ≡ true → Answered d.started m (rest_of d.reading ns []) started' m' text
+      → Ended (state d ns m) started' m' text
+  ended_last started' m' text e a = record { none = λ h. both_ways (sym e ∙ h); last = λ h. a }
 
 -- a step reads something, and no more than there is
 module _ (s : State) (bs : List ℕ) (s' : State) (used : ℕ) (t : List ℕ) (p : Stepped s bs s' used t) where

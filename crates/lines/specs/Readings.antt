@@ -5,9 +5,8 @@ use Rattle.lines.specs.declared.reading.Reading.{Reading}
 use Rattle.lines.specs.declared.reading.Reading.TheVariants.{Start, Letter, Space, Digits, Lost}
 use Rattle.lines.specs.Lines.{Line, unknown, first_field, other_fields, value_from, goes_on, is_number, values, called, numbered, lettered, parse}
 
--- what the line says if `more` follows; the first numbers of ns are those of the line. A count of 27 or more, which no line
--- yields, or a value of 2^32 or more, which a value's type excludes, says nothing that is understood (laws `space_beyond`,
--- `digits_beyond`, `value_beyond`).
+-- what the line says if `more` follows; the first numbers of ns are those of the line. A count of 27 or more, or a value of
+-- 2^32 or more, which no line yields, says nothing that is understood (laws `space_beyond`, `digits_beyond`, `value_beyond`).
 unfoldable pub rest_of : Reading → List ℕ → List ℕ → Line
 rest_of Start ns more = parse more
 rest_of (Letter l) ns more = lettered (l ∷ first_field more) (other_fields more)

@@ -79,6 +79,7 @@ fn letter_with(byte: u8, count: usize) -> Option<Letter>
 }
 
 // The letter of a line that ends, of which all numbers then stand in their places; none, where it is not understood.
+#[tactic(auto, using(crate::proofs::ReadingLaws::end_large))]
 fn end_line(reading: Reading, numbers: &mut [u64; 27]) -> Option<Letter>
     ensures { MatchOption result (rest_of reading numbers.old [] ≡ unknown)
         (λ letter. rest_of reading numbers.old [] ≡ line_of (byte_of letter) numbers.new) }
@@ -90,10 +91,13 @@ fn end_line(reading: Reading, numbers: &mut [u64; 27]) -> Option<Letter>
             count,
             value,
         } => {
+            if 4_294_967_295 < value {
+                return None;
+            }
             if 27 <= count {
                 return None;
             }
-            numbers[count] = u64::from(value);
+            numbers[count] = value;
             letter_with(letter, count + 1)
         }
         Reading::Start | Reading::Space { .. } | Reading::Lost => None,

@@ -54,7 +54,8 @@ fn put_row(out: &mut Text, row: &[u64; 6])
 // Whole rows, of six words each.
 fn put_rows(out: &mut Text, rows: &[u64])
     requires { length out.old.items + 128 * (length rows.now / 6) ≤ 95256 }
-    ensures { out.new.items ≡ out.old.items ++ rows_text (length rows.now / 6) rows.now }
+    ensures puts { out.new.items ≡ out.old.items ++ rows_text (length rows.now / 6) rows.now }
+    ensures short { length out.new.items ≤ length out.old.items + 128 * (length rows.now / 6) }
 {
     let (whole, _) = rows.as_chunks::<6>();
     for row in whole {
@@ -75,7 +76,8 @@ fn print_head(out: &mut Text, word: &[u8; 2], number: u64)
 
 // `no` and a number.
 fn print_no(out: &mut Text, number: u64)
-    ensures { out.new.items ≡ printed_no number }
+    ensures puts { out.new.items ≡ printed_no number }
+    ensures short { length out.new.items ≤ 24 }
 {
     print_head(out, b"no", number);
 }
@@ -83,7 +85,8 @@ fn print_no(out: &mut Text, number: u64)
 // `ok` and the number, then the rows.
 fn print_ok(out: &mut Text, number: u64, rows: &[u64])
     requires { length rows.now ≤ 4464 }
-    ensures { out.new.items ≡ ok_text number (length rows.now / 6) rows.now }
+    ensures puts { out.new.items ≡ ok_text number (length rows.now / 6) rows.now }
+    ensures short { length out.new.items ≤ 24 + 128 * (length rows.now / 6) }
 {
     print_head(out, b"ok", number);
     put_rows(out, rows);

@@ -1,5 +1,5 @@
 // Reading a line in pieces of any length.
-ghost use Rattle.std.specs.Prelude.{◌≡◌, ◌+◌, ◌*◌, ◌≤◌, ℕ, List, [], ◌∷◌, MatchOption, length};
+ghost use Rattle.std.specs.Prelude.{◌≡◌, ◌+◌, ◌*◌, ◌≤◌, ◌<◌, ℕ, List, [], ◌∷◌, MatchOption, length};
 ghost use Rattle.lines.specs.Readings.{begun, ReadsOn};
 ghost use Rattle.lines.specs.Stepping.{until_end};
 
@@ -19,11 +19,11 @@ pub enum Reading {
         letter: u8,
         count: usize,
     },
-    // The letter, so many numbers, a space, and digits of this value.
+    // The letter, so many numbers, a space, and digits of this value: of 64 bits, so that a number of 2^32 is seen.
     Digits {
         letter: u8,
         count: usize,
-        value: u32,
+        value: u64,
     },
     // Not understood, whatever follows.
     Lost,
@@ -48,14 +48,18 @@ fn after_letter(letter: u8, byte: u8) -> Reading
 }
 
 // The value with a digit more, where it stays below 2^32.
-fn with_digit(value: u32, digit: u8) -> Option<u32>
-    ensures { MatchOption result (4294967296 ≤ value * 10 + digit) (λ n. n ≡ value * 10 + digit) }
+fn with_digit(value: u64, digit: u8) -> Option<u64>
+    ensures { MatchOption result (4294967296 ≤ value * 10 + digit) (λ n. (n ≡ value * 10 + digit) × (n < 4294967296)) }
 {
-    value.checked_mul(10)?.checked_add(u32::from(digit))
+    let next = value.checked_mul(10)?.checked_add(u64::from(digit))?;
+    if 4_294_967_295 < next {
+        return None;
+    }
+    Some(next)
 }
 
 // A digit more of a number, whose value is 0 before the first; the number stays below 2^32.
-fn after_digit(letter: u8, count: usize, value: u32, byte: u8) -> Reading
+fn after_digit(letter: u8, count: usize, value: u64, byte: u8) -> Reading
     ensures more { (byte ≡ 32 → ⊥) → (ns : List ℕ) → ReadsOn (Reading.Digits letter count value) ns (byte ∷ []) result ns }
     ensures space { byte ≡ 32 → result ≡ Reading.Lost }
 {
@@ -74,13 +78,16 @@ fn after_digit(letter: u8, count: usize, value: u32, byte: u8) -> Reading
 
 // A number is complete and goes to its place; no line has more than 27. At a line's end it does too
 // (`end_line`): no space may follow the last of them, so the bounds differ.
-fn after_number(letter: u8, count: usize, value: u32, numbers: &mut [u64; 27]) -> Reading
+fn after_number(letter: u8, count: usize, value: u64, numbers: &mut [u64; 27]) -> Reading
     ensures { ReadsOn (Reading.Digits letter count value) numbers.old (32 ∷ []) result numbers.new }
 {
     if 26 <= count {
         return Reading::Lost;
     }
-    numbers[count] = u64::from(value);
+    if 4_294_967_295 < value {
+        return Reading::Lost;
+    }
+    numbers[count] = value;
     Reading::Space {
         letter,
         count: count + 1,

@@ -2,7 +2,7 @@
 ghost use Rattle.std.specs.Prelude.{◌≡◌};
 ghost use Rattle.lines.specs.Stepping.{state_of, fresh_desk, Stepped, Ended};
 
-use crate::printing::Text;
+pub use crate::printing::Text;
 use crate::reading::{Reading, has_begun, line_end, read_bytes};
 use book::places::ONE_DAY;
 

@@ -71,7 +71,11 @@ fn together(amounts: &[u64]) -> Energy
     requires { sum amounts.now ≤ most_energy }
     ensures { result.0 ≡ sum amounts.now }
 {
-    Energy(amounts.iter().sum())
+    let mut sum = Energy(0);
+    for amount in amounts {
+        sum = sum.plus(Energy(*amount));
+    }
+    sum
 }
 
 // The fills of one side's laid orders, of a volume and a margin; how many they are.

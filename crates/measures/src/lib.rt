@@ -106,14 +106,15 @@ impl Price {
 pub fn capped_total(amounts: &[u64]) -> Energy
     ensures { result.0 ≡ min (total amounts.now) (most_energy + 1) }
 {
-    let mut sum: u64 = 0;
+    // what is left up to the most falls by each amount: one subtraction for each
+    let mut room = Energy::MOST;
     for r in amounts {
-        if *r > Energy::MOST - sum {
+        if *r > room {
             return Energy(Energy::MOST + 1);
         }
-        sum += *r;
+        room -= *r;
     }
-    Energy(sum)
+    Energy(Energy::MOST - room)
 }
 
 // Shares an amount over the remaining amounts, into the first parts: `FewRows` where fewer parts than amounts are lent, `BadEnergy`
@@ -144,7 +145,8 @@ pub fn take_off(amounts: &mut [u64], parts: &[u64])
 {
     // By index: `amounts.iter_mut().zip(parts)` was tried, and of what is written through it a proof knows the length alone.
     for i in 0..amounts.len().min(parts.len()) {
-        amounts[i] = amounts[i].saturating_sub(parts[i]);
+        let left = Energy(amounts[i]).minus(Energy(parts[i]));
+        amounts[i] = left.0;
     }
 }
 

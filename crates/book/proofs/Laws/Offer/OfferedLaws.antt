@@ -1,8 +1,6 @@
 -- The effect of an offer on a book in memory: its amounts, its head and the two counts.
-use Rattle.std.proofs.Common.{◌≡◌, ℕ, ◌+◌, ◌-◌, ◌*◌, ◌<◌, ◌≤◌, List, []}
-use Rattle.std.proofs.Common.{◌∷◌, ◌++◌, length, set, ap, ◌∙◌, arith, length-set, get_or-set_other, get_or-set_same}
-use native.Mathlib.Decide.{dec_lt}
-use borrow.Rule.Slice.PartMut.{put_mid}
+use Rattle.std.proofs.Common.{◌≡◌, ℕ, ◌+◌, ◌*◌, ◌<◌, ◌≤◌, List, [], ◌∷◌, ◌++◌, length, set, refl, ap, ◌∙◌, arith, length-set, get_or-set_other, get_or-set_same}
+use native.Mathlib.Decide.{ℕ_discrete}
 use Rattle.measures.specs.Lists.{table}
 use Rattle.measures.proofs.ListLaws.{table_more, table_is}
 use Rattle.matching.specs.Memory.{orders_in}
@@ -23,7 +21,6 @@ use Rattle.book.specs.Layout.{
   TAKEN,
   PRICE,
   amounts_start,
-  amounts_place,
   amount_place,
   figures_start,
   word,
@@ -36,35 +33,34 @@ use Rattle.book.specs.Layout.{
 }
 use Rattle.book.specs.Inner.Readable.{Readable}
 use Rattle.book.specs.Offer.{offered}
-use Rattle.book.proofs.Laws.Memory.WordLaws.{word-before, word_behind, word_within, book_same, units_same, offers_same, orders_same, aside_by}
+use Rattle.book.proofs.Laws.Memory.WordLaws.{book_same, units_same, offers_same, orders_same, aside_by}
 
--- the amounts of the offer at place j, copied to their places
-module _ (m : List ℕ) (j : ℕ) (amounts ys : List ℕ) (r : Readable m) (hj : j < 8) (whole : length amounts ≡ 24 * word m DAYS) (copied : ys ≡ amounts) where
-  abbrev start : ℕ
-  start = amounts_place j
+-- the periods whose amount is written so far
+pub record Putting (m : List ℕ) (j : ℕ) (amounts : List ℕ) (x : List ℕ) (p : ℕ) : Type 0 where
+  pub at : p ≤ 24 * word m DAYS
+  pub long : length x ≡ length m
+  pub put : (q : ℕ) → q < p → word x (amount_place j q) ≡ word amounts q
+  pub kept : (i : ℕ) → ((q : ℕ) → q < p → i ≡ amount_place j q → ⊥) → word x i ≡ word m i
 
-  abbrev end : ℕ
-  end = start + length amounts
+pub putting_start : (m : List ℕ) (j : ℕ) (amounts : List ℕ) → Putting m j amounts m 0
+putting_start m j amounts = record { at = omega arith; long = refl; put = λ q l. absurd (omega arith); kept = λ i h. refl }
 
-  abbrev put_there : List ℕ
-  put_there = put_mid start (end - start) m ys
-
-  fits : end ≤ length m
-  fits = omega (arith, whole, r.long, r.days_to)
-
-  same : length ys ≡ end - start
-  same = ap (λ (l : List ℕ). length l) copied ∙ omega arith
-
-  pub amounts_put : (p : ℕ) → p < 24 * word m DAYS → word put_there (amount_place j p) ≡ word amounts p
-  amounts_put p h = word_within start end m ys (omega arith) fits same p (omega (arith, whole)) ∙ ap (λ (l : List ℕ). word l p) copied
-
-  pub amounts_aside : (i : ℕ) → ((p : ℕ) → p < 24 * word m DAYS → i ≡ amount_place j p → ⊥) → word put_there i ≡ word m i
-  amounts_aside i n = go (dec_lt i start) (dec_lt i end)
-    where
-      go : Dec (i < start) → Dec (i < end) → word put_there i ≡ word m i
-      go (yes h) z = word-before start end m ys (omega arith) fits same i h
-      go (no h) (yes k) = absurd (n (i - start) (omega (arith, whole)) (omega arith))
-      go (no h) (no k) = word_behind start end m ys (omega arith) fits same i (omega arith)
+pub putting_more : (m : List ℕ) (j : ℕ) (amounts x : List ℕ) (p : ℕ) → Readable m → j < 8 → p < 24 * word m DAYS → Putting m j amounts x p
+    → Putting m j amounts (set x (amount_place j p) (word amounts p)) (p + 1)
+putting_more m j amounts x p r hj hp g =
+    record {
+      at = omega arith;
+      long = length-set x (amount_place j p) (word amounts p) ∙ g.long;
+      put = λ q l. put q l (ℕ_discrete q p);
+      kept = λ i h. get_or-set_other x (amount_place j p) i (word amounts p) 0 (λ e. h p (omega arith) e) ∙ g.kept i (λ q l e. h q (omega arith) e);
+    }
+  where
+    put : (q : ℕ) → q < p + 1 → Dec (q ≡ p) → word (set x (amount_place j p) (word amounts p)) (amount_place j q) ≡ word amounts q
+    put q l (yes e) =
+        let a = r.long in
+        let b = g.long in
+        rw e (get_or-set_same x (amount_place j p) (word amounts p) 0 (omega arith))
+    put q l (no e) = get_or-set_other x (amount_place j p) (amount_place j q) (word amounts p) 0 (omega arith) ∙ g.put q (omega arith)
 
 -- the memory with one offer more
 module _ (m x : List ℕ) (unit partner price : ℕ) (amounts : List ℕ) (r : Readable m) (room : word m OFFERS < 8) (whole : length amounts

@@ -14,7 +14,7 @@ returns-in-Letter c = rw c.in-Letter.is (heard _ _ _ _ (end_letter c.args.number
 pub returns-else-count-ge27 : goal.returns-else-count-ge27
 returns-else-count-ge27 c =
     rw c.in-Digits.is
-    (heard _ _ _ _ (rw c.from.ensures (end_number _ _ _ _ (omega arith) (omega arith))) (omega arith) (omega arith) _ c.letter_with-in-Digits.ensures)
+    (heard _ _ _ _ (end_number _ _ _ _ (omega arith) (omega arith)) (omega arith) (omega arith) _ c.letter_with-in-Digits.ensures)
 
 pub returns-in-Start : goal.returns-in-Start
 returns-in-Start c =

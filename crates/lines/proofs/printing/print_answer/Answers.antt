@@ -6,8 +6,8 @@ use Rattle.lines.proofs.printing.print_answer.Goals as goal
 
 pub returns-in-Ok : goal.returns-in-Ok
 unfolding answer_text
-returns-in-Ok c = rw c.in-Ok.is (c.print_ok.ensures ∙ rows_counted _ _ _ (rw c.in-Ok.is at c.requires.counted))
+returns-in-Ok c = rw c.in-Ok.is (c.print_ok.ensures.puts ∙ rows_counted _ _ _ (rw c.in-Ok.is at c.requires.counted))
 
 pub returns-in-Err : goal.returns-in-Err
 unfolding answer_text
-returns-in-Err c = rw (c.in-Err.is, ← c.from.ensures) c.print_no.ensures
+returns-in-Err c = rw (c.in-Err.is, ← c.from.ensures) c.print_no.ensures.puts

@@ -2,6 +2,6 @@
 use Rattle.lines.specs.Printed.{printed_no}
 use Rattle.lines.proofs.printing.print_no.Goals as goal
 
-pub returns : goal.returns
+pub returns-clause-puts : goal.returns-clause-puts
 unfolding printed_no
-returns c = c.print_head.ensures.puts
+returns-clause-puts c = c.print_head.ensures.puts

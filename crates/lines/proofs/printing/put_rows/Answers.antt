@@ -12,5 +12,5 @@ loop-row-preserved c =
     let i = c.loop-row.invariant in
     (joined_more _ c.as_chunks.result.0.now _ _ _ c.loop-row-test.true i.0 p.puts, omega (arith, p.short, i.1))
 
-pub returns : goal.returns
-returns c = joined_all _ c.as_chunks.result.0.now _ _ _ _ c.as_chunks.ensures.front c.loop-row-test.false c.loop-row.invariant.0
+pub returns-clause-puts : goal.returns-clause-puts
+returns-clause-puts c = joined_all _ c.as_chunks.result.0.now _ _ _ _ c.as_chunks.ensures.front c.loop-row-test.false c.loop-row.invariant.0

@@ -12,7 +12,8 @@ slice_bounds-read_bytes-end c =
     sym (length-take-le _ _ (omega arith))
 
 pub returns-then-end-bytes : goal.returns-then-end-bytes
-returns-then-end-bytes c = rw c.clear.ensures (stepped_on _ _ _ _ _ _ _ c.line_end-end.ensures c.read_bytes-self.ensures c.if-end-bytes.true)
+returns-then-end-bytes c =
+    stepped_on _ _ _ _ _ _ _ c.line_end-end.ensures c.read_bytes-self.ensures c.if-end-bytes.true _ c.clear.ensures
 
 pub overflow_add-result : goal.overflow_add-result
 overflow_add-result c = let w = until_within c.args.bytes.now in omega arith
