@@ -148,7 +148,7 @@ fn put_amounts(book: &mut [u64], j: usize, amounts: &[u64])
         × ((i : ℕ) → ((p : ℕ) → p < 24 * word book.old DAYS → i ≢ amount_place j p) → word book.new i ≡ word book.old i) }
 {
     let from = AMOUNTS + AMOUNT_WORDS * j;
-    // one by one: a copy of a slice that a caller lends is a call of `memmove`, which the archive asks of no one
+    // one by one: a copy between two slices that are both lent is a call of `memmove`, a name that the archive asks for nowhere else
     for (p, amount) in amounts.iter().enumerate() {
         book[from + p] = *amount;
     }

@@ -2,9 +2,12 @@
 ghost use Rattle.std.specs.Prelude.{◌≡◌};
 ghost use Rattle.lines.specs.Stepping.{state_of, fresh_desk, Stepped, Ended};
 
-pub use crate::printing::Text;
+use crate::printing;
 use crate::reading::{Reading, has_begun, line_end, read_bytes};
 use book::places::ONE_DAY;
+
+// Room for the longest answer, as bytes that a caller copies: `Memory.out` holds one in as many.
+pub type Text = [u8; 95_256];
 
 // The line so far, and whether an O was accepted. The book itself is fixed memory in its place, so no `Option` holds it.
 #[derive(Clone, Copy)]
@@ -21,7 +24,7 @@ pub struct Memory {
     pub numbers: [u64; 27],
     pub book: [u64; ONE_DAY],
     pub rows: [u64; 4464],
-    pub out: Text,
+    pub out: printing::Text,
 }
 
 impl Memory {
@@ -37,7 +40,7 @@ impl Memory {
             numbers: [0; 27],
             book: [0; ONE_DAY],
             rows: [0; 4464],
-            out: Text::new(),
+            out: printing::Text::new(),
         }
     }
 

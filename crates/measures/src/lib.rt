@@ -107,14 +107,15 @@ pub fn capped_total(amounts: &[u64]) -> Energy
     ensures { result.0 ≡ min (total amounts.now) (most_energy + 1) }
 {
     // what is left up to the most falls by each amount: one subtraction for each
-    let mut room = Energy::MOST;
+    let mut room = Energy(Energy::MOST);
     for r in amounts {
-        if *r > room {
+        let amount = Energy(*r);
+        if amount > room {
             return Energy(Energy::MOST + 1);
         }
-        room -= *r;
+        room = room.minus(amount);
     }
-    Energy(Energy::MOST - room)
+    Energy(Energy::MOST).minus(room)
 }
 
 // Shares an amount over the remaining amounts, into the first parts: `FewRows` where fewer parts than amounts are lent, `BadEnergy`
